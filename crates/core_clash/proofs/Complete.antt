@@ -8,7 +8,8 @@ use Rattle.oak_clash.specs.Clashes.{clash, clashing, marks_at, Meets}
 use Rattle.oak_machine.specs.Commits.{is_drawn, is_committed, is_refused, is_ended, is_in_base, are_clashing, marks_of}
 use Rattle.core_clash.specs.Views.{mark_at}
 use Rattle.core_clash.specs.Core.{Core, is_path, IsDone}
-use Rattle.core_clash.specs.Sound.{Sound, Cause}
+use Rattle.core_clash.specs.Sound.{Sound, Cause, IsTurned}
+use Rattle.oak_machine.specs.Sessions.{is_stopped}
 use Rattle.core_clash.proofs.Basics.{not_both, any_from, any_of, and_true, is_path_self}
 use Rattle.core_clash.proofs.Documents.{In-from_marks_at}
 use Rattle.core_clash.proofs.Firsts.{met_clash}
@@ -22,15 +23,16 @@ meets_clashing ms os item h =
     any_of (λ m. list_any (λ o. is_path m.path o.path && clash m.mark o.mark) os) (mark_at item.path a.0) ms (In-from_marks_at item.path a.0 ms a.1)
     (any_of (λ o. is_path item.path o.path && clash a.0 o.mark) (mark_at item.path b.0) os (In-from_marks_at item.path b.0 os b.1) (and_true (is_path item.path item.path) _ (is_path_self item.path) b.2))
 
-pub complete : (s : Core) (r : Revision) → Sound s → is_ended s.past r ≡ true → (s.writers r).wants ≡ false → ((o : Revision) → (r ≡ o → ⊥) → is_drawn s.past o ≡ true → is_in_base s.past r o ≡ false → are_clashing s.past r o ≡ false) → is_committed s.past r ≡ true
-complete s r sound ended wants apart = by (sound.ended r ended)
+pub complete : (s : Core) (r : Revision) → Sound s → is_ended s.past r ≡ true → is_stopped s.past r.cluster ≡ false → (s.writers r).wants ≡ false → ((o : Revision) → (r ≡ o → ⊥) → is_drawn s.past o ≡ true → is_in_base s.past r o ≡ false → are_clashing s.past r o ≡ false) → is_committed s.past r ≡ true
+complete s r sound ended running wants apart = by (sound.ended r ended)
   where
     no_cause : (item : Item) (o : Revision) → Cause s.past r item o → ⊥
     no_cause item o c = not_both (are_clashing s.past r o) (meets_clashing (marks_of s.past r) (marks_of s.past o) item c.met) (apart o c.another c.other c.outside)
 
-    why : (is_refused s.past r ≡ true) ⊎ ((s.writers r).wants ≡ true) → is_committed s.past r ≡ true
+    why : IsTurned s.past r (s.writers r) → is_committed s.past r ≡ true
     why (inl h) = let c = refused_for s.past r h in absurd (no_cause c.0.0 c.0.1 (sound.refusal r c.0.0 c.0.1 c.1))
-    why (inr h) = not_both _ h wants
+    why (inr (inl h)) = not_both _ h wants
+    why (inr (inr h)) = not_both _ h running
 
     by : IsDone s r → is_committed s.past r ≡ true
     by (inl c) = c

@@ -5,20 +5,21 @@ use Rattle.jr_path.specs.declared.path.Path.{Path}
 use Rattle.jr_path.specs.declared.path.Item.{Item}
 use Rattle.jr_rev.specs.declared.revision.Revision.{Revision}
 use Rattle.jr_rev.specs.Revisions.{is_same}
-use Rattle.jr_rev.specs.Vectors.{sees, start_of}
+use Rattle.jr_rev.specs.Vectors.{start_of}
 use Rattle.oak_clash.specs.declared.mark.Mark.{Mark}
 use Rattle.oak_clash.specs.Clashes.{clash}
 use Rattle.oak_machine.specs.declared.event.Draw.{Draw}
 use Rattle.oak_machine.specs.declared.event.Event.TheVariants as event
+use Rattle.oak_machine.specs.Sessions.{is_stopped}
 use Rattle.oak_machine.specs.Commits.{draw_of, marks_of, is_drawn, is_refused, is_in_flight, is_in_base}
-use Rattle.oak_commit.specs.Clashing.{Met, marked, collision, Writer}
+use Rattle.oak_commit.specs.Clashing.{Met, collision, Writer}
 use Rattle.core_clash.specs.Views.{In, Once, mark_at, NamesItems}
 use Rattle.core_clash.specs.Core.{Core}
-use Rattle.core_clash.specs.Sound.{Sound, AreBelow, IsListed, Noticed, Stands, IsOf, IsRooted, IsWriterOf, marked_in}
+use Rattle.core_clash.specs.Sound.{Sound, IsTurned, AreBelow, IsListed, Noticed, Stands, IsOf, IsRooted, IsWriterOf, marked_in}
 use Rattle.core_clash.specs.Collecting.{SeesBounded}
 use Rattle.core_keep.specs.Journal.{is_bounded, is_swept}
 use Rattle.core_clash.specs.Core.{Core, root_of, MayBegin, after_draw}
-use Rattle.core_clash.specs.Sound.{Sound, IsListed, Noticed, Stands, IsOf, IsDue, Cause}
+use Rattle.core_clash.specs.Sound.{Sound, IsTurned, IsListed, Noticed, Stands, IsOf, IsDue, Cause}
 use Rattle.core_clash.proofs.Basics.{not_both, decide, is_same_self, at_writer, writer_mine, writer_other, some_is}
 use Rattle.core_clash.proofs.Pasts.{cause_later, due_later, live_drawn, marks_drawn, still_drawn}
 
@@ -124,11 +125,11 @@ module _ (s : Core) (d : Draw) (left : List Path) where
     once : (o : Revision) → Once ((t.writers o).written ++ (t.writers o).left)
     once o = at_writer (λ x v. Once (v.written ++ v.left)) s.writers r w o may.once (λ f. sound.once o)
 
-    listed : (o : Revision) → IsListed (t.writers o)
-    listed o = at_writer (λ x v. IsListed v) s.writers r w o (record { gone = []; all = refl; none = λ h. refl }) (λ f. sound.listed o)
+    listed : (o : Revision) → is_stopped s.past o.cluster ≡ false → IsListed (t.writers o)
+    listed o = at_writer (λ x v. is_stopped s.past x.cluster ≡ false → IsListed v) s.writers r w o (λ on. record { gone = []; all = refl; none = λ h. refl }) (λ f. sound.listed o)
 
-    stopped : (o : Revision) → (t.writers o).undoing ≡ true → (is_refused s.past o ≡ true) ⊎ ((t.writers o).wants ≡ true)
-    stopped o = at_writer (λ x v. v.undoing ≡ true → (is_refused s.past x ≡ true) ⊎ (v.wants ≡ true)) s.writers r w o (λ h. absurd (false≢true h)) (λ f h. sound.stopped o h)
+    stopped : (o : Revision) → (t.writers o).undoing ≡ true → IsTurned s.past o (t.writers o)
+    stopped o = at_writer (λ x v. v.undoing ≡ true → IsTurned s.past x v) s.writers r w o (λ h. absurd (false≢true h)) (λ f h. sound.stopped o h)
 
     covered : (o : Revision) (q : Path) (m : Mark) → In (mark_at q m) (marks_of t.past o) → (t.writers o).undoing ≡ false → In q (t.writers o).written ⊎ In q (t.writers o).left
     covered o q m = at_writer (λ x v. In (mark_at q m) (marks_of t.past x) → v.undoing ≡ false → In q v.written ⊎ In q v.left) s.writers r w o

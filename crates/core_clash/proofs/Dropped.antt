@@ -6,7 +6,6 @@ use mathlib.Core.Bool.{false≢true}
 use Rattle.jr_path.specs.declared.name.Name.{Name}
 use Rattle.jr_path.specs.declared.path.Path.{Path}
 use Rattle.jr_path.specs.declared.path.Item.{Item}
-use Rattle.jr_path.specs.declared.path.DocId.TheVariants as id
 use Rattle.jr_value.specs.declared.value.Property.{Property}
 use Rattle.jr_rev.specs.declared.revision.Revision.{Revision}
 use Rattle.jr_rev.specs.declared.vector.Pin.{Pin}
@@ -14,32 +13,29 @@ use Rattle.jr_rev.specs.declared.vector.RevVec.{RevVec}
 use Rattle.jr_rev.specs.Vectors.{sees, start_of}
 use Rattle.oak_clash.specs.declared.mark.Mark.{Mark}
 use Rattle.oak_clash.specs.declared.mark.Mark.TheVariants.{Exists, Guard, Touch, Prop}
-use Rattle.oak_clash.specs.Clashes.{clash}
 use Rattle.oak_doc.specs.declared.document.Document.{Document}
 use Rattle.oak_doc.specs.declared.document.PrevEntry.{PrevEntry}
 use Rattle.oak_doc.specs.declared.update.UpdateOp.{UpdateOp}
 use Rattle.oak_doc.specs.Updates.{after_changes, of_revision, values_of_property}
 use Rattle.oak_read.specs.Meaning.{Documents}
-use Rattle.oak_machine.specs.declared.event.Event.{Event}
 use Rattle.oak_machine.specs.declared.event.Event.TheVariants as event
 use Rattle.oak_machine.specs.Commits.{is_committed, is_drawn, is_ended, is_in_base, is_in_flight}
-use Rattle.oak_commit.specs.Clashing.{Met, has, has_mark, marked, noted, collision}
+use Rattle.oak_commit.specs.Clashing.{has, has_mark, noted, collision}
 use Rattle.core_read.specs.Holds.{root_entry}
 use Rattle.core_read.specs.Writes.{IsOrderedDocument}
 use Rattle.core_keep.specs.Journal.{is_bounded, is_swept}
 use Rattle.core_keep.specs.Dropping.{IsLeftAlone, IsSaidStill, IsWithin, IsWithout}
 use Rattle.std.specs.Map.{keys_of}
-use Rattle.core_keep.specs.Garbage.{is_absent, revisions_in, is_garbage_document, is_garbage_previous}
+use Rattle.core_keep.specs.Garbage.{is_absent, revisions_in, is_garbage_previous}
 use Rattle.core_keep.specs.Splits.{main_write, previous_write}
 use Rattle.core_keep.specs.Steps.{IsParted}
 use Rattle.core_keep.proofs.Splits.{split_parts, parted_counts}
 use Rattle.core_keep.proofs.Unseen.{unseen_left, unswept_left, left_within, garbage_without, previous_seen}
 use Rattle.core_clash.specs.Views.{In, AreOrdered}
-use Rattle.core_clash.specs.Core.{Core, Docs, Moved, is_path, with_document, root_of, IsDone, after_event, is_quiet}
-use Rattle.core_clash.specs.Sound.{Sound, AreBelow, Noticed, Stands, IsRooted, has_moved, marked_in}
-use Rattle.core_clash.specs.Collecting.{IsBoundOf, MayBound, MayPrune, MayRemove, MaySplit, after_prune, after_remove, after_split, no_documents, with_moved}
-use Rattle.core_clash.proofs.Basics.{and_true, any_from, any_of, at_document, document_there, not_both, or_left, or_right, or_cases, same_path, is_path_self, some_is, test}
-use Rattle.core_clash.proofs.Finished.{event_keeps}
+use Rattle.core_clash.specs.Core.{Core, Docs, Moved, is_path, with_document, root_of, IsDone, after_event}
+use Rattle.core_clash.specs.Sound.{Sound, Noticed, Stands, IsRooted, has_moved, marked_in}
+use Rattle.core_clash.specs.Collecting.{MayBound, MayPrune, MayRemove, MaySplit, no_documents, with_moved}
+use Rattle.core_clash.proofs.Basics.{and_true, not_both, or_left, or_right, or_cases, same_path, test}
 use Rattle.core_clash.proofs.Pasts.{cause_later, due_later, marks_drawn}
 use Rattle.core_clash.proofs.Updates.{root_moved}
 

@@ -1,5 +1,5 @@
 -- An end keeps what holds, and any event that no step of a commit appends.
-use Rattle.std.proofs.Common.{◌≡◌, Bool, true, false, not, ◌||◌, ◌&&◌, ◌⊎◌, inl, inr, refl, sym, subst}
+use Rattle.std.proofs.Common.{◌≡◌, Bool, true, false, not, ◌||◌, ◌&&◌, ◌⊎◌, ◌∷◌, inl, inr, refl, sym, subst}
 use mathlib.Core.Bool.{false≢true}
 use Rattle.jr_rev.specs.declared.revision.Revision.{Revision}
 use Rattle.jr_rev.specs.Revisions.{is_same}
@@ -7,9 +7,11 @@ use Rattle.oak_machine.specs.declared.event.Draw.{Draw}
 use Rattle.oak_machine.specs.declared.event.Event.{Event}
 use Rattle.oak_machine.specs.declared.event.Event.TheVariants as event
 use Rattle.oak_machine.specs.Commits.{is_drawn, is_ended}
+use Rattle.oak_machine.specs.Sessions.{is_stopped}
+use Rattle.std.specs.Prelude.{◌==◌}
 use Rattle.core_clash.specs.Core.{Core, IsDone, MayFinish, after_finish, after_event, is_quiet}
-use Rattle.core_clash.specs.Sound.{Sound}
-use Rattle.core_clash.proofs.Basics.{same_revision, or_cases}
+use Rattle.core_clash.specs.Sound.{Sound, IsTurned}
+use Rattle.core_clash.proofs.Basics.{same_revision, or_cases, or_right}
 use Rattle.core_clash.proofs.Pasts.{cause_later, due_later}
 
 module _ (s : Core) (d : Draw) where
@@ -70,6 +72,44 @@ event_keeps s (event.Commit r) q sound = absurd (false≢true q)
 event_keeps s (event.Refuse r item o) q sound = absurd (false≢true q)
 event_keeps s (event.End r) q sound = absurd (false≢true q)
 event_keeps s (event.Bound m t) q sound = absurd (false≢true q)
+event_keeps s (event.Stop k) q sound = record {
+  ordered = sound.ordered;
+  committed_drawn = sound.committed_drawn;
+  refused_drawn = sound.refused_drawn;
+  ended_drawn = sound.ended_drawn;
+  settled = sound.settled;
+  start = sound.start;
+  bounds = record { settled = sound.bounds.settled; below = sound.bounds.below; swept = sound.bounds.swept };
+  moved = sound.moved;
+  entries = sound.entries;
+  origin = sound.origin;
+  edits = sound.edits;
+  rooted = sound.rooted;
+  unrooted = sound.unrooted;
+  once = sound.once;
+  listed = λ o on. sound.listed o (goes_on (k == o.cluster) _ on);
+  stopped = λ o h. turned o (sound.stopped o h);
+  refusal = λ o item x h. cause_later _ s.past o item x refl refl (sound.refusal o item x h);
+  covered = sound.covered;
+  refused = sound.refused;
+  ended = sound.ended;
+  due = λ o f h. due_later _ s.past o f refl refl (sound.due o f h);
+  caused = λ p x o i h. cause_later _ s.past x i o refl refl (sound.caused p x o i h);
+  status = sound.status;
+  only_committed = sound.only_committed;
+  whole = sound.whole;
+  unmarked = sound.unmarked;
+  noticed = λ a o p m n apart sa so c. sound.noticed a o p m n apart (record { written = sa.written; going = sa.going; mark = sa.mark }) (record { written = so.written; going = so.going; mark = so.mark }) c;
+}
+  where
+    goes_on : (a b : Bool) → (a || b) ≡ false → b ≡ false
+    goes_on true b h = absurd (false≢true (sym h))
+    goes_on false b h = h
+
+    turned : (o : Revision) → IsTurned s.past o (s.writers o) → IsTurned (event.Stop k ∷ s.past) o (s.writers o)
+    turned o (inl h) = inl h
+    turned o (inr (inl h)) = inr (inl h)
+    turned o (inr (inr h)) = inr (inr (or_right (k == o.cluster) (is_stopped s.past o.cluster) h))
 event_keeps s e q sound = record {
   ordered = sound.ordered;
   committed_drawn = sound.committed_drawn;

@@ -43,7 +43,7 @@ In-from_filter f x (y ∷ xs) h = by (In-from_filter f x xs) (f y) refl h
     by rest true e (inr h) = let r = rest h in (inr r.0, r.1)
     by rest false e h = let r = rest h in (inr r.0, r.1)
 
-both_same : (a b : Bool) → (a ≡ true → b ≡ true) → (b ≡ true → a ≡ true) → a ≡ b
+pub both_same : (a b : Bool) → (a ≡ true → b ≡ true) → (b ≡ true → a ≡ true) → a ≡ b
 both_same true b f g = sym (f refl)
 both_same false true f g = g refl
 both_same false false f g = refl

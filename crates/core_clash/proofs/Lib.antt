@@ -19,7 +19,9 @@ pub mod Dropped
 pub mod Steps
 pub mod Undoing
 pub mod Reach
+pub mod Shrinking
 pub mod Begin
 pub mod Complete
 mod Rows
 pub mod Sessions
+pub mod Finding

@@ -7,11 +7,12 @@ use Rattle.oak_clash.specs.declared.mark.Mark.{Mark}
 use Rattle.oak_machine.specs.declared.event.Draw.{Draw}
 use Rattle.oak_machine.specs.declared.event.Event.TheVariants as event
 use Rattle.oak_machine.specs.declared.event.StepKind.TheVariants as kind
+use Rattle.oak_machine.specs.Sessions.{is_stopped}
 use Rattle.oak_machine.specs.Commits.{is_committed, is_refused, is_ended, is_in_base, is_in_flight}
 use Rattle.oak_commit.specs.Clashing.{Met, noted, collision, Writer}
 use Rattle.core_clash.specs.Views.{In}
 use Rattle.core_clash.specs.Core.{Core, Docs, with_writer, root_of, IsDone, MayMark}
-use Rattle.core_clash.specs.Sound.{Sound, IsListed, Noticed, Stands, IsWhole, IsOf, IsDue, Cause, IsWriterOf, has_moved, marked_in}
+use Rattle.core_clash.specs.Sound.{Sound, IsTurned, IsListed, Noticed, Stands, IsWhole, IsOf, IsDue, Cause, IsWriterOf, has_moved, marked_in}
 use Rattle.core_clash.proofs.Basics.{test, not_both, at_writer, or_right, some_of}
 use Rattle.core_clash.proofs.Pasts.{cause_later, due_later, live_now, in_flight}
 use Rattle.core_clash.proofs.Effects.{Marks}
@@ -38,11 +39,11 @@ module _ (s : Core) (d : Draw) (f : Met) (rest : List Met) (number : ℕ) (docs 
     same_undoing : (o : Revision) → (t.writers o).undoing ≡ (s.writers o).undoing
     same_undoing o = at_writer (λ x v. v.undoing ≡ (s.writers x).undoing) s.writers r w o refl (λ k. refl)
 
-    listed : (o : Revision) → IsListed (t.writers o)
-    listed o = at_writer (λ x v. IsListed v) s.writers r w o (let l = sound.listed r in record { gone = l.gone; all = l.all; none = l.none }) (λ k. sound.listed o)
+    listed : (o : Revision) → is_stopped s.past o.cluster ≡ false → IsListed (t.writers o)
+    listed o = at_writer (λ x v. is_stopped s.past x.cluster ≡ false → IsListed v) s.writers r w o (λ on. let l = sound.listed r on in record { gone = l.gone; all = l.all; none = l.none }) (λ k. sound.listed o)
 
-    stopped : (o : Revision) → (t.writers o).undoing ≡ true → (is_refused s.past o ≡ true) ⊎ ((t.writers o).wants ≡ true)
-    stopped o = at_writer (λ x v. v.undoing ≡ true → (is_refused s.past x ≡ true) ⊎ (v.wants ≡ true)) s.writers r w o (λ h. not_both _ h may.going.going) (λ k h. sound.stopped o h)
+    stopped : (o : Revision) → (t.writers o).undoing ≡ true → IsTurned s.past o (t.writers o)
+    stopped o = at_writer (λ x v. v.undoing ≡ true → IsTurned s.past x v) s.writers r w o (λ h. not_both _ h may.going.going) (λ k h. sound.stopped o h)
 
     this_due : IsDue s.past r f
     this_due = sound.due r f (subst (λ (fs : List Met). In f fs) (sym may.next) (inl refl))

@@ -101,7 +101,7 @@ In-sorted (r ∷ rs) es o (inl (inr h)) = In-sorted rs (insert_entry revision_cm
 In-sorted (r ∷ rs) es o (inr h) = In-sorted rs (insert_entry revision_cmp es r true) o (inr (In-insert revision_cmp revision_exact es r o (inr h)))
 
 -- who has a mark there is among the revisions there
-In-revisions : (doc : Option Document) (o : Revision) (m : Mark) → marked doc o m ≡ true → In o (revisions_in doc)
+pub In-revisions : (doc : Option Document) (o : Revision) (m : Mark) → marked doc o m ≡ true → In o (revisions_in doc)
 In-revisions None o m h = absurd (false≢true h)
 In-revisions (Some d) o m h = In-sorted (keys_of d.deleted ++ (keys_of d.guard ++ (keys_of d.touched ++ flat_map (λ e. keys_of e.1) d.props))) [] o (inl (by m h))
   where
@@ -146,7 +146,7 @@ In-from_filter_map f y (z ∷ xs) h = by (λ k. In-from_filter_map f y xs k) (f 
     by rest (Some w) q (inr h) = rest h
 
 -- what a meeting is of
-met_parts : (o : Revision) (f : Met) (x y : Option Item) → met_with o x y ≡ Some f → (x ≡ Some f.mine) × (y ≡ Some f.theirs) × (f.other ≡ o)
+pub met_parts : (o : Revision) (f : Met) (x y : Option Item) → met_with o x y ≡ Some f → (x ≡ Some f.mine) × (y ≡ Some f.theirs) × (f.other ≡ o)
 met_parts o f (Some a) (Some b) h =
     let e : f ≡ record { other = o; mine = a; theirs = b } = some_is h in
     (ap (λ (g : Met). Some g.mine) (sym e), ap (λ (g : Met). Some g.theirs) (sym e), ap (λ (g : Met). g.other) e)

@@ -17,14 +17,14 @@ use Rattle.oak_commit.specs.Clashing.{Met, marked, noted, collision, mark_op}
 use Rattle.oak_machine.specs.Commits.{marks_of}
 use Rattle.core_clash.specs.Core.{Core, Docs, root_of, MayMark, MayLast, after_mark, after_last, marked_by, lasted_by, after_event, is_quiet}
 use Rattle.core_clash.specs.Sound.{Sound}
-use Rattle.core_clash.specs.Steps.{Step, draw, write, mark, last, want, undo, finish, bound, prune, remove, split, other, IsStart, at_start, Reached, begun, more, EndsWell}
+use Rattle.core_clash.specs.Steps.{Step, draw, write, mark, last, want, undo, finish, bound, prune, remove, split, clear, dropped, other, IsStart, at_start, Reached, begun, more, EndsWell}
 use Rattle.core_clash.proofs.Pasts.{in_flight}
 use Rattle.core_clash.proofs.Updates.{mark_is, last_is}
 use Rattle.core_clash.proofs.Undoing.{undoes}
 use Rattle.core_clash.proofs.Drawn.{draw_keeps}
 use Rattle.core_clash.proofs.Dropped.{bound_keeps, prune_drops, remove_drops, split_drops}
 use Rattle.core_clash.proofs.Wanted.{want_keeps}
-use Rattle.core_clash.proofs.Undone.{undo_keeps}
+use Rattle.core_clash.proofs.Undone.{clear_keeps, drop_keeps, undo_keeps}
 use Rattle.core_clash.proofs.Finished.{finish_keeps, event_keeps}
 use Rattle.core_clash.proofs.Steps.{write_step, mark_step, last_step, may_commit, may_refuse_at_mark, may_refuse_at_last}
 
@@ -47,7 +47,7 @@ start_sound number docs is = record {
   rooted = λ r p m fresh other h. absurd (other (is.marks p r m (only (marked (docs p) r m) h)));
   unrooted = λ r p h. inl (is.roots p r h);
   once = λ r. tt;
-  listed = λ r. record { gone = []; all = refl; none = λ h. refl };
+  listed = λ r on. record { gone = []; all = refl; none = λ h. refl };
   stopped = λ r h. never h;
   refusal = λ r item o h. never (ap (λ (x : Option (Item × Revision)). is_some x) h);
   covered = λ r p m h g. absurd h;
@@ -78,6 +78,8 @@ step_sound {s} (bound m t may) sound = bound_keeps s m t sound may
 step_sound {s} (prune e m t p old op keep quiet may) sound = event_keeps _ e quiet (prune_drops s m t p old op keep sound may (s.number + 1))
 step_sound {s} (remove e m t p old quiet may) sound = event_keeps _ e quiet (remove_drops s m t p old sound may (s.number + 1))
 step_sound {s} (split e read pin p old entry first quiet may) sound = event_keeps _ e quiet (split_drops s read pin p old entry first (s.number + 1) sound may)
+step_sound {s} (clear e d p quiet dead) sound = event_keeps _ e quiet (clear_keeps s d sound dead p (s.number + 1) _ (undoes s.docs p d.revision (s.number + 1) (sound.ordered p)))
+step_sound {s} (dropped d may) sound = drop_keeps s d sound may
 step_sound {s} (other e quiet) sound = event_keeps s e quiet sound
 
 pub reached_sound : (s : Core) → Reached s → Sound s
@@ -118,6 +120,8 @@ step_ends {s} (bound m t may) sound well = (tt, well)
 step_ends {s} (prune e m t p old op keep quiet may) sound well = event_ends s e quiet well
 step_ends {s} (remove e m t p old quiet may) sound well = event_ends s e quiet well
 step_ends {s} (split e read pin p old entry first quiet may) sound well = event_ends s e quiet well
+step_ends {s} (clear e d p quiet dead) sound well = event_ends s e quiet well
+step_ends {s} (dropped d may) sound well = (in_flight s.past d.revision d may.dead.draw may.unended, well)
 step_ends {s} (other e quiet) sound well = event_ends s e quiet well
 
 -- each commit and each refusal of what can be reached may follow the events before it

@@ -10,11 +10,12 @@ use Rattle.oak_clash.specs.declared.mark.Mark.{Mark}
 use Rattle.oak_clash.specs.Clashes.{clash}
 use Rattle.oak_machine.specs.declared.event.Draw.{Draw}
 use Rattle.oak_machine.specs.declared.event.Event.TheVariants as event
+use Rattle.oak_machine.specs.Sessions.{is_stopped}
 use Rattle.oak_machine.specs.Commits.{is_drawn, is_committed, is_refused, is_ended, refusal_of}
 use Rattle.oak_commit.specs.Clashing.{Met, Writer}
 use Rattle.core_clash.specs.Views.{In}
 use Rattle.core_clash.specs.Core.{Core, undoing_from, refusing, IsGoing}
-use Rattle.core_clash.specs.Sound.{Sound, IsListed, Noticed, Stands, IsWhole, IsOf, IsDue, Cause, IsWriterOf}
+use Rattle.core_clash.specs.Sound.{Sound, IsTurned, IsListed, Noticed, Stands, IsWhole, IsOf, IsDue, Cause, IsWriterOf}
 use Rattle.core_clash.proofs.Basics.{is_same_self, not_both, decide, same_revision, at_writer, writer_mine, writer_other, or_left, or_right, or_cases}
 use Rattle.core_clash.proofs.Pasts.{cause_later, due_later}
 
@@ -50,15 +51,15 @@ module _ (s : Core) (d : Draw) (item : Item) (other : Revision) where
     refused_drawn o (inl e) = rw (same_revision o r e) drawn
     refused_drawn o (inr h) = sound.refused_drawn o h
 
-    listed : (o : Revision) → IsListed (t.writers o)
-    listed o = at_writer (λ x v. IsListed v) s.writers r w o (let l = sound.listed r in record { gone = l.gone; all = l.all; none = λ h. absurd (false≢true (sym h)) }) (λ k. sound.listed o)
+    listed : (o : Revision) → is_stopped s.past o.cluster ≡ false → IsListed (t.writers o)
+    listed o = at_writer (λ x v. is_stopped s.past x.cluster ≡ false → IsListed v) s.writers r w o (λ on. let l = sound.listed r on in record { gone = l.gone; all = l.all; none = λ h. absurd (false≢true (sym h)) }) (λ k. sound.listed o)
 
-    stopped : (o : Revision) → (t.writers o).undoing ≡ true → (is_refused t.past o ≡ true) ⊎ ((t.writers o).wants ≡ true)
-    stopped o = at_writer (λ x v. v.undoing ≡ true → (is_refused t.past x ≡ true) ⊎ (v.wants ≡ true)) s.writers r w o
+    stopped : (o : Revision) → (t.writers o).undoing ≡ true → IsTurned t.past o (t.writers o)
+    stopped o = at_writer (λ x v. v.undoing ≡ true → IsTurned t.past x v) s.writers r w o
         (λ h. inl (or_left (is_same r r) _ (is_same_self r)))
         (λ k h. before (sound.stopped o h))
       where
-        before : (is_refused s.past o ≡ true) ⊎ ((s.writers o).wants ≡ true) → (is_refused t.past o ≡ true) ⊎ ((s.writers o).wants ≡ true)
+        before : IsTurned s.past o (s.writers o) → IsTurned t.past o (s.writers o)
         before (inl h) = inl (or_right (is_same o r) _ h)
         before (inr h) = inr h
 

@@ -7,11 +7,12 @@ use Rattle.jr_rev.specs.Revisions.{is_same}
 use Rattle.oak_clash.specs.declared.mark.Mark.{Mark}
 use Rattle.oak_clash.specs.Clashes.{clash}
 use Rattle.oak_machine.specs.declared.event.Draw.{Draw}
+use Rattle.oak_machine.specs.Sessions.{is_stopped}
 use Rattle.oak_machine.specs.Commits.{is_committed, is_refused, is_ended}
 use Rattle.oak_commit.specs.Clashing.{Met, Writer}
 use Rattle.core_clash.specs.Views.{In}
 use Rattle.core_clash.specs.Core.{Core, undoing_from, after_want, IsGoing}
-use Rattle.core_clash.specs.Sound.{Sound, IsListed, Noticed, Stands, IsWhole, IsOf, IsDue, IsWriterOf}
+use Rattle.core_clash.specs.Sound.{Sound, IsTurned, IsListed, Noticed, Stands, IsWhole, IsOf, IsDue, IsWriterOf}
 use Rattle.core_clash.proofs.Basics.{not_both, decide, at_writer, writer_mine, writer_other}
 
 module _ (s : Core) (d : Draw) where
@@ -39,11 +40,11 @@ module _ (s : Core) (d : Draw) where
         by (inl e) = absurd (false≢true (sym (rw (e, writer_mine s.writers r w) at h)))
         by (inr f) = (f, rw (writer_other s.writers r w o f) at h)
 
-    listed : (o : Revision) → IsListed (t.writers o)
-    listed o = at_writer (λ x v. IsListed v) s.writers r w o (let l = sound.listed r in record { gone = l.gone; all = l.all; none = λ h. absurd (false≢true (sym h)) }) (λ k. sound.listed o)
+    listed : (o : Revision) → is_stopped s.past o.cluster ≡ false → IsListed (t.writers o)
+    listed o = at_writer (λ x v. is_stopped s.past x.cluster ≡ false → IsListed v) s.writers r w o (λ on. let l = sound.listed r on in record { gone = l.gone; all = l.all; none = λ h. absurd (false≢true (sym h)) }) (λ k. sound.listed o)
 
-    stopped : (o : Revision) → (t.writers o).undoing ≡ true → (is_refused s.past o ≡ true) ⊎ ((t.writers o).wants ≡ true)
-    stopped o = at_writer (λ x v. v.undoing ≡ true → (is_refused s.past x ≡ true) ⊎ (v.wants ≡ true)) s.writers r w o (λ h. inr refl) (λ k h. sound.stopped o h)
+    stopped : (o : Revision) → (t.writers o).undoing ≡ true → IsTurned s.past o (t.writers o)
+    stopped o = at_writer (λ x v. v.undoing ≡ true → IsTurned s.past x v) s.writers r w o (λ h. inr (inl refl)) (λ k h. sound.stopped o h)
 
     is_of : (q : Path) (o : Revision) (m : Mark) → IsOf s q o m → IsOf t q o m
     is_of q o m (inl e) = inl e

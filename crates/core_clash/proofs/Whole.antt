@@ -1,5 +1,5 @@
 -- A document with what moved put back has the marks of both.
-use Rattle.std.proofs.Common.{◌≡◌, Bool, true, false, cond, ◌||◌, ◌⊎◌, inl, inr, Some, None, Option, List, [], ◌∷◌, ◌++◌, map, fold, refl, sym, ap, subst, ◌∙◌, is_some}
+use Rattle.std.proofs.Common.{◌≡◌, Bool, true, false, cond, ◌⊎◌, inl, inr, Some, Option, List, [], ◌∷◌, ◌++◌, map, fold, refl, sym, ap, subst, ◌∙◌, is_some}
 use Rattle.std.specs.List.{flat_map, list_any}
 use Rattle.std.specs.Map.{keys_of}
 use Rattle.std.specs.Ordering.{eq_by_cmp}
@@ -19,7 +19,7 @@ use Rattle.oak_doc.specs.declared.update.Change.TheVariants as change
 use Rattle.oak_doc.specs.Updates.{changed, document_of, of_revision, values_of_property, Props}
 use Rattle.oak_commit.specs.Clashing.{has, has_mark, marked}
 use Rattle.core_clash.specs.Views.{In}
-use Rattle.oak_commit.specs.Looking.{entries_in, put_back, whole}
+use Rattle.oak_commit.specs.Looking.{put_back, whole}
 use Rattle.core_clash.specs.Sound.{has_moved, marked_in}
 use Rattle.core_clash.proofs.Basics.{is_same_self, or_left, or_right, or_cases, same_name, same_revision}
 use Rattle.core_clash.proofs.Documents.{leaves_prop}

@@ -11,6 +11,7 @@ use Rattle.oak_clash.specs.Clashes.{clash, commit_root}
 use Rattle.oak_machine.specs.declared.event.Draw.{Draw}
 use Rattle.oak_machine.specs.declared.event.Event.TheVariants as event
 use Rattle.oak_machine.specs.declared.event.StepKind.TheVariants as kind
+use Rattle.oak_machine.specs.Sessions.{is_stopped}
 use Rattle.oak_machine.specs.Commits.{marks_of, is_drawn, is_committed, is_refused, is_ended, is_in_flight, is_in_base}
 use Rattle.std.proofs.lemmas.Cmp.{eq_by_cmp_equiv, nat_list_cmp_total}
 use Rattle.oak_commit.specs.Clashing.{Met, marked, collision, Writer}
@@ -19,7 +20,7 @@ use Rattle.oak_clash.specs.declared.mark.MarkAt.{MarkAt}
 use Rattle.core_clash.specs.Views.{In, Once, mark_at}
 use Rattle.core_clash.specs.Core.{Core, Docs, with_writer, root_of, IsDone, MayWrite}
 use Rattle.oak_commit.specs.Looking.{whole}
-use Rattle.core_clash.specs.Sound.{Sound, IsListed, Noticed, Stands, IsWhole, IsOf, IsDue, Cause, IsRooted, IsWriterOf, has_moved, marked_in}
+use Rattle.core_clash.specs.Sound.{Sound, IsTurned, IsListed, Noticed, Stands, IsWhole, IsOf, IsDue, Cause, IsRooted, IsWriterOf, has_moved, marked_in}
 use Rattle.core_clash.proofs.Basics.{test, not_both, decide, at_writer, writer_mine, writer_other, none_in, In-left, In-right, In-append, and_true, or_left, or_right, or_cases, once_apart, other_revision}
 use Rattle.core_clash.proofs.Pasts.{cause_later, due_later, live_now, marks_drawn, in_flight}
 use Rattle.core_clash.proofs.Effects.{Writes, Meeting, IsMet, AreMarksOf}
@@ -169,17 +170,17 @@ module _ (s : Core) (d : Draw) (p : Path) (rest : List Path) (number : ℕ) (doc
         (rw (append_assoc (s.writers r).written (p ∷ []) rest) (subst (λ (xs : List Path). Once ((s.writers r).written ++ xs)) may.next (sound.once r)))
         (λ f. sound.once o)
 
-    listed : (o : Revision) → IsListed (t.writers o)
-    listed o = at_writer (λ x v. IsListed v) s.writers r w o
-        (let l = sound.listed r in record {
+    listed : (o : Revision) → is_stopped s.past o.cluster ≡ false → IsListed (t.writers o)
+    listed o = at_writer (λ x v. is_stopped s.past x.cluster ≡ false → IsListed v) s.writers r w o
+        (λ on. let l = sound.listed r on in record {
           gone = l.gone;
           all = rw (append_assoc (s.writers r).written (p ∷ []) rest) (subst (λ (xs : List Path). l.gone ++ ((s.writers r).written ++ xs) ≡ (s.writers r).paths) may.next l.all);
           none = l.none;
         })
         (λ f. sound.listed o)
 
-    stopped : (o : Revision) → (t.writers o).undoing ≡ true → (is_refused s.past o ≡ true) ⊎ ((t.writers o).wants ≡ true)
-    stopped o = at_writer (λ x v. v.undoing ≡ true → (is_refused s.past x ≡ true) ⊎ (v.wants ≡ true)) s.writers r w o (λ h. not_both _ h may.going.going) (λ f h. sound.stopped o h)
+    stopped : (o : Revision) → (t.writers o).undoing ≡ true → IsTurned s.past o (t.writers o)
+    stopped o = at_writer (λ x v. v.undoing ≡ true → IsTurned s.past x v) s.writers r w o (λ h. not_both _ h may.going.going) (λ f h. sound.stopped o h)
 
     covered : (o : Revision) (q : Path) (m : Mark) → In (mark_at q m) (marks_of s.past o) → (t.writers o).undoing ≡ false → In q (t.writers o).written ⊎ In q (t.writers o).left
     covered o q m h = at_writer (λ x v. In (mark_at q m) (marks_of s.past x) → v.undoing ≡ false → In q v.written ⊎ In q v.left) s.writers r w o

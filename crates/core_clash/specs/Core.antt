@@ -1,5 +1,5 @@
 -- The core: documents, the past and the committers, and each kind of step of a commit.
-use Rattle.std.specs.Prelude.{◌≡◌, ℕ, ◌+◌, Bool, true, false, cond, ◌⊎◌, List, [], ◌∷◌, ◌++◌, Option, Some, Result, Ok, Err}
+use Rattle.std.specs.Prelude.{◌≡◌, ℕ, ◌+◌, Bool, true, false, cond, not, is_some, ◌⊎◌, List, [], ◌∷◌, ◌++◌, Option, Some, Result, Ok, Err}
 use Rattle.std.specs.Ordering.{eq_by_cmp}
 use Rattle.jr_path.specs.Names.{path_cmp}
 use Rattle.jr_path.specs.declared.path.Path.{Path}
@@ -14,7 +14,10 @@ use Rattle.oak_doc.specs.declared.update.Kept.TheVariants as kept
 use Rattle.oak_doc.specs.Updates.{updated}
 use Rattle.oak_commit.specs.Looking.{whole}
 use Rattle.oak_commit.specs.Writing.{write_op, last_op}
-use Rattle.oak_commit.specs.Clashing.{Met, found, mark_op, undo_op, Writer}
+use Rattle.oak_commit.specs.Clashing.{Met, found, mark_op, marked, undo_op, Writer}
+use Rattle.core_read.specs.Holds.{root_entry}
+use Rattle.jr_rev.specs.Vectors.{start_of}
+use Rattle.std.specs.List.{filter}
 use Rattle.oak_machine.specs.declared.event.Draw.{Draw}
 use Rattle.oak_machine.specs.declared.event.Event.{Event}
 use Rattle.oak_machine.specs.declared.event.Event.TheVariants as event
@@ -175,6 +178,49 @@ pub record MayFinish (s : Core) (d : Draw) : Type 0 where
 
 abbrev pub after_finish : Core → Draw → Core
 after_finish s d = record s { past = event.End d.revision ∷ s.past }
+
+-- ---- a recovery of a stopped cluster node
+
+-- a draw of a stopped cluster node that isn't committed, and isn't the start
+pub record IsDead (past : Past) (d : Draw) : Type 0 where
+  pub stopped : is_stopped past d.revision.cluster ≡ true
+  pub draw : draw_of past d.revision ≡ Some d
+  pub uncommitted : is_committed past d.revision ≡ false
+  pub other : d.revision ≡ start_of 1 → ⊥
+
+abbrev pub without_path : Path → List Path → List Path
+without_path p ps = filter (λ q. not (is_path q p)) ps
+
+-- its committer, once a recovery has undone it in the document of p
+abbrev pub cleared : Writer → Path → Writer
+cleared w p = record w { written = without_path p w.written; due = []; undoing = true }
+
+-- a recovery undoes it in the document of p
+abbrev pub after_clear : Core → Event → Draw → Path → Core
+after_clear s e d p = record {
+  number = s.number + 1;
+  docs = docs_after s.docs p (updated (s.docs p) (undo_op d.revision p) (s.number + 1));
+  moved = s.moved;
+  past = e ∷ s.past;
+  writers = with_writer s.writers d.revision (cleared (s.writers d.revision) p);
+}
+
+-- no document has anything of it but collisions
+pub record IsCleared (docs : Docs) (r : Revision) : Type 0 where
+  pub marks : (p : Path) (m : Mark) → marked (docs p) r m ≡ false
+  pub roots : (p : Path) → is_some (root_entry (docs p) r) ≡ false
+
+-- a recovery ends it: it was in flight, and no document has anything of it
+pub record MayDrop (s : Core) (d : Draw) : Type 0 where
+  pub dead : IsDead s.past d
+  pub unended : is_ended s.past d.revision ≡ false
+  pub cleared : IsCleared s.docs d.revision
+
+abbrev pub after_drop : Core → Draw → Core
+after_drop s d = record s {
+  past = event.End d.revision ∷ s.past;
+  writers = with_writer s.writers d.revision (record (s.writers d.revision) { written = []; due = []; undoing = true });
+}
 
 -- an event that no committer's step but these appends, and no bound
 abbrev pub is_quiet : Event → Bool

@@ -17,6 +17,7 @@ use Rattle.oak_machine.specs.declared.event.Draw.{Draw}
 use Rattle.oak_machine.specs.History.{Past}
 use Rattle.oak_machine.specs.Commits.{draw_of, marks_of, is_drawn, is_committed, is_refused, is_ended, is_in_flight, is_in_base, refusal_of}
 use Rattle.oak_machine.specs.Runs.{was_live_beside}
+use Rattle.oak_machine.specs.Sessions.{is_stopped}
 use Rattle.oak_commit.specs.Clashing.{Met, has, marked, noted, collision, Writer}
 use Rattle.core_read.specs.Holds.{root_entry}
 use Rattle.core_keep.specs.Journal.{is_bounded, is_swept}
@@ -85,6 +86,10 @@ pub record IsListed (w : Writer) : Type 0 where
   pub all : gone ++ (w.written ++ w.left) ≡ w.paths
   pub none : w.undoing ≡ false → gone ≡ []
 
+-- what undoes was refused, or wants memory, or its cluster node was stopped
+abbrev pub IsTurned : Past → Revision → Writer → Type 0
+IsTurned past r w = (is_refused past r ≡ true) ⊎ ((w.wants ≡ true) ⊎ (is_stopped past r.cluster ≡ true))
+
 pub record Sound (s : Core) : Type 0 where
   -- each document has the id of its node, and its properties in order
   pub ordered : (p : Path) → AreOrdered p (s.docs p)
@@ -107,16 +112,16 @@ pub record Sound (s : Core) : Type 0 where
   -- each document with a mark tells its commit root, until a bound has swept it, and no other document has a note of it
   pub rooted : (r : Revision) (p : Path) (m : Mark) → is_swept s.past r ≡ false → (r ≡ start_of 1 → ⊥) → marked_in (s.docs p) (s.moved p) r m ≡ true → IsRooted (s.docs p) r (root_of s.past r)
   pub unrooted : (r : Revision) (p : Path) → is_some (root_entry (s.docs p) r) ≡ true → IsWriterOf s p r
-  -- each committer has written exactly the first documents of its list, or has undone exactly the first of those that it wrote
-  pub listed : (r : Revision) → IsListed (s.writers r)
+  -- each committer of a node that isn't stopped has written exactly the first documents of its list, or has undone exactly the first of those that it wrote
+  pub listed : (r : Revision) → is_stopped s.past r.cluster ≡ false → IsListed (s.writers r)
   -- each document is written once, and each marked one is written or still to be
   pub once : (r : Revision) → Once ((s.writers r).written ++ (s.writers r).left)
   pub covered : (r : Revision) (p : Path) (m : Mark) → In (mark_at p m) (marks_of s.past r) → (s.writers r).undoing ≡ false → In p (s.writers r).written ⊎ In p (s.writers r).left
   -- what is refused undoes; what has ended is committed, or undone whole
   pub refused : (r : Revision) → is_refused s.past r ≡ true → (s.writers r).undoing ≡ true
   pub ended : (r : Revision) → is_ended s.past r ≡ true → IsDone s r
-  -- what undoes was refused, or wants memory; what a refusal names is its cause
-  pub stopped : (r : Revision) → (s.writers r).undoing ≡ true → (is_refused s.past r ≡ true) ⊎ ((s.writers r).wants ≡ true)
+  -- what undoes was refused, or wants memory, or is undone by a recovery; what a refusal names is its cause
+  pub stopped : (r : Revision) → (s.writers r).undoing ≡ true → IsTurned s.past r (s.writers r)
   pub refusal : (r : Revision) (item : Item) (o : Revision) → refusal_of s.past r ≡ Some (item, o) → Cause s.past r item o
   -- each mark to make and each collision has its cause
   pub due : (r : Revision) (f : Met) → In f (s.writers r).due → IsDue s.past r f

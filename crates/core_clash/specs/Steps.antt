@@ -18,11 +18,11 @@ use Rattle.oak_machine.specs.Commits.{is_in_flight}
 use Rattle.oak_machine.specs.Runs.{MayCommit, MayRefuse}
 use Rattle.oak_commit.specs.Clashing.{Met, marked, noted, collision}
 use Rattle.core_read.specs.Holds.{root_entry}
-use Rattle.core_clash.specs.Views.{AreOrdered}
+use Rattle.core_clash.specs.Views.{AreOrdered, In}
 use Rattle.core_clash.specs.Collecting.{SeesBounded, MayBound, MayPrune, MayRemove, MaySplit, after_prune, after_remove, after_split}
-use Rattle.core_clash.specs.Core.{Core, Docs, IsGoing, MayBegin, MayWrite, MayMark, MayLast, MayUndo, MayFinish, after_draw, after_write, after_mark, after_last, after_want, after_undo, after_finish, after_event, is_quiet}
+use Rattle.core_clash.specs.Core.{Core, Docs, IsGoing, MayBegin, MayWrite, MayMark, MayLast, MayUndo, MayFinish, IsDead, MayDrop, after_clear, after_drop, after_draw, after_write, after_mark, after_last, after_want, after_undo, after_finish, after_event, is_quiet}
 
--- one step of one committer, or what comes between: bounds, what collections drop, what splits move, and events of something else
+-- one step of one committer, or what comes between: bounds, what collections drop, what splits move, what a recovery undoes and ends, and events of something else, a stop and the end of a recovery among them
 pub data Step : Core → Core → Type 0 where
   draw : {s : Core} (d : Draw) (left : List Path) → MayBegin s d left → SeesBounded s.past d.base → Step s (after_draw s d left)
   write : {s : Core} (d : Draw) (p : Path) (rest : List Path) → MayWrite s d p rest → Step s (after_write s d p rest)
@@ -35,6 +35,8 @@ pub data Step : Core → Core → Type 0 where
   prune : {s : Core} (e : Event) (m t : RevVec) (p : Path) (old : Document) (op : UpdateOp) (keep : Document → Bool) → is_quiet e ≡ true → MayPrune s m t p old op keep → Step s (after_prune s e p old op keep)
   remove : {s : Core} (e : Event) (m t : RevVec) (p : Path) (old : Document) → is_quiet e ≡ true → MayRemove s m t p old → Step s (after_remove s e p)
   split : {s : Core} (e : Event) (read : Documents) (pin : Pin) (p : Path) (old : Document) (entry : PrevEntry) (first : ℕ) → is_quiet e ≡ true → MaySplit s read pin p old → Step s (after_split s e read pin p old entry first)
+  clear : {s : Core} (e : Event) (d : Draw) (p : Path) → is_quiet e ≡ true → IsDead s.past d → Step s (after_clear s e d p)
+  dropped : {s : Core} (d : Draw) → MayDrop s d → Step s (after_drop s d)
   other : {s : Core} (e : Event) → is_quiet e ≡ true → Step s (after_event s e)
 
 -- documents in order, with marks, a status and commit roots of the start alone, and no collision
@@ -65,3 +67,7 @@ MayEnd past _ = Unit {0}
 abbrev pub EndsWell : Past → Type 0
 EndsWell [] = Unit {0}
 EndsWell (e ∷ past) = MayEnd past e × EndsWell past
+
+-- its committer has written nothing in the document of p that isn't undone there
+abbrev pub IsUndoneAt : Core → Revision → Path → Type 0
+IsUndoneAt s r p = In p (s.writers r).written → ⊥

@@ -1,5 +1,5 @@
 -- The steps of a world, as others make them between two steps of a reader.
-use Rattle.std.proofs.Common.{arith, ◌≡◌, ◌⊎◌, inl, inr, ℕ, Bool, true, false, cond, Some, None, Option, List, [], ◌∷◌, refl, sym, ap, ◌∙◌, subst, is_some}
+use Rattle.std.proofs.Common.{arith, ◌≡◌, ◌⊎◌, inl, inr, ℕ, Bool, true, false, cond, not, ◌&&◌, Some, None, Option, List, [], ◌∷◌, refl, sym, ap, ◌∙◌, subst, is_some}
 use Rattle.std.specs.Prelude.{◌==◌}
 use Rattle.std.proofs.lemmas.Bool.Decides.{nat_tests}
 use Rattle.std.specs.Option.{option_and_then, option_map_or, unwrap_or}
@@ -34,7 +34,7 @@ use Rattle.core_keep.proofs.Main as main_step
 use Rattle.core_keep.proofs.Pruned as pruned_step
 use Rattle.core_keep.proofs.Moved as moved_step
 
-itself : (k : ℕ) → (k == k) ≡ true
+pub itself : (k : ℕ) → (k == k) ≡ true
 itself k = grind (arith, nat_tests)
 
 -- a number is another or not
@@ -66,7 +66,8 @@ course_goes ds c later v t p copy asked fall falls tree same done = record {
   said = λ q r d s u h. h;
   sub = λ d h n q s k. (d, h, k);
   list = λ k x h l. inl l;
-  previous = λ e i a. inl refl;
+  stays = λ k. true;
+  previous = λ e i a. inl (refl, refl);
 }
 
 -- ---- documents change
@@ -84,13 +85,13 @@ module _ (ds now : Documents) (c : Course) (course : IsCourse c) (v t : Sight) (
   -- the node's document at p goes on so, and previous documents so
   goes : ((d : Document) → now (id.Node p) ≡ Some d → (n : Name) (q : Revision) → v q ≡ true → is_some (of_revision (values_of_property d.props n) q) ≡ true → (old : Document) × (ds (id.Node p) ≡ Some old) × (is_some (of_revision (values_of_property old.props n) q) ≡ true))
       → ((k : ℕ) (x : Document) → ds (id.Prev k p) ≡ Some x → IsListed ds p k → IsListed now p k ⊎ ((old : Document) × (ds (id.Node p) ≡ Some old) × IsOutdone v old x))
-      → ((e : PrevEntry) → IsIn e copy.prev → asked e.number ≡ false → (now (id.Prev e.number p) ≡ ds (id.Prev e.number p)) ⊎ ((now (id.Prev e.number p) ≡ None) × IsUnlisted ds p e.number))
+      → (stays : ℕ → Bool) → ((e : PrevEntry) → IsIn e copy.prev → asked e.number ≡ false → ((stays e.number ≡ true) × (now (id.Prev e.number p) ≡ ds (id.Prev e.number p))) ⊎ ((stays e.number ≡ false) × IsUnlisted ds p e.number))
       → GoesOn ds now c c v t p copy asked
-  goes sub list previous = record { tree = refl; node_last = refl; prop_last = λ n. refl; done = λ r h. h; said = still_said; sub = sub; list = list; previous = previous }
+  goes sub list stays previous = record { tree = refl; node_last = refl; prop_last = λ n. refl; done = λ r h. h; said = still_said; sub = sub; list = list; stays = stays; previous = previous }
 
   -- where the node's document at p stays
-  same_goes : now (id.Node p) ≡ ds (id.Node p) → ((e : PrevEntry) → IsIn e copy.prev → asked e.number ≡ false → (now (id.Prev e.number p) ≡ ds (id.Prev e.number p)) ⊎ ((now (id.Prev e.number p) ≡ None) × IsUnlisted ds p e.number)) → GoesOn ds now c c v t p copy asked
-  same_goes same previous = goes (λ d h n q s k. (d, sym same ∙ h, k)) (λ k x h l. inl (l.0, same ∙ l.1, l.2)) previous
+  same_goes : now (id.Node p) ≡ ds (id.Node p) → (stays : ℕ → Bool) → ((e : PrevEntry) → IsIn e copy.prev → asked e.number ≡ false → ((stays e.number ≡ true) × (now (id.Prev e.number p) ≡ ds (id.Prev e.number p))) ⊎ ((stays e.number ≡ false) × IsUnlisted ds p e.number)) → GoesOn ds now c c v t p copy asked
+  same_goes same stays previous = goes (λ d h n q s k. (d, sym same ∙ h, k)) (λ k x h l. inl (l.0, same ∙ l.1, l.2)) stays previous
 
   -- the node's document at one path is changed
   module _ (at : Path) (d : Document) (main : IsMainAt ds now at d)
@@ -115,11 +116,11 @@ module _ (ds now : Documents) (c : Course) (course : IsCourse c) (v t : Sight) (
             let o = sub n q s (ap (λ (y : Document). is_some (of_revision (values_of_property y.props n) q)) (value _ d e main.at (ap (λ (z : Path). now (id.Node z)) (sym one) ∙ h)) ∙ k) in
             (o.0, ap (λ (z : Path). ds (id.Node z)) one ∙ o.1, o.2))
             (subst (λ (z : Path). (k : ℕ) (x : Document) → ds (id.Prev k z) ≡ Some x → IsListed ds z k → IsListed now z k ⊎ ((old : Document) × (ds (id.Node z) ≡ Some old) × IsOutdone v old x)) (sym one) listed)
-            (λ e i a. inl (subst (λ (z : Path). now (id.Prev e.number z) ≡ ds (id.Prev e.number z)) (sym one) (main.previous_here e.number)))
+            (λ k. true) (λ e i a. inl (refl, subst (λ (z : Path). now (id.Prev e.number z) ≡ ds (id.Prev e.number z)) (sym one) (main.previous_here e.number)))
 
         by : (b : Bool) → eq_by_cmp path_cmp p at ≡ b → GoesOn ds now c c v t p copy asked
         by true h = here (same_path p at h)
-        by false h = same_goes (main.elsewhere.node p h) (λ e i a. inl (main.elsewhere.previous e.number p h))
+        by false h = same_goes (main.elsewhere.node p h) (λ k. true) (λ e i a. inl (refl, main.elsewhere.previous e.number p h))
 
 -- ---- the steps
 
@@ -189,35 +190,31 @@ module _ (ds now : Documents) (c : Course) (keeps : Keeps ds c) (course : IsCour
       here one = goes ds now c course v t held p copy asked said
           (λ e h. absurd (false≢true (ap is_some (sym (ap (λ (z : Path). now (id.Node z)) one ∙ gone) ∙ h))))
           (λ k x h l. inr (subst (λ (z : Path). (o : Document) × (ds (id.Node z) ≡ Some o) × IsOutdone v o x) (sym one) (listed k x (ap (λ (z : Path). ds (id.Prev k z)) (sym one) ∙ h) (subst (λ (z : Path). IsListed ds z k) one l))))
-          (λ e i a. inl (subst (λ (z : Path). now (id.Prev e.number z) ≡ ds (id.Prev e.number z)) (sym one) (stay e.number)))
+          (λ k. true) (λ e i a. inl (refl, subst (λ (z : Path). now (id.Prev e.number z) ≡ ds (id.Prev e.number z)) (sym one) (stay e.number)))
 
       by : (b : Bool) → eq_by_cmp path_cmp p at ≡ b → GoesOn ds now c c v t p copy asked
       by true h = here (same_path p at h)
-      by false h = same_goes ds now c course v t held p copy asked said (elsewhere.node p h) (λ e i a. inl (elsewhere.previous e.number p h))
+      by false h = same_goes ds now c course v t held p copy asked said (elsewhere.node p h) (λ k. true) (λ e i a. inl (refl, elsewhere.previous e.number p h))
 
-  -- a previous document that nobody lists goes, or one comes for which the reader will not ask
-  pub previous_goes : (at : Path) (k : ℕ) → IsPreviousAt ds now at k → IsUnlisted ds at k → (now (id.Prev k at) ≡ None) ⊎ ((e : PrevEntry) → IsIn e copy.prev → asked e.number ≡ false → p ≡ at → e.number ≡ k → ⊥) → GoesOn ds now c c v t p copy asked
-  previous_goes at k change unlisted way = same_goes ds now c course v t held p copy asked (λ x r ws e s h. ap (λ o. has_revision o r) (change.node x) ∙ h) (change.node p) (λ e i a. by e i a (eq_by_cmp path_cmp p at) refl)
+  -- a previous document that nobody lists changes: it goes, or one comes
+  pub previous_goes : (at : Path) (k : ℕ) → IsPreviousAt ds now at k → IsUnlisted ds at k → GoesOn ds now c c v t p copy asked
+  previous_goes at k change unlisted = same_goes ds now c course v t held p copy asked (λ x r ws e s h. ap (λ o. has_revision o r) (change.node x) ∙ h) (change.node p) stays (λ e i a. by e (eq_by_cmp path_cmp p at) refl (e.number == k) refl)
     where
-      G : PrevEntry → Path → Type 0
-      G e z = (now (id.Prev e.number z) ≡ ds (id.Prev e.number z)) ⊎ ((now (id.Prev e.number z) ≡ None) × IsUnlisted ds z e.number)
+      stays : ℕ → Bool
+      stays j = not (eq_by_cmp path_cmp p at && (j == k))
 
-      here : (e : PrevEntry) → IsIn e copy.prev → asked e.number ≡ false → p ≡ at → (e.number ≡ k) ⊎ (e.number ≡ k → ⊥) → (now (id.Prev e.number at) ≡ ds (id.Prev e.number at)) ⊎ ((now (id.Prev e.number at) ≡ None) × IsUnlisted ds at e.number)
-      here e i a one (inr apart) = inl (change.other e.number apart)
-      here e i a one (inl same) = elim way [
-        | inl none ↦ inr (ap (λ (j : ℕ). now (id.Prev j at)) same ∙ none, λ d h f j m. unlisted d h f j (m ∙ same))
-        | inr never ↦ absurd (never e i a one same)
-      ]
+      apart : (j : ℕ) → (j == k) ≡ false → j ≡ k → ⊥
+      apart j h e = false≢true (sym h ∙ (ap (λ (i : ℕ). j == i) (sym e) ∙ itself j))
 
-      by : (e : PrevEntry) → IsIn e copy.prev → asked e.number ≡ false → (b : Bool) → eq_by_cmp path_cmp p at ≡ b → (now (id.Prev e.number p) ≡ ds (id.Prev e.number p)) ⊎ ((now (id.Prev e.number p) ≡ None) × IsUnlisted ds p e.number)
-      by e i a false h = inl (change.elsewhere e.number p h)
-      by e i a true h =
-          let one : p ≡ at = same_path p at h in
-          subst (λ (z : Path). (now (id.Prev e.number z) ≡ ds (id.Prev e.number z)) ⊎ ((now (id.Prev e.number z) ≡ None) × IsUnlisted ds z e.number)) (sym one) (here e i a one (decide e.number k))
+      by : (e : PrevEntry) → (b : Bool) → eq_by_cmp path_cmp p at ≡ b → (a : Bool) → (e.number == k) ≡ a
+          → ((not (eq_by_cmp path_cmp p at && (e.number == k)) ≡ true) × (now (id.Prev e.number p) ≡ ds (id.Prev e.number p))) ⊎ ((not (eq_by_cmp path_cmp p at && (e.number == k)) ≡ false) × IsUnlisted ds p e.number)
+      by e false h a m = inl (ap (λ b. not (b && (e.number == k))) h, change.elsewhere e.number p h)
+      by e true h false m = inl (ap (λ b. not (b && (e.number == k))) h ∙ ap not m, subst (λ (z : Path). now (id.Prev e.number z) ≡ ds (id.Prev e.number z)) (sym (same_path p at h)) (change.other e.number (apart e.number m)))
+      by e true h true m = inr (ap (λ b. not (b && (e.number == k))) h ∙ ap not m, subst (λ (z : Path). IsUnlisted ds z e.number) (sym (same_path p at h)) (λ d is f j same. unlisted d is f j (same ∙ number_same e.number k m)))
 
   -- documents of no node change
   pub others_go : ((q : Path) → now (id.Node q) ≡ ds (id.Node q)) → ((k : ℕ) (q : Path) → now (id.Prev k q) ≡ ds (id.Prev k q)) → GoesOn ds now c c v t p copy asked
-  others_go node previous = same_goes ds now c course v t held p copy asked (λ x r ws e s h. ap (λ o. has_revision o r) (node x) ∙ h) (node p) (λ e i a. inl (previous e.number p))
+  others_go node previous = same_goes ds now c course v t held p copy asked (λ x r ws e s h. ap (λ o. has_revision o r) (node x) ∙ h) (node p) (λ k. true) (λ e i a. inl (refl, previous e.number p))
 
 -- ---- the last write of a draw, with its Commit: the document is changed, and then the journal tells more
 

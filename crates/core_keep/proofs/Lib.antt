@@ -23,3 +23,6 @@ pub mod Rows
 pub mod Unseen
 pub mod From
 pub mod Listing
+pub mod Formers
+pub mod Staying
+pub mod Lookers

@@ -62,7 +62,7 @@ module _ (ds now : Documents) (c : Course) (keeps : Keeps ds c) (course : IsCour
   edited : (q : Revision) (ws : List Write) → edit_in c q ≡ Some ws → own q ≡ false
   edited q ws e = not_true (own q) (λ h. false≢true (ap is_some (sym (open_ q h).0 ∙ e)))
 
-  not_done : (q : Revision) → own q ≡ true → is_done c q ≡ true → ⊥
+  pub not_done : (q : Revision) → own q ≡ true → is_done c q ≡ true → ⊥
   not_done q h k = elim (either_true (is_some (edit_in c q)) (c.old q) k) [
     | inl e ↦ false≢true (ap is_some (sym (open_ q h).0) ∙ e)
     | inr o ↦ false≢true (sym (open_ q h).2 ∙ course.old_bound q o)
@@ -78,7 +78,7 @@ module _ (ds now : Documents) (c : Course) (keeps : Keeps ds c) (course : IsCour
       ∙ (ap (λ o. option_or o (of_revision (gone_in (listed ds p (ds (id.Node p)))) q)) (gone_same (Some d) (ds (id.Node p)) q (same.at q h).here)
       ∙ sym (gone_split ds p (ds (id.Node p)) q)))
 
-  value_is : (n : Name) (q : Revision) → own q ≡ false → of_revision (values_in n (all_at now p)) q ≡ of_revision (values_in n (all_at ds p)) q
+  pub value_is : (n : Name) (q : Revision) → own q ≡ false → of_revision (values_in n (all_at now p)) q ≡ of_revision (values_in n (all_at ds p)) q
   value_is n q h =
       value_now ds now p d main n q
       ∙ (ap (λ l. option_or (prop_entry (Some d) n q) (of_revision (values_in n l) q)) still

@@ -71,7 +71,10 @@ module _ (ds now : Documents) (c : Course) (keeps : Keeps ds c) (p : Path) (old 
       ∙ (ap (λ (es : List (Revision × Bool)). of_revision (old.deleted ++ (es ++ gone_in (listed ds p (Some old)))) q) moved.listed.plain
       ∙ sym (ap (λ l. of_revision (gone_in l) q) all_was)))
 
-  value_is : (n : Name) (q : Revision) → of_revision (values_in n (all_at now p)) q ≡ of_revision (values_in n (all_at ds p)) q
+  pub value_was : (n : Name) (q : Revision) → of_revision (values_in n (all_at ds p)) q ≡ option_or (of_revision (values_of_property old.props n) q) (of_revision (values_in n (listed ds p (Some old))) q)
+  value_was n q = ap (λ l. of_revision (values_in n l) q) all_was ∙ found_append (values_of_property old.props n) (values_in n (listed ds p (Some old))) q
+
+  pub value_is : (n : Name) (q : Revision) → of_revision (values_in n (all_at now p)) q ≡ of_revision (values_in n (all_at ds p)) q
   value_is n q =
       let rest : List (Revision × Option Property) = values_in n (listed ds p (Some old)) in
       ap (λ l. of_revision (values_in n l) q) all_is
@@ -87,11 +90,11 @@ module _ (ds now : Documents) (c : Course) (keeps : Keeps ds c) (p : Path) (old 
       by : (y : Path) → has_revision (ds (id.Node y)) r ≡ true → has_revision (now (id.Node y)) r ≡ true
       by = at_each ds now p d main (λ y o. has_revision (ds (id.Node y)) r ≡ true → has_revision o r ≡ true) (λ h. ap (λ es. is_some (of_revision es r)) moved.revisions ∙ (sym (ap (λ o. has_revision o r) is) ∙ h)) (λ y k h. h)
 
-  old_in : IsIn old (all_at ds p)
+  pub old_in : IsIn old (all_at ds p)
   old_in = subst (λ l. IsIn old l) (sym all_was) (inl refl)
 
   -- what moved stood in the document
-  moved_was : (n : Name) (r : Revision) → is_some (of_revision (values_of_property x.props n) r) ≡ true → is_some (of_revision (values_of_property old.props n) r) ≡ true
+  pub moved_was : (n : Name) (r : Revision) → is_some (of_revision (values_of_property x.props n) r) ≡ true → is_some (of_revision (values_of_property old.props n) r) ≡ true
   moved_was n r h = sym (ap is_some (moved.props n r)) ∙ by (of_revision (values_of_property d.props n) r)
     where
       by : (o : Option (Option Property)) → is_some (option_or o (of_revision (values_of_property x.props n) r)) ≡ true
@@ -106,7 +109,7 @@ module _ (ds now : Documents) (c : Course) (keeps : Keeps ds c) (p : Path) (old 
       by None h = absurd (false≢true h)
       by (Some v) h = refl
 
-  same_place : (o u : Option ℕ) → o ≡ u → (a b : Document) → main_of a.id ≡ main_of b.id → path_of a.id ≡ path_of b.id → option_map_or (λ depth. id.Node (take depth (path_of a.id))) o (main_of a.id) ≡ option_map_or (λ depth. id.Node (take depth (path_of b.id))) u (main_of b.id)
+  pub same_place : (o u : Option ℕ) → o ≡ u → (a b : Document) → main_of a.id ≡ main_of b.id → path_of a.id ≡ path_of b.id → option_map_or (λ depth. id.Node (take depth (path_of a.id))) o (main_of a.id) ≡ option_map_or (λ depth. id.Node (take depth (path_of b.id))) u (main_of b.id)
   same_place o None h a b m k = ap (λ o. option_map_or (λ depth. id.Node (take depth (path_of a.id))) o (main_of a.id)) h ∙ m
   same_place o (Some depth) h a b m k = ap (λ o. option_map_or (λ depth. id.Node (take depth (path_of a.id))) o (main_of a.id)) h ∙ ap (λ (q : Path). id.Node (take depth q)) k
 

@@ -186,7 +186,7 @@ module _ (ds now : Documents) (c : Course) (keeps : Keeps ds c) (course : IsCour
       sub : (q : Revision) → is_some (of_revision (gone_in (all_at now p)) q) ≡ true → is_some (of_revision (gone_in (all_at ds p)) q) ≡ true
       sub q h = let x = some_of (of_revision d.deleted q) (sym (ap is_some (gone_main q)) ∙ h) in ap is_some (gone_old_main q ∙ left_sub c _ _ pruned.deleted q x.0 x.1)
 
-  prop_each : (n : Name) (q : Revision) → (of_revision (values_in n (all_at now p)) q ≡ of_revision (values_in n (all_at ds p)) q) ⊎ ((c.bound q ≡ true) × ((r : Revision) × (is_before q r ≡ true) × (c.bound r ≡ true) × (is_some (of_revision (values_in n (all_at now p)) r) ≡ true)))
+  pub prop_each : (n : Name) (q : Revision) → (of_revision (values_in n (all_at now p)) q ≡ of_revision (values_in n (all_at ds p)) q) ⊎ ((c.bound q ≡ true) × ((r : Revision) × (is_before q r ≡ true) × (c.bound r ≡ true) × (is_some (of_revision (values_in n (all_at now p)) r) ≡ true)))
   prop_each n q = by ((pruned.props n).each q) (value_each n q)
     where
       raised : (r : Revision) → is_some (of_revision (values_of_property d.props n) r) ≡ true → is_some (of_revision (values_in n (all_at now p)) r) ≡ true

@@ -1,6 +1,6 @@
 -- A reader that goes document by document reads the tree, whatever comes between its steps.
 use Rattle.std.proofs.Common.{◌≡◌, ◌⊎◌, inl, inr, ℕ, take, Bool, true, false, cond, ◌&&◌, ◌||◌, Some, None, Option, List, [], ◌∷◌, ◌++◌, refl, sym, ap, ◌∙◌, subst, is_some}
-use Rattle.std.specs.Prelude.{◌==◌}
+use Rattle.std.specs.Prelude.{◌==◌, IsTrue}
 use Rattle.std.specs.Option.{option_map_or, option_or, unwrap_or}
 use Rattle.std.specs.List.{filter, filter_map, cons_option, flat_map}
 use mathlib.Core.Bool.{false≢true}
@@ -28,6 +28,7 @@ use Rattle.core_keep.specs.Standing.{all_at, gone_of, gone_in, values_in, shows_
 use Rattle.core_keep.specs.Keeps.{Course, edit_in, is_done, Matches, Keeps, KeepsAt, IsCourse, IsDownward, IsHeldPair, Shows}
 use Rattle.core_keep.specs.Steps.{IsUnlisted}
 use Rattle.core_keep.specs.Readers.{gone_by, HasLater, IsOutdone, IsListed, Reads, GoesOn, asked_too, look_on, Knows}
+use Rattle.core_keep.specs.Formers.{Former, IsAmong, IsShownIn}
 use Rattle.core_keep.proofs.Item.{latest_of, is_none, not_true, some_of, cond_some, either_true, matches}
 use Rattle.core_keep.proofs.Found.{found_append, among, same_filter, filter-append}
 use Rattle.core_keep.proofs.Shown.{found_by, found_there, found_born}
@@ -61,7 +62,7 @@ last_left {X} s es left each sub = only_entry (passing s left) (passing s left) 
 
 -- ---- what is listed, by a look at it
 
-look_in : (look : ℕ → Option Document) (es : List PrevEntry) (x : Document) → IsIn x (filter_map (λ e. look e.number) es) → (e : PrevEntry) × IsIn e es × (look e.number ≡ Some x)
+pub look_in : (look : ℕ → Option Document) (es : List PrevEntry) (x : Document) → IsIn x (filter_map (λ e. look e.number) es) → (e : PrevEntry) × IsIn e es × (look e.number ≡ Some x)
 look_in look [] x i = absurd i
 look_in look (e ∷ es) x i = by (λ j. look_in look es x j) (look e.number) refl i
   where
@@ -70,7 +71,7 @@ look_in look (e ∷ es) x i = by (λ j. look_in look es x j) (look e.number) ref
     by rest (Some y) h (inl one) = (e, inl refl, h ∙ ap (λ (z : Document). Some z) one)
     by rest (Some y) h (inr i) = let r = rest i in (r.0, inr r.1, r.2)
 
-in_look : (look : ℕ → Option Document) (es : List PrevEntry) (e : PrevEntry) (x : Document) → IsIn e es → look e.number ≡ Some x → IsIn x (filter_map (λ e. look e.number) es)
+pub in_look : (look : ℕ → Option Document) (es : List PrevEntry) (e : PrevEntry) (x : Document) → IsIn e es → look e.number ≡ Some x → IsIn x (filter_map (λ e. look e.number) es)
 in_look look [] e x i h = absurd i
 in_look look (f ∷ es) e x (inl one) h = subst (λ o. IsIn x (cons_option o (filter_map (λ e. look e.number) es))) (sym (ap (λ (g : PrevEntry). look g.number) one ∙ h)) (inl refl)
 in_look look (f ∷ es) e x (inr i) h = by (look f.number) (in_look look es e x i h)
@@ -130,7 +131,7 @@ module _ (ds : Documents) (c : Course) (keeps : Keeps ds c) (course : IsCourse c
   -- a reader begins with a copy of the node's document
   pub reads_copy : Reads ds c v t p copy (λ k. false) look
   reads_copy = record {
-    follows = λ e i a. refl;
+    follows = λ e i a. inl refl;
     node = subst (λ l. Matches shows_node (born_at c.tree p) (last_entry (gone_of p) v c.commits) (latest (filter (λ e. v e.0) (gone_in l)))) all_is node_here;
     prop = λ n. subst (λ l. Matches shows_value (property_at c.tree p n) (last_entry (put_of p n) v c.commits) (latest (filter (λ e. v e.0) (values_in n l)))) all_is (prop_here n);
     named = at.named copy is;
@@ -166,32 +167,47 @@ reads_previous ds c v t p copy asked look reads k = record {
         by true h = absurd (false≢true (sym h))
         by false h = h
 
+-- no previous document has an entry of `_deleted`
+pub no_gone : (copy : Document) (l : ℕ → Option Document) → ((e : PrevEntry) → IsIn e copy.prev → (x : Document) → l e.number ≡ Some x → x.deleted ≡ []) → gone_in (filter_map (λ e. l e.number) copy.prev) ≡ []
+no_gone copy l plain = over copy.prev plain
+  where
+    over : (es : List PrevEntry) → ((e : PrevEntry) → IsIn e es → (x : Document) → l e.number ≡ Some x → x.deleted ≡ []) → gone_in (filter_map (λ e. l e.number) es) ≡ []
+    over [] plain = refl
+    over (e ∷ es) plain = by (l e.number) refl (over es (λ f i. plain f (inr i)))
+      where
+        by : (o : Option Document) → l e.number ≡ o → gone_in (filter_map (λ e. l e.number) es) ≡ [] → gone_in (cons_option o (filter_map (λ e. l e.number) es)) ≡ []
+        by None h rest = rest
+        by (Some x) h rest = ap (λ es. es ++ gone_in (filter_map (λ e. l e.number) (es_of es))) (plain e (inl refl) x h) ∙ rest
+          where
+            es_of : List (Revision × Bool) → List PrevEntry
+            es_of _ = es
+
 -- ---- others go on
 
 module _ (ds now : Documents) (c later : Course) (v t : Sight) (p : Path) (copy : Document) (asked : ℕ → Bool) (look : ℕ → Option Document) (reads : Reads ds c v t p copy asked look) (goes : GoesOn ds now c later v t p copy asked) where
   abbrev look' : ℕ → Option Document
-  look' = look_on asked look now p
+  look' = look_on asked goes.stays look
 
   -- what is looked at stays, or goes where the copy outdoes it
-  each_look : (e : PrevEntry) → IsIn e copy.prev → (look' e.number ≡ look e.number) ⊎ ((look' e.number ≡ None) × ((x : Document) → look e.number ≡ Some x → IsOutdone v copy x))
+  pub each_look : (e : PrevEntry) → IsIn e copy.prev → (look' e.number ≡ look e.number) ⊎ ((look' e.number ≡ None) × ((x : Document) → look e.number ≡ Some x → IsOutdone v copy x))
   each_look e i = by (asked e.number) refl
     where
-      gone : asked e.number ≡ false → (now (id.Prev e.number p) ≡ None) × IsUnlisted ds p e.number → (x : Document) → look e.number ≡ Some x → IsOutdone v copy x
+      gone : asked e.number ≡ false → IsUnlisted ds p e.number → (x : Document) → look e.number ≡ Some x → IsOutdone v copy x
       gone a g x h =
-          elim (reads.left e i a x (sym (reads.follows e i a) ∙ h)) [
-            | inl l ↦ absurd (g.1 l.0 l.1 (l.2).0 (l.2).1 (l.2).2)
+          elim (reads.left e i a x h) [
+            | inl l ↦ absurd (g l.0 l.1 (l.2).0 (l.2).1 (l.2).2)
             | inr o ↦ o
           ]
 
       by : (b : Bool) → asked e.number ≡ b → (look' e.number ≡ look e.number) ⊎ ((look' e.number ≡ None) × ((x : Document) → look e.number ≡ Some x → IsOutdone v copy x))
-      by true a = inl (ap (λ b. cond b (look e.number) (now (id.Prev e.number p))) a)
+      by true a = inl (ap (λ b. cond (b || goes.stays e.number) (look e.number) None) a)
       by false a = elim (goes.previous e i a) [
-        | inl same ↦ inl (ap (λ b. cond b (look e.number) (now (id.Prev e.number p))) a ∙ (same ∙ sym (reads.follows e i a)))
-        | inr g ↦ inr (ap (λ b. cond b (look e.number) (now (id.Prev e.number p))) a ∙ g.0, gone a g)
+        | inl same ↦ inl (ap (λ b. cond (b || goes.stays e.number) (look e.number) None) a ∙ ap (λ b. cond b (look e.number) None) same.0)
+        | inr g ↦ inr (ap (λ b. cond (b || goes.stays e.number) (look e.number) None) a ∙ ap (λ b. cond b (look e.number) None) g.0, gone a g.1)
       ]
 
   -- what it goes by now it went by
-  was_in : (x : Document) → IsIn x (gone_by copy look') → IsIn x (gone_by copy look)
+  pub was_in : (x : Document) → IsIn x (gone_by copy look') → IsIn x (gone_by copy look)
   was_in x (inl one) = inl one
   was_in x (inr i) =
       let f = look_in look' copy.prev x i in
@@ -200,33 +216,18 @@ module _ (ds now : Documents) (c later : Course) (v t : Sight) (p : Path) (copy 
         | inr gone ↦ absurd (false≢true (ap is_some (sym gone.0 ∙ f.2)))
       ]
 
-  -- no previous document has an entry of `_deleted`
-  no_gone : (l : ℕ → Option Document) → ((e : PrevEntry) → IsIn e copy.prev → (x : Document) → l e.number ≡ Some x → x.deleted ≡ []) → gone_in (filter_map (λ e. l e.number) copy.prev) ≡ []
-  no_gone l plain = over copy.prev plain
-    where
-      over : (es : List PrevEntry) → ((e : PrevEntry) → IsIn e es → (x : Document) → l e.number ≡ Some x → x.deleted ≡ []) → gone_in (filter_map (λ e. l e.number) es) ≡ []
-      over [] plain = refl
-      over (e ∷ es) plain = by (l e.number) refl (over es (λ f i. plain f (inr i)))
-        where
-          by : (o : Option Document) → l e.number ≡ o → gone_in (filter_map (λ e. l e.number) es) ≡ [] → gone_in (cons_option o (filter_map (λ e. l e.number) es)) ≡ []
-          by None h rest = rest
-          by (Some x) h rest = ap (λ es. es ++ gone_in (filter_map (λ e. l e.number) (es_of es))) (plain e (inl refl) x h) ∙ rest
-            where
-              es_of : List (Revision × Bool) → List PrevEntry
-              es_of _ = es
-
   previous' : (e : PrevEntry) → IsIn e copy.prev → (x : Document) → look' e.number ≡ Some x → (x.id ≡ id.Prev e.number p) × (x.deleted ≡ [])
   previous' e i x h = elim (each_look e i) [
     | inl same ↦ reads.previous e i x (sym same ∙ h)
     | inr gone ↦ absurd (false≢true (ap is_some (sym gone.0 ∙ h)))
   ]
 
-  gone_same : gone_in (gone_by copy look') ≡ gone_in (gone_by copy look)
-  gone_same = ap (λ l. copy.deleted ++ l) (no_gone look' (λ e i x h. (previous' e i x h).1) ∙ sym (no_gone look (λ e i x h. (reads.previous e i x h).1)))
+  pub gone_same : gone_in (gone_by copy look') ≡ gone_in (gone_by copy look)
+  gone_same = ap (λ l. copy.deleted ++ l) (no_gone copy look' (λ e i x h. (previous' e i x h).1) ∙ sym (no_gone copy look (λ e i x h. (reads.previous e i x h).1)))
 
   -- ---- values
 
-  over_values : (n : Name) (q : Revision) → v q ≡ true → (es : List PrevEntry) → ((e : PrevEntry) → IsIn e es → (look' e.number ≡ look e.number) ⊎ ((look' e.number ≡ None) × ((x : Document) → look e.number ≡ Some x → IsOutdone v copy x)))
+  pub over_values : (n : Name) (q : Revision) → v q ≡ true → (es : List PrevEntry) → ((e : PrevEntry) → IsIn e es → (look' e.number ≡ look e.number) ⊎ ((look' e.number ≡ None) × ((x : Document) → look e.number ≡ Some x → IsOutdone v copy x)))
       → (of_revision (values_in n (filter_map (λ e. look' e.number) es)) q ≡ of_revision (values_in n (filter_map (λ e. look e.number) es)) q) ⊎ HasLater v copy n q
   over_values n q seen [] each = inl refl
   over_values n q seen (e ∷ es) each = by (each e (inl refl)) (over_values n q seen es (λ f i. each f (inr i)))
@@ -257,27 +258,37 @@ module _ (ds now : Documents) (c later : Course) (v t : Sight) (p : Path) (copy 
       by (inl same) (inl h) = inl (ap (λ o. of_revision (values_in n (cons_option o mine)) q) same ∙ with_one (look e.number) h)
       by (inr gone) (inl h) = subst (λ o. (of_revision (values_in n (cons_option o mine)) q ≡ of_revision (values_in n (cons_option (look e.number) theirs)) q) ⊎ HasLater v copy n q) (sym gone.0) (without_one (look e.number) refl gone.1 h)
 
+  abbrev own : Name → List (Revision × Option Property)
+  own n = values_of_property copy.props n
+
+  or_l : {X : Type 0} (a b : Option X) → is_some a ≡ true → is_some (option_or a b) ≡ true
+  or_l None b h = absurd (false≢true h)
+  or_l (Some x) b h = refl
+
+  value_each : (n : Name) (q : Revision) → v q ≡ true → (of_revision (values_in n (gone_by copy look')) q ≡ of_revision (values_in n (gone_by copy look)) q) ⊎ ((r : Revision) × (is_before q r ≡ true) × (v r ≡ true) × (is_some (of_revision (values_in n (gone_by copy look')) r) ≡ true))
+  value_each n q seen = elim (over_values n q seen copy.prev each_look) [
+    | inl same ↦ inl (found_append (own n) _ q ∙ (ap (option_or (of_revision (own n) q)) same ∙ sym (found_append (own n) _ q)))
+    | inr later ↦ inr (later.0, later.1, later.2, ap is_some (found_append (own n) (values_in n (filter_map (λ e. look' e.number) copy.prev)) later.0) ∙ or_l _ _ later.3)
+  ]
+
   value_same : (n : Name) → latest (filter (λ e. v e.0) (values_in n (gone_by copy look'))) ≡ latest (filter (λ e. v e.0) (values_in n (gone_by copy look)))
-  value_same n = last_left v (values_in n (gone_by copy look)) (values_in n (gone_by copy look')) each sub
+  value_same n = last_left v (values_in n (gone_by copy look)) (values_in n (gone_by copy look')) (value_each n) sub
     where
-      or_l : {X : Type 0} (a b : Option X) → is_some a ≡ true → is_some (option_or a b) ≡ true
-      or_l None b h = absurd (false≢true h)
-      or_l (Some x) b h = refl
-
-      own : List (Revision × Option Property)
-      own = values_of_property copy.props n
-
-      each : (q : Revision) → v q ≡ true → (of_revision (values_in n (gone_by copy look')) q ≡ of_revision (values_in n (gone_by copy look)) q) ⊎ ((r : Revision) × (is_before q r ≡ true) × (v r ≡ true) × (is_some (of_revision (values_in n (gone_by copy look')) r) ≡ true))
-      each q seen = elim (over_values n q seen copy.prev each_look) [
-        | inl same ↦ inl (found_append own _ q ∙ (ap (option_or (of_revision own q)) same ∙ sym (found_append own _ q)))
-        | inr later ↦ inr (later.0, later.1, later.2, ap is_some (found_append own (values_in n (filter_map (λ e. look' e.number) copy.prev)) later.0) ∙ or_l _ _ later.3)
-      ]
-
       sub : (q : Revision) → is_some (of_revision (values_in n (gone_by copy look')) q) ≡ true → is_some (of_revision (values_in n (gone_by copy look)) q) ≡ true
       sub q h =
           let w = some_of (of_revision (values_in n (gone_by copy look')) q) h in
           let f = value_from n (gone_by copy look') q w.0 w.1 in
           among (λ d. values_of_property d.props n) (gone_by copy look) f.0 (was_in f.0 f.1) q (ap is_some f.2)
+
+  -- what shows a former document shows it still
+  pub shown_on : (f : Former) → IsShownIn v f (gone_by copy look) → IsShownIn v f (gone_by copy look')
+  shown_on f shown n r had seen = let q = shown n r had seen in by q.0 q.1 q.2 (value_each n q.0 q.1)
+    where
+      by : (q : Revision) → v q ≡ true → is_some (of_revision (values_in n (gone_by copy look)) q) ≡ true
+          → (of_revision (values_in n (gone_by copy look')) q ≡ of_revision (values_in n (gone_by copy look)) q) ⊎ ((u : Revision) × (is_before q u ≡ true) × (v u ≡ true) × (is_some (of_revision (values_in n (gone_by copy look')) u) ≡ true))
+          → (q : Revision) × IsTrue (v q) × IsAmong (gone_by copy look') n q
+      by q saw there (inl same) = (q, saw, ap is_some same ∙ there)
+      by q saw there (inr later) = (later.0, later.2, later.3)
 
   -- ---- statuses
 
@@ -306,22 +317,40 @@ module _ (ds now : Documents) (c later : Course) (v t : Sight) (p : Path) (copy 
   outdone_copy : (old x : Document) → ds (id.Node p) ≡ Some old → IsOutdone v old x → IsOutdone v copy x
   outdone_copy old x is out n r seen h = let l = out n r seen h in (l.0, l.1, l.2, reads.within old is n l.0 l.2 l.3)
 
-  left_now : (e : PrevEntry) → IsIn e copy.prev → asked e.number ≡ false → (x : Document) → now (id.Prev e.number p) ≡ Some x → IsListed now p e.number ⊎ IsOutdone v copy x
-  left_now e i a x h = by (goes.previous e i a)
+  -- of what it will ask for it goes by what stays
+  stayed : (e : PrevEntry) → IsIn e copy.prev → asked e.number ≡ false → (x : Document) → look' e.number ≡ Some x → (look e.number ≡ Some x) × (now (id.Prev e.number p) ≡ ds (id.Prev e.number p))
+  stayed e i a x h = elim (goes.previous e i a) [
+    | inl same ↦ (sym (ap (λ b. cond (b || goes.stays e.number) (look e.number) None) a ∙ ap (λ b. cond b (look e.number) None) same.0) ∙ h, same.1)
+    | inr g ↦ absurd (false≢true (ap is_some (sym (ap (λ b. cond (b || goes.stays e.number) (look e.number) None) a ∙ ap (λ b. cond b (look e.number) None) g.0) ∙ h)))
+  ]
+
+  left_now : (e : PrevEntry) → IsIn e copy.prev → asked e.number ≡ false → (x : Document) → look' e.number ≡ Some x → IsListed now p e.number ⊎ IsOutdone v copy x
+  left_now e i a x h =
+      let was = stayed e i a x h in
+      elim (reads.left e i a x was.0) [
+        | inr out ↦ inr out
+        | inl listed ↦ elim (goes.list e.number x (there was.0 (reads.follows e i a)) listed) [ inl l ↦ inl l | inr o ↦ inr (outdone_copy o.0 x o.1 o.2) ]
+      ]
     where
-      by : (now (id.Prev e.number p) ≡ ds (id.Prev e.number p)) ⊎ ((now (id.Prev e.number p) ≡ None) × IsUnlisted ds p e.number) → IsListed now p e.number ⊎ IsOutdone v copy x
-      by (inr gone) = absurd (false≢true (ap is_some (sym gone.0 ∙ h)))
-      by (inl same) =
-          let was : ds (id.Prev e.number p) ≡ Some x = sym same ∙ h in
-          elim (reads.left e i a x was) [
-            | inr out ↦ inr out
-            | inl listed ↦ elim (goes.list e.number x was listed) [ inl l ↦ inl l | inr o ↦ inr (outdone_copy o.0 x o.1 o.2) ]
-          ]
+      there : look e.number ≡ Some x → (look e.number ≡ ds (id.Prev e.number p)) ⊎ (look e.number ≡ None) → ds (id.Prev e.number p) ≡ Some x
+      there k (inl same) = sym same ∙ k
+      there k (inr none) = absurd (false≢true (ap is_some (sym none ∙ k)))
+
+  follows_now : (e : PrevEntry) → IsIn e copy.prev → asked e.number ≡ false → (look' e.number ≡ now (id.Prev e.number p)) ⊎ (look' e.number ≡ None)
+  follows_now e i a = elim (goes.previous e i a) [
+    | inr g ↦ inr (ap (λ b. cond (b || goes.stays e.number) (look e.number) None) a ∙ ap (λ b. cond b (look e.number) None) g.0)
+    | inl same ↦
+        let is : look' e.number ≡ look e.number = ap (λ b. cond (b || goes.stays e.number) (look e.number) None) a ∙ ap (λ b. cond b (look e.number) None) same.0 in
+        elim (reads.follows e i a) [
+          | inl one ↦ inl (is ∙ (one ∙ sym same.1))
+          | inr none ↦ inr (is ∙ none)
+        ]
+  ]
 
   -- the reader reads the same
   pub reads_on : Reads now later v t p copy asked look'
   reads_on = record {
-    follows = λ e i a. ap (λ b. cond b (look e.number) (now (id.Prev e.number p))) a;
+    follows = follows_now;
     node = subst (λ (tree : Nodes). Matches shows_node (born_at tree p) (last_entry (gone_of p) v later.commits) (latest (filter (λ e. v e.0) (gone_in (gone_by copy look'))))) (sym goes.tree)
         (subst (λ o. Matches shows_node (born_at c.tree p) o (latest (filter (λ e. v e.0) (gone_in (gone_by copy look'))))) (sym goes.node_last)
         (subst (λ (l : List (Revision × Bool)). Matches shows_node (born_at c.tree p) (last_entry (gone_of p) v c.commits) (latest (filter (λ e. v e.0) l))) (sym gone_same) reads.node));
@@ -396,11 +425,11 @@ module _ (ds : Documents) (c : Course) (v t : RevVec) (p : Path) (copy : Documen
 -- ---- what it knows in the end
 
 module _ (ds : Documents) (c : Course) (v t : RevVec) (p : Path) (copy : Document) (asked : ℕ → Bool) (look : ℕ → Option Document) (reads : Reads ds c (sees v) (sees t) p copy asked look) (known : Documents) (knows : Knows known (sees v) (sees t) p copy look) where
-  known_all : all_at known p ≡ gone_by copy look
+  pub known_all : all_at known p ≡ gone_by copy look
   known_all = ap (λ o. option_map_or (with_previous known p) o []) knows.main ∙ ap (λ l. copy ∷ l) (same_listed (λ e. known (id.Prev e.number p)) (λ e. look e.number) copy.prev (λ e i. knows.previous e i))
 
   -- all that is seen counts
-  all_count : {X : Type 0} (field : Document → List (Revision × X)) → ((x : Document) (r : Revision) → is_some (of_revision (field x) r) ≡ true → HasEntryOf r x) → (all : List Document) → ((x : Document) → IsIn x all → IsIn x (gone_by copy look))
+  pub all_count : {X : Type 0} (field : Document → List (Revision × X)) → ((x : Document) (r : Revision) → is_some (of_revision (field x) r) ≡ true → HasEntryOf r x) → (all : List Document) → ((x : Document) → IsIn x all → IsIn x (gone_by copy look))
       → flat_map (counting known t v field) all ≡ filter (λ e. sees v e.0) (flat_map field all)
   all_count field entry [] inside = refl
   all_count field entry (x ∷ all) inside =

@@ -1,5 +1,5 @@
 -- The two updates of a split move what its definition says.
-use Rattle.std.proofs.Common.{◌≡◌, ◌⊎◌, inl, inr, ℕ, Bool, true, false, cond, ◌&&◌, ◌||◌, Some, None, Option, List, [], ◌∷◌, ◌++◌, map, refl, sym, ap, ◌∙◌, subst, is_some}
+use Rattle.std.proofs.Common.{◌≡◌, ◌⊎◌, inl, inr, ℕ, take, Bool, true, false, cond, ◌&&◌, ◌||◌, Some, None, Option, List, [], ◌∷◌, ◌++◌, map, refl, sym, ap, ◌∙◌, subst, is_some}
 use Rattle.std.specs.Option.{option_map, option_map_or, option_or, option_and_then, unwrap_or}
 use Rattle.std.specs.Ordering.{is_eq, eq_by_cmp}
 use Rattle.std.specs.Cmp.{tied_itself}
@@ -29,7 +29,7 @@ use Rattle.oak_doc.specs.declared.update.Field.TheVariants as field
 use Rattle.oak_doc.specs.declared.update.Change.{Change}
 use Rattle.oak_doc.specs.declared.update.Change.TheVariants as change
 use Rattle.oak_doc.specs.Updates.{of_revision, with_revision, values_of_property, pruned, changed, after_changes, document_of, Props}
-use Rattle.oak_read.specs.Meaning.{Documents, is_committed, path_of}
+use Rattle.oak_read.specs.Meaning.{Documents, commit_root_of, is_committed, main_of, path_of}
 use Rattle.oak_read.specs.Shown.{with_previous}
 use Rattle.core_read.proofs.Entries.{none_below}
 use Rattle.core_read.proofs.Latest.{same_revision, before_itself}
@@ -38,6 +38,7 @@ use Rattle.core_keep.specs.Keeps.{Course, is_done, KeepsAt, IsPrevious}
 use Rattle.core_keep.specs.Splits.{older, has_values, moved_props, moved_revisions, moved_roots, previous_write, main_write, IsInOrder}
 use Rattle.core_keep.specs.Standing.{values_in}
 use Rattle.core_keep.specs.Steps.{IsMoved, IsParted}
+use Rattle.core_keep.specs.Formers.{Former, IsCopyOf}
 use Rattle.core_keep.proofs.Item.{and_both, some_of, not_true, either_true}
 use Rattle.core_keep.proofs.Found.{found_append, found_first}
 use Rattle.core_keep.proofs.Garbage.{drops_value, drops_root, drops_deleted, drops_status, by_keys, after_keys, one_value, same_parts, sorted_keys}
@@ -453,6 +454,11 @@ leaves_all (p ∷ ps) d =
 
 -- ---- the split
 
+-- the commit root of an entry, by its note
+root_place : (o u : Option ℕ) → o ≡ u → (a b : Document) → main_of a.id ≡ main_of b.id → path_of a.id ≡ path_of b.id → option_map_or (λ depth. id.Node (take depth (path_of a.id))) o (main_of a.id) ≡ option_map_or (λ depth. id.Node (take depth (path_of b.id))) u (main_of b.id)
+root_place o None h a b m k = ap (λ o. option_map_or (λ depth. id.Node (take depth (path_of a.id))) o (main_of a.id)) h ∙ m
+root_place o (Some depth) h a b m k = ap (λ o. option_map_or (λ depth. id.Node (take depth (path_of a.id))) o (main_of a.id)) h ∙ ap (λ (q : Path). id.Node (take depth q)) k
+
 module _ (ds : Documents) (pin : Pin) (old : Document) (e : PrevEntry) (first second : ℕ) (order : IsInOrder old) where
   abbrev test : Revision → Bool
   test r = sees pin.base r && is_committed ds pin.sweep old r
@@ -572,6 +578,20 @@ module _ (ds : Documents) (pin : Pin) (old : Document) (e : PrevEntry) (first se
   -- what moves counts in the documents that the split has read
   pub parted_counts : (n : Name) (q : Revision) → is_some (of_revision (values_of_property x.props n) q) ≡ true → (is_some (of_revision (values_of_property old.props n) q) ≡ true) × ((sees pin.base q && is_committed ds pin.sweep old q) ≡ true)
   parted_counts n q h = let v = some_of _ (moved_some n q h) in let f = moved_from n q v.0 v.1 in (ap is_some f.1, f.0)
+
+  -- what a split writes is a copy of what the document had that it read, be it late
+  pub split_copies : (p : Path) → old.id ≡ id.Node p → (f : Former) → f.document ≡ old
+      → ((n : Name) (r : Revision) → is_some (of_revision (values_of_property old.props n) r) ≡ true → (sees pin.base r && is_committed ds pin.sweep old r) ≡ true → f.committed r ≡ true) → IsCopyOf p old.mod_count f x
+  split_copies p named f same counted = record {
+    named = x_named;
+    plain = ap (λ (e : Document). e.deleted) shape_x ∙ ((beside_all ps noted).deleted ∙ (noted_all (moved_roots ds pin old) begun).deleted);
+    committed = λ n r h. let v = some_of _ (moved_some n r h) in let m = moved_from n r v.0 v.1 in counted n r (ap is_some m.1) m.0;
+    entries = λ n r y h. ap (λ (d : Document). of_revision (values_of_property d.props n) r) same ∙ (moved_from n r y (sym (value_x n r) ∙ h)).1;
+    roots = λ n r h. root_place (of_revision x.commit_root r) (of_revision old.commit_root r) (root_x n r h) x old (ap main_of x_named ∙ sym (ap main_of named)) (ap path_of x_named ∙ sym (ap path_of named)) ∙ ap (λ (d : Document). commit_root_of d r) (sym same);
+  }
+    where
+      x_named : x.id ≡ id.Prev old.mod_count p
+      x_named = ap (λ (e : Document). e.id) shape_x ∙ ((beside_all ps noted).names ∙ ((noted_all (moved_roots ds pin old) begun).names ∙ ap (λ i. id.Prev old.mod_count (path_of i)) named))
 
   module _ (now : Documents) (c : Course) (p : Path) (at : KeepsAt now c p) (is : now (id.Node p) ≡ Some old) (number : e.number ≡ old.mod_count)
       (counted : (n : Name) (r : Revision) → is_some (of_revision (values_of_property old.props n) r) ≡ true → (sees pin.base r && is_committed ds pin.sweep old r) ≡ true → is_done c r ≡ true) where

@@ -9,3 +9,5 @@ pub mod Dropping
 pub mod Holding
 pub mod Readers
 pub mod From
+pub mod Formers
+pub mod Lookers

@@ -45,7 +45,11 @@ ghost use Rattle.core_keep.specs.From.{falling_from, course_from, AreSoundFrom, 
 ghost use Rattle.core_keep.specs.Garbage.{garbage_listed, is_garbage_document, pruning};
 ghost use Rattle.core_keep.specs.Holding.{Holding, HasRead, IsBelowAll, IsPairBelow, Leads};
 ghost use Rattle.core_keep.specs.Keeps.{edit_in, is_done, Course, IsCourse, IsDownward, IsHeldPair, Keeps};
-ghost use Rattle.core_keep.specs.Readers.{asked_too, look_on, GoesOn, Knows, Reads};
+ghost use Rattle.core_keep.specs.Readers.{gone_by, Reads, GoesOn, asked_too, look_on, look_too, Knows};
+ghost use Rattle.core_keep.specs.Formers.{AreFormers, Former, Formers, Grows, IsCopyOf, IsFollowed, IsFormer, IsShownIn};
+ghost use Rattle.core_keep.specs.Lookers.{Looks, LooksOn};
+ghost use Rattle.core_keep.specs.Standing.{all_at};
+ghost use Rattle.std.specs.Option.{option_map_or};
 ghost use Rattle.core_keep.specs.Splits.{previous_write, main_write, IsInOrder};
 ghost use Rattle.core_keep.specs.Steps.{IsSameBesides, IsChangeAt, IsMainAt, IsPruned, IsMoved, IsUnwanted, IsPreviousAt, IsUnlisted};
 ghost use Rattle.core_keep.specs.Journal.{is_bounded, is_swept, course_of, IsUsed, IsKeptWorld, IsHeld};
@@ -112,18 +116,24 @@ pub fn bounds_are_below()
 {}
 
 /// A reader that goes document by document, while others go on, reads the tree at its base: it begins with a copy of the
-/// node's document, asks for the previous documents that this lists, and then for commit roots.
+/// node's document, asks for the previous documents that this lists, and then for commit roots. What it finds may be a
+/// previous document that a slow split wrote again after another of its number was dropped: as long as it is a copy of what a
+/// former document had, and what the reader goes by shows that one.
 pub fn readers_go_on()
     ensures begins { (ds : Documents) (past : Past) (done : Progress) (v t : RevVec) (p : Path) (copy : Document) → IsKeptWorld ds past done → IsHeld past v t → ds (id.Node p) ≡ Some copy → Reads ds (course_of past) (sees v) (sees t) p copy (λ k. false) (λ k. ds (id.Prev k p)) }
     ensures asks { (ds : Documents) (c : Course) (v t : Sight) (p : Path) (copy : Document) (asked : ℕ → Bool) (look : ℕ → Option Document) → Reads ds c v t p copy asked look → (k : ℕ) → Reads ds c v t p copy (asked_too asked k) look }
-    ensures lasts { (ds now : Documents) (c later : Course) (v t : Sight) (p : Path) (copy : Document) (asked : ℕ → Bool) (look : ℕ → Option Document) → Reads ds c v t p copy asked look → GoesOn ds now c later v t p copy asked → Reads now later v t p copy asked (look_on asked look now p) }
+    ensures lasts { (ds now : Documents) (c later : Course) (v t : Sight) (p : Path) (copy : Document) (asked : ℕ → Bool) (look : ℕ → Option Document) → Reads ds c v t p copy asked look → (goes : GoesOn ds now c later v t p copy asked) → Reads now later v t p copy asked (look_on asked goes.stays look) }
+    ensures finds { (ds : Documents) (c : Course) (v t : Sight) (p : Path) (copy : Document) (asked : ℕ → Bool) (look : ℕ → Option Document) (k : ℕ) (f : Former) → Reads ds c v t p copy asked look → Fall c.commits → IsHeldPair c v t → IsFormer ds c p f → ((x : Document) → ds (id.Prev k p) ≡ Some x → IsCopyOf p k f x) → IsShownIn v f (gone_by copy look) → (look k ≡ ds (id.Prev k p)) ⊎ (look k ≡ None) → Reads ds c v t p copy (asked_too asked k) (look_too look k (ds (id.Prev k p))) }
+    ensures shows { (ds : Documents) (c : Course) (v t : Sight) (p : Path) (copy : Document) (f : Former) → IsHeldPair c v t → ds (id.Node p) ≡ Some copy → IsFollowed ds c p f → IsShownIn v f (gone_by copy (λ k. ds (id.Prev k p))) }
     ensures ends { (ds known : Documents) (past : Past) (v t : RevVec) (p : Path) (copy : Document) (asked : ℕ → Bool) (look : ℕ → Option Document) → IsTold past → IsInUse past v → Reads ds (course_of past) (sees v) (sees t) p copy asked look → Knows known (sees v) (sees t) p copy look → found_node known t v p ≡ node_at (tree_at None past v) p }
 {}
 
 /// A split keeps the world: its write of a previous document where there is none of its id, and then its update of the
-/// document with the number that it read, by which what moved goes and the previous document is listed.
+/// document with the number that it read, by which what moved goes and the previous document is listed. What it writes is a
+/// copy of what the document had that it read, be that a former one meanwhile.
 pub fn splits_move()
     ensures write { (ds now : Documents) (past : Past) (done : Progress) (p : Path) (k : ℕ) → IsKeptWorld ds past done → IsPreviousAt ds now p k → ds (id.Prev k p) ≡ None → IsKeptWorld now past done }
+    ensures copies { (read : Documents) (pin : Pin) (old : Document) (number : ℕ) (p : Path) (f : Former) → IsInOrder old → old.id ≡ id.Node p → f.document ≡ old → ((n : Name) (r : Revision) → IsTrue (is_some (of_revision (values_of_property old.props n) r)) → IsTrue (sees pin.base r && is_committed read pin.sweep old r) → IsTrue (f.committed r)) → IsCopyOf p old.mod_count f (after_changes None (previous_write read pin old) number) }
     ensures list { (read ds now : Documents) (past : Past) (done : Progress) (p : Path) (pin : Pin) (old : Document) (e : PrevEntry) (first second : ℕ) → IsKeptWorld ds past done → ds (id.Node p) ≡ Some old → IsInOrder old → e.number ≡ old.mod_count → ((n : Name) (r : Revision) → IsTrue (is_some (of_revision (values_of_property old.props n) r)) → IsTrue (sees pin.base r && is_committed read pin.sweep old r) → IsTrue (is_some (edit_of past r))) → ds (id.Prev e.number p) ≡ Some (after_changes None (previous_write read pin old) first) → IsMainAt ds now p (after_changes (Some old) (main_write read pin old e) second) → IsKeptWorld now past done }
 {}
 
@@ -135,13 +145,13 @@ pub fn collections_leave_marks()
 {}
 
 /// What others do between two steps of a reader lets it go on, where its pair is held: garbage that goes, what a split
-/// lists, a document of an absent node that goes, previous documents that nobody lists and that go, or that come and that
-/// the reader won't ask for, and what the journal tells more.
+/// lists, a document of an absent node that goes, previous documents that nobody lists and that go or come, and what the
+/// journal tells more.
 pub fn others_let_readers_go_on()
     ensures pruned { (ds now : Documents) (c : Course) (v t : Sight) (p : Path) (copy : Document) (asked : ℕ → Bool) (at : Path) (old d : Document) → Keeps ds c → IsCourse c → IsHeldPair c v t → ds (id.Node at) ≡ Some old → IsMainAt ds now at d → IsPruned ds c at old d → GoesOn ds now c c v t p copy asked }
     ensures moved { (ds now : Documents) (c : Course) (v t : Sight) (p : Path) (copy : Document) (asked : ℕ → Bool) (at : Path) (old d : Document) (e : PrevEntry) (x : Document) → Keeps ds c → IsCourse c → IsHeldPair c v t → ds (id.Node at) ≡ Some old → ds (id.Prev e.number at) ≡ Some x → IsMainAt ds now at d → IsMoved c at old d e x → GoesOn ds now c c v t p copy asked }
     ensures removed { (ds now : Documents) (c : Course) (v t : Sight) (p : Path) (copy : Document) (asked : ℕ → Bool) (at : Path) (old : Document) → Keeps ds c → IsCourse c → IsHeldPair c v t → ds (id.Node at) ≡ Some old → IsChangeAt ds now at → now (id.Node at) ≡ None → ((k : ℕ) → now (id.Prev k at) ≡ ds (id.Prev k at)) → IsUnwanted c at old → GoesOn ds now c c v t p copy asked }
-    ensures previous { (ds now : Documents) (c : Course) (v t : Sight) (p : Path) (copy : Document) (asked : ℕ → Bool) (at : Path) (k : ℕ) → Keeps ds c → IsCourse c → IsHeldPair c v t → IsPreviousAt ds now at k → IsUnlisted ds at k → (now (id.Prev k at) ≡ None) ⊎ ((e : PrevEntry) → IsIn e copy.prev → IsFalse (asked e.number) → p ≡ at → e.number ≡ k → ⊥) → GoesOn ds now c c v t p copy asked }
+    ensures previous { (ds now : Documents) (c : Course) (v t : Sight) (p : Path) (copy : Document) (asked : ℕ → Bool) (at : Path) (k : ℕ) → Keeps ds c → IsCourse c → IsHeldPair c v t → IsPreviousAt ds now at k → IsUnlisted ds at k → GoesOn ds now c c v t p copy asked }
     ensures besides { (ds now : Documents) (c : Course) (v t : Sight) (p : Path) (copy : Document) (asked : ℕ → Bool) (at : Path) (d : Document) (own : Sight) → Keeps ds c → IsCourse c → IsHeldPair c v t → IsMainAt ds now at d → ((q : Revision) → IsTrue (own q) → (edit_in c q ≡ None) × IsTrue (c.flying q) × IsFalse (c.bound q)) → ((q : Revision) → IsTrue (own q) → IsFalse (v q)) → IsSameBesides c own at (ds (id.Node at)) d → GoesOn ds now c c v t p copy asked }
     ensures told { (ds : Documents) (c later : Course) (v t : Sight) (p : Path) (copy : Document) (asked : ℕ → Bool) → Fall c.commits → Fall later.commits → later.tree ≡ c.tree → ((q : Revision) → IsTrue (v q) → edit_in later q ≡ edit_in c q) → ((r : Revision) → IsTrue (is_done c r) → IsTrue (is_done later r)) → GoesOn ds ds c later v t p copy asked }
 {}
@@ -150,4 +160,21 @@ pub fn others_let_readers_go_on()
 /// see first.
 pub fn kept_documents_with_a_start_mean_the_tree()
     ensures { (start : Start) (past : Past) (base : Revision → Sight) (ds : Documents) (v t : RevVec) (p : Path) → IsFirst start.tree → AreSoundFrom start.tree base (falling_from past) → Closed base (sees v) (falling_from past) → Keeps ds (course_from start past) → IsCourse (course_from start past) → IsDownward (course_from start past) (course_from start past).bound → IsHeldPair (course_from start past) (sees v) (sees t) → found_node ds t v p ≡ node_at (tree_at (Some start) past v) p }
+{}
+
+/// A committer that looks at the document as it was before its write, and then at the previous documents that this listed,
+/// one after another, while others go on, finds of what its base doesn't see just what stood at its write: what was dropped
+/// meanwhile had nothing of that, and what a slow split wrote had stood. A step of others lets it look on: a write, an undo,
+/// marks and notes, the last write, what a split lists, garbage that goes, a document of an absent node, and previous
+/// documents that nobody lists.
+pub fn committers_look_on()
+    ensures begins { (ds : Documents) (c : Course) (formers : Formers) (unseen : Sight) (p : Path) (copy : Document) → Keeps ds c → AreFormers ds c formers → ((o : Revision) → IsTrue (unseen o) → IsFalse (c.bound o)) → ds (id.Node p) ≡ Some copy → Looks ds formers unseen p (all_at ds p) copy (λ k. false) (λ k. ds (id.Prev k p)) }
+    ensures lasts { (ds now : Documents) (formers more : Formers) (unseen : Sight) (p : Path) (stood : List Document) (copy : Document) (asked : ℕ → Bool) (look : ℕ → Option Document) → Grows formers more → Looks ds formers unseen p stood copy asked look → (goes : LooksOn ds now unseen p copy asked) → Looks now more unseen p stood copy asked (look_on asked goes.stays look) }
+    ensures finds { (ds : Documents) (formers : Formers) (unseen : Sight) (p : Path) (stood : List Document) (copy : Document) (asked : ℕ → Bool) (look : ℕ → Option Document) (e : PrevEntry) → Looks ds formers unseen p stood copy asked look → IsIn e copy.prev → IsFalse (asked e.number) → ((f : Former) (x : Document) → formers p e.number ≡ Some f → ds (id.Prev e.number p) ≡ Some x → IsCopyOf p e.number f x) → Looks ds formers unseen p stood copy (asked_too asked e.number) (look_too look e.number (ds (id.Prev e.number p))) }
+    ensures changed { (ds now : Documents) (unseen : Sight) (p : Path) (copy : Document) (asked : ℕ → Bool) (at : Path) (d : Document) → IsMainAt ds now at d → d.prev ≡ option_map_or (λ d. d.prev) (ds (id.Node at)) [] → LooksOn ds now unseen p copy asked }
+    ensures moved { (ds now : Documents) (unseen : Sight) (p : Path) (copy : Document) (asked : ℕ → Bool) (at : Path) (old d : Document) (e : PrevEntry) → ds (id.Node at) ≡ Some old → IsMainAt ds now at d → d.prev ≡ e ∷ old.prev → LooksOn ds now unseen p copy asked }
+    ensures pruned { (ds now : Documents) (c : Course) (unseen : Sight) (p : Path) (copy : Document) (asked : ℕ → Bool) (at : Path) (old d : Document) → ((o : Revision) → IsTrue (unseen o) → IsFalse (c.bound o)) → ds (id.Node at) ≡ Some old → IsMainAt ds now at d → IsPruned ds c at old d → LooksOn ds now unseen p copy asked }
+    ensures removed { (ds now : Documents) (c : Course) (unseen : Sight) (p : Path) (copy : Document) (asked : ℕ → Bool) (at : Path) (old : Document) → Keeps ds c → IsCourse c → IsDownward c c.bound → ((o : Revision) → IsTrue (unseen o) → IsFalse (c.bound o)) → ds (id.Node at) ≡ Some old → IsChangeAt ds now at → ((k : ℕ) (q : Path) → now (id.Prev k q) ≡ ds (id.Prev k q)) → IsUnwanted c at old → LooksOn ds now unseen p copy asked }
+    ensures previous { (ds now : Documents) (unseen : Sight) (p : Path) (copy : Document) (asked : ℕ → Bool) (at : Path) (k : ℕ) → IsPreviousAt ds now at k → IsUnlisted ds at k → LooksOn ds now unseen p copy asked }
+    ensures others { (ds now : Documents) (unseen : Sight) (p : Path) (copy : Document) (asked : ℕ → Bool) → ((q : Path) → now (id.Node q) ≡ ds (id.Node q)) → ((k : ℕ) (q : Path) → now (id.Prev k q) ≡ ds (id.Prev k q)) → LooksOn ds now unseen p copy asked }
 {}

@@ -5,7 +5,7 @@ use Rattle.std.specs.List.Sorted.{IsStrictlySortedBy}
 use Rattle.std.specs.Map.{keys_of}
 use Rattle.std.specs.Ordering.{nat_cmp}
 use Rattle.std.proofs.lemmas.Bool.Decides.{nat_tests}
-use Rattle.std.specs.Option.{IsSomeAnd}
+use Rattle.std.specs.Option.{IsSomeAnd, option_map_or}
 use Rattle.jr_rev.specs.declared.revision.Revision.{Revision}
 use Rattle.jr_rev.specs.declared.vector.Pin.{Pin}
 use Rattle.jr_rev.specs.declared.vector.RevVec.{RevVec}
@@ -20,7 +20,7 @@ use Rattle.oak_machine.specs.Commits.{draw_of, is_drawn, is_ended}
 use Rattle.oak_machine.specs.Heads.{head_of, last_draw_time, last_in, local}
 use Rattle.oak_machine.specs.Laws.{Says, Starts}
 use Rattle.oak_machine.specs.Runs.{AreNodes, IsNode, IsRunOf}
-use Rattle.oak_machine.specs.Sessions.{has_left, has_login, is_recovered, is_stopped}
+use Rattle.oak_machine.specs.Sessions.{has_left, has_login, is_recovered, is_stopped, is_stopped_under}
 use Rattle.oak_node.specs.declared.pending.Note.{Note}
 use Rattle.oak_node.specs.Heads.{IsInFlight, finished, greatest_time, next_draw, with_draw}
 use Rattle.oak_node.specs.Memory.{NodeState, begun, own_entry}
@@ -39,7 +39,7 @@ use Rattle.core_heads.proofs.Runs.{fresh_run, sound_run}
 use Rattle.core_heads.proofs.Steps.{later_draw, later_end}
 use Rattle.core_nodes.specs.Nodes.{ArePinsOf, IsMemoryOf, cursor_owner, is_of_node, leaves_memory, without_session}
 use Rattle.core_nodes.proofs.Memories.{draw_apart, draw_kept, end_apart, end_kept, head_entry, in_apart, own_is}
-use Rattle.core_nodes.proofs.Pasts.{ended_was_drawn, not_true}
+use Rattle.core_nodes.proofs.Pasts.{ended_was_drawn, not_true, running_alive}
 use Rattle.core_nodes.proofs.Pins.{end_base, left_had_login, login_base, pins_put, pins_taken, refresh_base}
 use Rattle.core_nodes.proofs.Waits.{flying_is}
 
@@ -247,15 +247,21 @@ module _ (starts : Starts) (says : Says) (clusters : ℕ) (sessions : List ℕ) 
     head_for : (v : RevVec) (j : ℕ) → slice_get sessions t ≡ Some k → slice_get sessions t ≡ Some j → v ≡ head_of clusters None past j → v ≡ head_of clusters None past k
     head_for v j of on head = head ∙ ap (head_of clusters None past) (ap (λ o. unwrap_or o j) (sym on ∙ of))
 
+    -- the node of a session that goes on isn't recovered
+    alive : IsRunOf starts says clusters sessions None past → slice_get sessions t ≡ Some k → is_stopped_under sessions past t ≡ false → is_recovered past k ≡ false
+    alive run of goes = running_alive starts says clusters sessions past run k (sym (ap (λ o. option_map_or (is_stopped past) o false) of) ∙ goes)
+
     pub login_run : (v : RevVec) → IsRunOf starts says clusters sessions None (event.Login t v ∷ past) → slice_get sessions t ≡ Some k → ArePinsOf sessions (event.Login t v ∷ past) k (with_pin s t (pin_now s))
     login_run v run of =
-        pins_put sessions past k s are (event.Login t v) t (pin_now s) refl (λ q. refl) of
+        let here : is_recovered past k ≡ false = alive run.1 of run.0.running in
+        pins_put sessions past k s are (event.Login t v) t (pin_now s) here here refl (λ q. refl) of
         (login_base past t v (stays past t run.1 run.0.first) ∙ ap Some (head_for v run.0.head.0 of run.0.head.1 run.0.head.2 ∙ sym is.head))
         is.sweep
 
     pub refresh_run : (v : RevVec) → IsRunOf starts says clusters sessions None (event.Refresh t v ∷ past) → slice_get sessions t ≡ Some k → has_left past t ≡ false → ArePinsOf sessions (event.Refresh t v ∷ past) k (with_pin s t (pin_now s))
     refresh_run v run of here =
-        pins_put sessions past k s are (event.Refresh t v) t (pin_now s) refl (λ q. refl) of
+        let kept : is_recovered past k ≡ false = alive run.1 of run.0.running in
+        pins_put sessions past k s are (event.Refresh t v) t (pin_now s) kept kept refl (λ q. refl) of
         (refresh_base past t v run.0.login here ∙ ap Some (head_for v run.0.head.0 of run.0.head.1 run.0.head.2 ∙ sym is.head))
         is.sweep
 

@@ -4,6 +4,7 @@ pub mod Lists
 pub mod Memories
 pub mod Pasts
 pub mod Pins
+pub mod Recovering
 mod Rows
 pub mod Times
 pub mod Vectors

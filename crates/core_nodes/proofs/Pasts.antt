@@ -1,5 +1,6 @@
 -- Draws and ends of a run, and the local revisions that they leave.
 use Rattle.std.proofs.Common.{◌≡◌, ℕ, ◌≤◌, Bool, true, false, cond, not, ◌&&◌, ◌||◌, ◌⊎◌, inl, inr, Some, List, [], ◌∷◌, reverse, is_some, refl, sym, ap, subst, ◌∙◌, arith, None}
+use Rattle.std.specs.Prelude.{◌==◌}
 use mathlib.Core.Bool.{false≢true}
 use Rattle.jr_rev.specs.declared.revision.Revision.{Revision}
 use Rattle.jr_rev.specs.Revisions.{is_at_most, is_before, is_same}
@@ -11,11 +12,12 @@ use Rattle.oak_machine.specs.Commits.{draw_of, is_drawn, is_ended, is_in_flight}
 use Rattle.oak_machine.specs.Heads.{draws_by, last_draw_time, local}
 use Rattle.oak_machine.specs.Laws.{Says, Starts}
 use Rattle.oak_machine.specs.Runs.{AreNodes, IsRunOf}
+use Rattle.oak_machine.specs.Sessions.{is_recovered, is_stopped}
 use Rattle.core_read.proofs.Latest.{at_most_both, at_most_trans, before_itself, not_before, same_revision}
 use Rattle.core_heads.specs.Sound.{IsIn, IsSound}
 use Rattle.core_heads.proofs.Later.{IsLater, timed}
 use Rattle.core_heads.proofs.Locals.{IsSettledDraw, draws_in, in_draws, local_grows, local_is}
-use Rattle.core_heads.proofs.Orders.{and_both, and_true, before_not, filter_in, in_filter, not_both}
+use Rattle.core_heads.proofs.Orders.{and_both, and_true, before_not, filter_in, in_filter, not_both, same_number}
 use Rattle.core_nodes.specs.Nodes.{revisions_above}
 use Rattle.core_nodes.proofs.Lists.{in_reverse, reverse_in}
 
@@ -57,6 +59,31 @@ ended_was_drawn starts says clusters sessions (event.End q ∷ past) run r h = b
     by rest true e h = subst (λ (x : Revision). is_drawn past x ≡ true) (sym (same_revision r q e)) (and_both (is_drawn past q) _ run.0).0
     by rest false e h = rest h
 ended_was_drawn starts says clusters sessions (e ∷ past) run r h = ended_was_drawn starts says clusters sessions past run.1 r h
+
+-- ---- stops
+
+-- who was recovered was stopped
+pub recovered_stopped : (starts : Starts) (says : Says) (clusters : ℕ) (sessions : List ℕ) (past : Past) → IsRunOf starts says clusters sessions None past → (k : ℕ) → is_recovered past k ≡ true → is_stopped past k ≡ true
+recovered_stopped starts says clusters sessions [] run k h = absurd (false≢true h)
+recovered_stopped starts says clusters sessions (event.Recover m ∷ past) run k h = by (recovered_stopped starts says clusters sessions past run.1 k) (m == k) refl h
+  where
+    by : (is_recovered past k ≡ true → is_stopped past k ≡ true) → (b : Bool) → (m == k) ≡ b → (b || is_recovered past k) ≡ true → is_stopped past k ≡ true
+    by rest true e i = subst (λ (j : ℕ). is_stopped past j ≡ true) (same_number m k e) run.0.0
+    by rest false e i = rest i
+recovered_stopped starts says clusters sessions (event.Stop m ∷ past) run k h = by (m == k) (recovered_stopped starts says clusters sessions past run.1 k h)
+  where
+    by : (b : Bool) → is_stopped past k ≡ true → (b || is_stopped past k) ≡ true
+    by true i = refl
+    by false i = i
+recovered_stopped starts says clusters sessions (e ∷ past) run k h = recovered_stopped starts says clusters sessions past run.1 k h
+
+-- a node that wasn't stopped wasn't recovered
+pub running_alive : (starts : Starts) (says : Says) (clusters : ℕ) (sessions : List ℕ) (past : Past) → IsRunOf starts says clusters sessions None past → (k : ℕ) → is_stopped past k ≡ false → is_recovered past k ≡ false
+running_alive starts says clusters sessions past run k goes = by (is_recovered past k) refl
+  where
+    by : (b : Bool) → is_recovered past k ≡ b → b ≡ false
+    by true h = not_both (is_stopped past k) (recovered_stopped starts says clusters sessions past run k h) goes
+    by false h = refl
 
 -- ---- local revisions
 

@@ -19,12 +19,12 @@ use Rattle.oak_machine.specs.declared.event.StepKind.TheVariants as kind
 use Rattle.oak_machine.specs.History.{Past}
 use Rattle.oak_machine.specs.Laws.{Says, Starts}
 use Rattle.oak_machine.specs.Runs.{IsRunOf}
-use Rattle.oak_machine.specs.Sessions.{has_left, has_login}
+use Rattle.oak_machine.specs.Sessions.{has_left, has_login, is_recovered, is_recovery_of}
 use Rattle.oak_node.specs.Memory.{NodeState}
 use Rattle.oak_node.specs.Pins.{pin_of, with_pin, without_pin}
 use Rattle.core_heads.proofs.Orders.{not_both, same_itself, same_number}
 use Rattle.oak_node.proofs.Places.{remove_sorted}
-use Rattle.core_nodes.specs.Nodes.{ArePinsOf, IsCursorAt, IsPair, IsPinnedAt, base_of_pin, cursor_at, cursor_base, cursor_owner, is_of_node, leaves_pins, moved_pin, owner_base, pinned_at, session_base, without_session}
+use Rattle.core_nodes.specs.Nodes.{ArePinsOf, IsCursorAt, IsPair, IsPinnedAt, base_of_pin, cursor_at, cursor_base, cursor_owner, is_of_node, kept_base, leaves_memory, leaves_pins, moved_pin, owner_base, pinned_at, session_base, without_session}
 use Rattle.core_nodes.proofs.Pasts.{not_true}
 
 -- ---- entries by their numbers
@@ -142,6 +142,15 @@ and_parts true true h = (refl, refl)
 and_parts true false h = absurd (false≢true h)
 and_parts false b h = absurd (false≢true h)
 
+-- what leaves the memory of a node doesn't recover it
+no_recovery : (k : ℕ) (e : Event) → leaves_memory k e ≡ true → is_recovery_of k e ≡ false
+no_recovery k (event.Recover m) h = not_true (m == k) h
+no_recovery k e h = refl
+
+-- an event that leaves the memory of a node, and moves no pin of its sessions
+pub leaves_both : (sessions : List ℕ) (k : ℕ) (e : Event) → leaves_memory k e ≡ true → option_map_or (λ s. not (is_of_node sessions k s)) (moved_pin e) true ≡ true → leaves_pins sessions k e ≡ true
+leaves_both sessions k e h i = ap (λ b. not b && option_map_or (λ s. not (is_of_node sessions k s)) (moved_pin e) true) (no_recovery k e h) ∙ i
+
 module _ (sessions : List ℕ) (past : Past) (k : ℕ) where
   -- an owner that is a session of the node
   pub session_owner : (s : ℕ) → slice_get sessions s ≡ Some k → owner_base sessions past k s ≡ session_base past s
@@ -175,14 +184,38 @@ module _ (sessions : List ℕ) (past : Past) (k : ℕ) where
       whole true p q = p
       whole false p q = q
 
+  -- a node that isn't recovered keeps what its owners have, and a recovered one nothing
+  pub alive_base : is_recovered past k ≡ false → (owner : ℕ) → kept_base sessions past k owner ≡ owner_base sessions past k owner
+  alive_base h owner = ap (λ b. cond b None (owner_base sessions past k owner)) h
+
+  pub gone_base : is_recovered past k ≡ true → (owner : ℕ) → kept_base sessions past k owner ≡ None
+  gone_base h owner = ap (λ b. cond b None (owner_base sessions past k owner)) h
+
 module _ (sessions : List ℕ) (past : Past) (k : ℕ) (s : NodeState) (are : ArePinsOf sessions past k s) where
+  -- whose owner has a pin isn't recovered
+  pub pinned_alive : (owner : ℕ) (pin : Pin) → pin_of s owner ≡ Some pin → is_recovered past k ≡ false
+  pinned_alive owner pin h = by (is_recovered past k) refl
+    where
+      by : (b : Bool) → is_recovered past k ≡ b → b ≡ false
+      by true e = absurd (false≢true (ap is_some (sym (gone_base sessions past k e owner) ∙ (sym (are.bases owner) ∙ ap base_of_pin h))))
+      by false e = refl
+
   -- an event that moves no pin of the node
   pub pins_kept : (e : Event) → leaves_pins sessions k e ≡ true → ArePinsOf sessions (e ∷ past) k s
-  pins_kept e h = record {
-    bases = λ owner. are.bases owner ∙ owner_left sessions past k e owner (λ of. base_left past e owner (apart owner (moved_pin e) h of)) (λ high of. cursor_left past e (owner - 64) (apart (owner - 64) (moved_pin e) h of));
+  pins_kept e leaves = record {
+    bases = λ owner.
+        are.bases owner
+        ∙ (ap (cond (is_recovered past k) None) (owner_left sessions past k e owner (λ of. base_left past e owner (apart owner (moved_pin e) h of)) (λ high of. cursor_left past e (owner - 64) (apart (owner - 64) (moved_pin e) h of)))
+        ∙ sym (ap (λ b. cond (b || is_recovered past k) None (owner_base sessions (e ∷ past) k owner)) (not_true (is_recovery_of k e) parts.0)));
     pairs = are.pairs;
   }
     where
+      parts : (not (is_recovery_of k e) ≡ true) × (option_map_or (λ t. not (is_of_node sessions k t)) (moved_pin e) true ≡ true)
+      parts = and_parts (not (is_recovery_of k e)) _ leaves
+
+      h : option_map_or (λ t. not (is_of_node sessions k t)) (moved_pin e) true ≡ true
+      h = parts.1
+
       apart : (owner : ℕ) (o : Option ℕ) → option_map_or (λ t. not (is_of_node sessions k t)) o true ≡ true → is_of_node sessions k owner ≡ true → option_map_or (λ t. t == owner) o false ≡ false
       apart owner None h of = refl
       apart owner (Some t) h of = at (t == owner) refl
@@ -200,42 +233,59 @@ module _ (sessions : List ℕ) (past : Past) (k : ℕ) (s : NodeState) (are : Ar
   cursor_beside e t moved owner other = cursor_left past e owner (ap (λ o. option_map_or (λ n. n == owner) o false) moved ∙ other)
 
   -- an owner is pinned at what the past has for it, and the others are as they were
-  pub owner_put : (e : Event) (t : ℕ) (pin : Pin) → owner_base sessions (e ∷ past) k t ≡ Some pin.base → ((owner : ℕ) → (t == owner) ≡ false → owner_base sessions past k owner ≡ owner_base sessions (e ∷ past) k owner) → IsPair pin.base pin.sweep → ArePinsOf sessions (e ∷ past) k (with_pin s t pin)
-  owner_put e t pin is left pair = record { bases = λ owner. by owner (t == owner) refl; pairs = λ owner x h. pairs owner x h (t == owner) refl }
+  pub owner_put : (e : Event) (t : ℕ) (pin : Pin) → is_recovered past k ≡ false → is_recovered (e ∷ past) k ≡ false → owner_base sessions (e ∷ past) k t ≡ Some pin.base → ((owner : ℕ) → (t == owner) ≡ false → owner_base sessions past k owner ≡ owner_base sessions (e ∷ past) k owner) → IsPair pin.base pin.sweep → ArePinsOf sessions (e ∷ past) k (with_pin s t pin)
+  owner_put e t pin was now is left pair = record { bases = λ owner. by owner (t == owner) refl; pairs = λ owner x h. pairs owner x h (t == owner) refl }
     where
-      there : base_of_pin (pin_of (with_pin s t pin) t) ≡ owner_base sessions (e ∷ past) k t
-      there = ap base_of_pin (lookup_put t pin s.pins) ∙ sym is
+      there : base_of_pin (pin_of (with_pin s t pin) t) ≡ kept_base sessions (e ∷ past) k t
+      there = ap base_of_pin (lookup_put t pin s.pins) ∙ sym (alive_base sessions (e ∷ past) k now t ∙ is)
 
-      by : (owner : ℕ) (b : Bool) → (t == owner) ≡ b → base_of_pin (pin_of (with_pin s t pin) owner) ≡ owner_base sessions (e ∷ past) k owner
-      by owner true same = subst (λ (n : ℕ). base_of_pin (pin_of (with_pin s t pin) n) ≡ owner_base sessions (e ∷ past) k n) (same_number t owner same) there
-      by owner false other = ap base_of_pin (lookup_beside t pin s.pins owner other) ∙ (are.bases owner ∙ left owner other)
+      by : (owner : ℕ) (b : Bool) → (t == owner) ≡ b → base_of_pin (pin_of (with_pin s t pin) owner) ≡ kept_base sessions (e ∷ past) k owner
+      by owner true same = subst (λ (n : ℕ). base_of_pin (pin_of (with_pin s t pin) n) ≡ kept_base sessions (e ∷ past) k n) (same_number t owner same) there
+      by owner false other =
+          ap base_of_pin (lookup_beside t pin s.pins owner other)
+          ∙ (are.bases owner
+          ∙ (alive_base sessions past k was owner
+          ∙ (left owner other
+          ∙ sym (alive_base sessions (e ∷ past) k now owner))))
 
       pairs : (owner : ℕ) (x : Pin) → pin_of (with_pin s t pin) owner ≡ Some x → (b : Bool) → (t == owner) ≡ b → IsPair x.base x.sweep
       pairs owner x h true same = same_pin pin x pin (sym (lookup_put t pin s.pins) ∙ (ap (λ n. pin_of (with_pin s t pin) n) (same_number t owner same) ∙ h)) pair
       pairs owner x h false other = are.pairs owner x (sym (lookup_beside t pin s.pins owner other) ∙ h)
 
   -- a session of the node is pinned at what the past has for it
-  pub pins_put : (e : Event) (t : ℕ) (pin : Pin) → moved_pin e ≡ Some t → ((q : ℕ) → cursor_at (e ∷ past) q ≡ cursor_at past q) → slice_get sessions t ≡ Some k → session_base (e ∷ past) t ≡ Some pin.base → IsPair pin.base pin.sweep → ArePinsOf sessions (e ∷ past) k (with_pin s t pin)
-  pins_put e t pin moved cursors of is pair = owner_put e t pin (session_owner sessions (e ∷ past) k t of ∙ is) (λ owner other. owner_left sessions past k e owner (λ on. base_beside e t moved owner other) (λ high on. cursors (owner - 64))) pair
+  pub pins_put : (e : Event) (t : ℕ) (pin : Pin) → is_recovered past k ≡ false → is_recovered (e ∷ past) k ≡ false → moved_pin e ≡ Some t → ((q : ℕ) → cursor_at (e ∷ past) q ≡ cursor_at past q) → slice_get sessions t ≡ Some k → session_base (e ∷ past) t ≡ Some pin.base → IsPair pin.base pin.sweep → ArePinsOf sessions (e ∷ past) k (with_pin s t pin)
+  pins_put e t pin was now moved cursors of is pair = owner_put e t pin was now (session_owner sessions (e ∷ past) k t of ∙ is) (λ owner other. owner_left sessions past k e owner (λ on. base_beside e t moved owner other) (λ high on. cursors (owner - 64))) pair
 
   -- a session of the node pins its cursor at its own pin
   pub cursor_put : (t : ℕ) (pin : Pin) → slice_get sessions t ≡ Some k → slice_get sessions (cursor_owner t) ≡ None → pin_of s t ≡ Some pin → ArePinsOf sessions (event.Went t kind.Pin ∷ past) k (with_pin s (cursor_owner t) pin)
-  cursor_put t pin of none has = owner_put (event.Went t kind.Pin) (cursor_owner t) pin here (λ owner other. owner_left sessions past k (event.Went t kind.Pin) owner (λ on. refl) (λ high on. cursor_beside (event.Went t kind.Pin) t refl (owner - 64) (other_cursor owner t high other))) (are.pairs t pin has)
+  cursor_put t pin of none has = owner_put (event.Went t kind.Pin) (cursor_owner t) pin alive alive here (λ owner other. owner_left sessions past k (event.Went t kind.Pin) owner (λ on. refl) (λ high on. cursor_beside (event.Went t kind.Pin) t refl (owner - 64) (other_cursor owner t high other))) (are.pairs t pin has)
     where
+      alive : is_recovered past k ≡ false
+      alive = pinned_alive t pin has
+
       here : owner_base sessions (event.Went t kind.Pin ∷ past) k (cursor_owner t) ≡ Some pin.base
       here =
           cursor_owned sessions (event.Went t kind.Pin ∷ past) k t of none
           ∙ (ap (λ b. cond b (session_base past t) (cursor_at past t)) (same_itself t)
           ∙ (sym (session_owner sessions past k t of)
+          ∙ (sym (alive_base sessions past k alive t)
           ∙ (sym (are.bases t)
-          ∙ ap base_of_pin has)))
+          ∙ ap base_of_pin has))))
 
   -- a session has no pin any more, nor has its cursor
   pub pins_taken : (t : ℕ) → IsStrictlySortedBy nat_cmp (keys_of s.pins) → slice_get sessions t ≡ Some k → slice_get sessions (cursor_owner t) ≡ None → session_base (event.Went t kind.End ∷ past) t ≡ None → ArePinsOf sessions (event.Went t kind.End ∷ past) k (without_session s t)
   pins_taken t sorted of none is = record { bases = λ owner. by owner (cursor_owner t == owner) refl (t == owner) refl; pairs = λ owner x h. pairs owner x h (cursor_owner t == owner) refl (t == owner) refl }
     where
-      cursor_none : owner_base sessions (event.Went t kind.End ∷ past) k (cursor_owner t) ≡ None
-      cursor_none = cursor_owned sessions (event.Went t kind.End ∷ past) k t of none ∙ ap (λ b. cond b None (cursor_at past t)) (same_itself t)
+      -- who has none keeps none
+      none_kept : (o : Option RevVec) → o ≡ None → (b : Bool) → cond b None o ≡ None
+      none_kept o h true = refl
+      none_kept o h false = h
+
+      cursor_none : kept_base sessions (event.Went t kind.End ∷ past) k (cursor_owner t) ≡ None
+      cursor_none = none_kept _ (cursor_owned sessions (event.Went t kind.End ∷ past) k t of none ∙ ap (λ b. cond b None (cursor_at past t)) (same_itself t)) (is_recovered past k)
+
+      session_none : kept_base sessions (event.Went t kind.End ∷ past) k t ≡ None
+      session_none = none_kept _ (session_owner sessions (event.Went t kind.End ∷ past) k t of ∙ is) (is_recovered past k)
 
       at_cursor : pin_of (without_session s t) (cursor_owner t) ≡ None
       at_cursor = lookup_taken (cursor_owner t) (without_pin s t).pins (remove_sorted t s.pins sorted)
@@ -249,10 +299,13 @@ module _ (sessions : List ℕ) (past : Past) (k : ℕ) (s : NodeState) (are : Ar
       at_other : (owner : ℕ) → (cursor_owner t == owner) ≡ false → (t == owner) ≡ false → pin_of (without_session s t) owner ≡ pin_of s owner
       at_other owner far other = lookup_left (cursor_owner t) (without_pin s t).pins owner far ∙ lookup_left t s.pins owner other
 
-      by : (owner : ℕ) (a : Bool) → (cursor_owner t == owner) ≡ a → (b : Bool) → (t == owner) ≡ b → base_of_pin (pin_of (without_session s t) owner) ≡ owner_base sessions (event.Went t kind.End ∷ past) k owner
-      by owner true same b other = subst (λ (n : ℕ). base_of_pin (pin_of (without_session s t) n) ≡ owner_base sessions (event.Went t kind.End ∷ past) k n) (same_number (cursor_owner t) owner same) (ap base_of_pin at_cursor ∙ sym cursor_none)
-      by owner false far true same = subst (λ (n : ℕ). base_of_pin (pin_of (without_session s t) n) ≡ owner_base sessions (event.Went t kind.End ∷ past) k n) (same_number t owner same) (ap base_of_pin at_session ∙ sym (session_owner sessions (event.Went t kind.End ∷ past) k t of ∙ is))
-      by owner false far false other = ap base_of_pin (at_other owner far other) ∙ (are.bases owner ∙ owner_left sessions past k (event.Went t kind.End) owner (λ on. base_beside (event.Went t kind.End) t refl owner other) (λ high on. cursor_beside (event.Went t kind.End) t refl (owner - 64) (other_cursor owner t high far)))
+      by : (owner : ℕ) (a : Bool) → (cursor_owner t == owner) ≡ a → (b : Bool) → (t == owner) ≡ b → base_of_pin (pin_of (without_session s t) owner) ≡ kept_base sessions (event.Went t kind.End ∷ past) k owner
+      by owner true same b other = subst (λ (n : ℕ). base_of_pin (pin_of (without_session s t) n) ≡ kept_base sessions (event.Went t kind.End ∷ past) k n) (same_number (cursor_owner t) owner same) (ap base_of_pin at_cursor ∙ sym cursor_none)
+      by owner false far true same = subst (λ (n : ℕ). base_of_pin (pin_of (without_session s t) n) ≡ kept_base sessions (event.Went t kind.End ∷ past) k n) (same_number t owner same) (ap base_of_pin at_session ∙ sym session_none)
+      by owner false far false other =
+          ap base_of_pin (at_other owner far other)
+          ∙ (are.bases owner
+          ∙ ap (cond (is_recovered past k) None) (owner_left sessions past k (event.Went t kind.End) owner (λ on. base_beside (event.Went t kind.End) t refl owner other) (λ high on. cursor_beside (event.Went t kind.End) t refl (owner - 64) (other_cursor owner t high far))))
 
       no_pair : (x : Pin) → None ≡ Some x → IsPair x.base x.sweep
       no_pair x h = absurd (false≢true (ap is_some h))
@@ -288,14 +341,17 @@ module _ (past : Past) where
 module _ (sessions : List ℕ) (past : Past) (k : ℕ) (s : NodeState) (are : ArePinsOf sessions past k s) (owner : ℕ) where
   -- whoever has a pin is a session that has come and not left, or the cursor of a session
   pub pinned : (pin : Pin) → pin_of s owner ≡ Some pin → IsPinnedAt sessions past k owner pin.base ⊎ IsCursorAt sessions past k owner pin.base
-  pinned pin h = whole (slice_get sessions owner) refl (sym (are.bases owner) ∙ ap base_of_pin h)
+  pinned pin h = whole (slice_get sessions owner) refl (sym (alive_base sessions past k alive owner) ∙ (sym (are.bases owner) ∙ ap base_of_pin h))
     where
+      alive : is_recovered past k ≡ false
+      alive = pinned_alive sessions past k s are owner pin h
+
       none : (c : Bool) → cond {A = Option RevVec} c None None ≡ Some pin.base → ⊥
       none true h = false≢true (ap is_some h)
       none false h = false≢true (ap is_some h)
 
       at : (m : ℕ) (v : RevVec) → slice_get sessions owner ≡ Some m → has_login past owner ≡ true → has_left past owner ≡ false → pinned_at past owner ≡ Some v → (c : Bool) → (m == k) ≡ c → cond c (Some v) None ≡ Some pin.base → IsPinnedAt sessions past k owner pin.base
-      at m v of login stays base true same h = record { node = of ∙ ap Some (same_number m k same); login = login; stays = stays; base = base ∙ h }
+      at m v of login stays base true same h = record { kept = alive; node = of ∙ ap Some (same_number m k same); login = login; stays = stays; base = base ∙ h }
       at m v of login stays base false same h = absurd (false≢true (ap is_some h))
 
       by : (m : ℕ) → slice_get sessions owner ≡ Some m → (a : Bool) → has_login past owner ≡ a → (b : Bool) → has_left past owner ≡ b → (w : Option RevVec) → pinned_at past owner ≡ w → cond (m == k) (cond (a && not b) w None) None ≡ Some pin.base → IsPinnedAt sessions past k owner pin.base
@@ -311,7 +367,7 @@ module _ (sessions : List ℕ) (past : Past) (k : ℕ) (s : NodeState) (are : Ar
       cursor : (b : Bool) → (nat_le 64 owner && is_of_node sessions k (owner - 64)) ≡ b → cond b (cursor_at past (owner - 64)) None ≡ Some pin.base → IsCursorAt sessions past k owner pin.base
       cursor true e h =
           let p = and_parts (nat_le 64 owner) (is_of_node sessions k (owner - 64)) e in
-          record { session = owner - 64; owner_is = cursor_is owner (owner - 64) p.0 (same_itself (owner - 64)); node = on_node (slice_get sessions (owner - 64)) refl p.1; base = h }
+          record { kept = alive; session = owner - 64; owner_is = cursor_is owner (owner - 64) p.0 (same_itself (owner - 64)); node = on_node (slice_get sessions (owner - 64)) refl p.1; base = h }
       cursor false e h = absurd (false≢true (ap is_some h))
 
       whole : (o : Option ℕ) → slice_get sessions owner ≡ o → cond (is_some o) (cond (option_map_or (λ m. m == k) o false) (session_base past owner) None) (cursor_base sessions past k owner) ≡ Some pin.base → IsPinnedAt sessions past k owner pin.base ⊎ IsCursorAt sessions past k owner pin.base
@@ -319,8 +375,8 @@ module _ (sessions : List ℕ) (past : Past) (k : ℕ) (s : NodeState) (are : Ar
       whole None of h = inr (cursor (nat_le 64 owner && is_of_node sessions k (owner - 64)) refl h)
 
   -- an owner has a pin at its vector
-  pub found_pin : (v : RevVec) → owner_base sessions past k owner ≡ Some v → (pin : Pin) × (pin_of s owner ≡ Some pin) × (pin.base ≡ v)
-  found_pin v base = by (pin_of s owner) refl (are.bases owner ∙ base)
+  pub found_pin : (v : RevVec) → is_recovered past k ≡ false → owner_base sessions past k owner ≡ Some v → (pin : Pin) × (pin_of s owner ≡ Some pin) × (pin.base ≡ v)
+  found_pin v alive base = by (pin_of s owner) refl (are.bases owner ∙ (alive_base sessions past k alive owner ∙ base))
     where
       by : (o : Option Pin) → pin_of s owner ≡ o → base_of_pin o ≡ Some v → (pin : Pin) × (pin_of s owner ≡ Some pin) × (pin.base ≡ v)
       by None e h = absurd (false≢true (ap is_some h))
@@ -328,11 +384,11 @@ module _ (sessions : List ℕ) (past : Past) (k : ℕ) (s : NodeState) (are : Ar
 
   -- each such session has one
   pub has_pin : (v : RevVec) → IsPinnedAt sessions past k owner v → (pin : Pin) × (pin_of s owner ≡ Some pin) × (pin.base ≡ v)
-  has_pin v p = found_pin v (session_owner sessions past k owner p.node
+  has_pin v p = found_pin v p.kept (session_owner sessions past k owner p.node
       ∙ (ap (λ a. cond (a && not (has_left past owner)) (pinned_at past owner) None) p.login
       ∙ (ap (λ b. cond (not b) (pinned_at past owner) None) p.stays
       ∙ p.base)))
 
   -- and so has each such cursor
   pub has_cursor : (v : RevVec) → slice_get sessions owner ≡ None → IsCursorAt sessions past k owner v → (pin : Pin) × (pin_of s owner ≡ Some pin) × (pin.base ≡ v)
-  has_cursor v none p = found_pin v (ap (λ n. owner_base sessions past k n) p.owner_is ∙ (cursor_owned sessions past k p.session p.node (ap (λ n. slice_get sessions n) (sym p.owner_is) ∙ none) ∙ p.base))
+  has_cursor v none p = found_pin v p.kept (ap (λ n. owner_base sessions past k n) p.owner_is ∙ (cursor_owned sessions past k p.session p.node (ap (λ n. slice_get sessions n) (sym p.owner_is) ∙ none) ∙ p.base))

@@ -12,8 +12,8 @@ use Rattle.oak_machine.specs.declared.event.Event.TheVariants as event
 use Rattle.oak_machine.specs.declared.event.StepKind.TheVariants as kind
 use Rattle.oak_machine.specs.History.{Past}
 use Rattle.oak_machine.specs.Commits.{is_drawn, is_ended, is_in_flight}
-use Rattle.oak_machine.specs.Heads.{draws_by, head_of, last_draw_time, local}
-use Rattle.oak_machine.specs.Sessions.{has_left, has_login, is_recovered, is_stopped}
+use Rattle.oak_machine.specs.Heads.{draws_by, flying, head_of, last_draw_time, local}
+use Rattle.oak_machine.specs.Sessions.{has_left, has_login, is_recovered, is_recovery_of, is_stopped}
 use Rattle.oak_node.specs.declared.drawn.Drawn.{Drawn}
 use Rattle.oak_node.specs.declared.memory.Awaits.{Awaits}
 use Rattle.oak_node.specs.declared.memory.Awaits.TheVariants.{Ready, Pending}
@@ -100,6 +100,17 @@ abbrev pub IsAwaitedAt : ℕ → Past → ℕ → Revision → Awaits → Type 0
 IsAwaitedAt clusters past k r Ready = sees (head_of clusters None past k) r ≡ true
 IsAwaitedAt clusters past k r (Pending q) = AwaitsFlight clusters past k r q
 
+-- ---- recoveries
+
+-- the past, once these revisions have ended, the first first
+abbrev pub after_ends : List Revision → Past → Past
+after_ends [] past = past
+after_ends (r ∷ rs) past = after_ends rs (event.End r ∷ past)
+
+-- the past, once cluster node k is recovered: all that it had in flight has ended, in the order in which it was drawn
+abbrev pub after_recovery : Past → ℕ → Past
+after_recovery past k = event.Recover k ∷ after_ends (reverse (flying past k)) past
+
 -- ---- the pins
 
 -- the session is of cluster node k
@@ -136,24 +147,30 @@ cursor_base sessions past k owner = cond (nat_le 64 owner && is_of_node sessions
 abbrev pub owner_base : List ℕ → Past → ℕ → ℕ → Option RevVec
 owner_base sessions past k owner = cond (is_some (slice_get sessions owner)) (cond (is_of_node sessions k owner) (session_base past owner) None) (cursor_base sessions past k owner)
 
+-- the same, until the node is recovered, when all its pins go
+abbrev pub kept_base : List ℕ → Past → ℕ → ℕ → Option RevVec
+kept_base sessions past k owner = cond (is_recovered past k) None (owner_base sessions past k owner)
+
 -- the base of a pin, where there is one
 abbrev pub base_of_pin : Option Pin → Option RevVec
 base_of_pin pin = option_map (λ (p : Pin). p.base) pin
 
 -- the pins of the memory of cluster node k are at the vectors of their owners by the past, each with a sweep vector that goes with it
 pub record ArePinsOf (sessions : List ℕ) (past : Past) (k : ℕ) (s : NodeState) : Type 0 where
-  pub bases : (owner : ℕ) → base_of_pin (pin_of s owner) ≡ owner_base sessions past k owner
+  pub bases : (owner : ℕ) → base_of_pin (pin_of s owner) ≡ kept_base sessions past k owner
   pub pairs : (owner : ℕ) (pin : Pin) → pin_of s owner ≡ Some pin → IsPair pin.base pin.sweep
 
--- the session is of cluster node k, has come and not left, and was pinned at this vector
+-- the session is of cluster node k, which wasn't recovered, has come and not left, and was pinned at this vector
 pub record IsPinnedAt (sessions : List ℕ) (past : Past) (k s : ℕ) (v : RevVec) : Type 0 where
+  pub kept : IsFalse (is_recovered past k)
   pub node : slice_get sessions s ≡ Some k
   pub login : IsTrue (has_login past s)
   pub stays : IsFalse (has_left past s)
   pub base : pinned_at past s ≡ Some v
 
--- the owner is the cursor of a session of cluster node k, which was pinned at this vector
+-- the owner is the cursor of a session of cluster node k, which wasn't recovered, and was pinned at this vector
 pub record IsCursorAt (sessions : List ℕ) (past : Past) (k owner : ℕ) (v : RevVec) : Type 0 where
+  pub kept : IsFalse (is_recovered past k)
   pub session : ℕ
   pub owner_is : owner ≡ cursor_owner session
   pub node : slice_get sessions session ≡ Some k
@@ -171,6 +188,6 @@ moved_pin (event.Went s kind.Pin) = Some s
 moved_pin (event.Went s kind.End) = Some s
 moved_pin _ = None
 
--- the event moves no pin of a session of cluster node k
+-- the event moves no pin of a session of cluster node k, which it doesn't recover
 abbrev pub leaves_pins : List ℕ → ℕ → Event → Bool
-leaves_pins sessions k e = option_map_or (λ s. not (is_of_node sessions k s)) (moved_pin e) true
+leaves_pins sessions k e = not (is_recovery_of k e) && option_map_or (λ s. not (is_of_node sessions k s)) (moved_pin e) true

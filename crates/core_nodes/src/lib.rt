@@ -1,7 +1,7 @@
 //! The memory of each cluster node can be kept as that of the journal, in each run of the machine.
 #![tactic(auto)]
 
-ghost use Rattle.std.specs.Prelude.{◌≡◌, ◌≢◌, ◌⊎◌, ℕ, ◌≤◌, ◌↔◌, Bool, List, [], ◌∷◌, drop, length, slice_get, Some, Contains, IsTrue, IsFalse, None};
+ghost use Rattle.std.specs.Prelude.{◌≡◌, ◌≢◌, ◌⊎◌, ℕ, ◌≤◌, ◌↔◌, Bool, List, [], ◌∷◌, ◌==◌, drop, length, reverse, slice_get, Some, Contains, IsTrue, IsFalse, None};
 ghost use Rattle.jr_rev.specs.declared.revision.Revision.{Revision};
 ghost use Rattle.jr_rev.specs.declared.vector.Pin.{Pin};
 ghost use Rattle.jr_rev.specs.declared.vector.RevVec.{RevVec};
@@ -13,21 +13,24 @@ ghost use Rattle.oak_machine.specs.declared.event.Event.TheVariants as event;
 ghost use Rattle.oak_machine.specs.declared.event.StepKind.TheVariants as kind;
 ghost use Rattle.oak_machine.specs.History.{Past};
 ghost use Rattle.oak_machine.specs.Commits.{is_ended, is_in_flight};
-ghost use Rattle.oak_machine.specs.Heads.{head_of};
+ghost use Rattle.oak_machine.specs.Heads.{flying, head_of};
 ghost use Rattle.oak_machine.specs.Runs.{AreNodes, IsNode, IsRunOf};
 ghost use Rattle.oak_machine.specs.Sessions.{is_stopped, has_left};
 ghost use Rattle.oak_node.specs.declared.memory.Awaits.{Awaits};
-ghost use Rattle.oak_node.specs.Heads.{HasEnded, IsAwaited, IsInFlight, finished, known_time, learned, next_draw, with_draw};
+ghost use Rattle.oak_node.specs.Heads.{HasEnded, IsAwaited, IsInFlight, finished, flying_in, known_time, learned, next_draw, with_draw};
 ghost use Rattle.oak_node.specs.Memory.{NodeState, begun, own_entry};
 ghost use Rattle.oak_node.specs.Notes.{with_note, without_seen};
+ghost use Rattle.oak_node.specs.Stops.{with_recovery, with_stop};
 ghost use Rattle.oak_node.specs.Pins.{pin_now, pin_of, with_pin, without_pin};
-ghost use Rattle.core_nodes.specs.Nodes.{ArePinsOf, IsAboveOf, IsAwaitedAt, IsCursorAt, IsMemoryOf, IsOnRoot, IsPair, IsPinnedAt, cursor_owner, draws_made, leaves_memory, leaves_pins, without_session};
+ghost use Rattle.core_nodes.specs.Nodes.{ArePinsOf, IsAboveOf, IsAwaitedAt, IsCursorAt, IsMemoryOf, IsOnRoot, IsPair, IsPinnedAt, after_recovery, cursor_owner, draws_made, leaves_memory, leaves_pins, without_session};
 
 use oak_machine::Law;
 
 /// The memory of a cluster node is that of the past from its start on. A draw of the node and an end of one of its
 /// revisions take it to `with_draw` and `finished`, and what it learns from the root as this was at some moment to
-/// `learned`; whatever else happens leaves it. A node draws what the machine lets it draw, and its head moves where its own entry rises.
+/// `learned`; a stop takes it to `with_stop`, and a recovery of the stopped node, in which all that the memory has in flight ends
+/// in the order in which it was drawn, to `with_recovery`; whatever else happens leaves it. A node draws what the machine lets it
+/// draw, and its head moves where its own entry rises.
 pub fn memories_follow_the_journal<L: Law>(law: &L)
     ensures begun { (clusters : ℕ) (sessions : List ℕ) (k : ℕ) → AreNodes clusters sessions → IsNode clusters k → IsMemoryOf clusters [] k (begun k (start clusters)) }
     ensures next { (clusters : ℕ) (past : Past) (k : ℕ) (s : NodeState) → IsMemoryOf clusters past k s → next_draw s ≡ Rattle.oak_machine.specs.Heads.next_draw clusters None past k }
@@ -38,6 +41,10 @@ pub fn memories_follow_the_journal<L: Law>(law: &L)
     ensures told { (clusters : ℕ) (sessions : List ℕ) (past : Past) (k : ℕ) (s : NodeState) → IsRunOf (L.may_start law.now) (L.may_say law.now) clusters sessions None past → IsFalse (is_stopped past k) → IsMemoryOf clusters past k s → IsRunOf (L.may_start law.now) (L.may_say law.now) clusters sessions None (event.Head k s.head ∷ past) }
     ensures learned { (clusters : ℕ) (sessions : List ℕ) (past : Past) (k n : ℕ) (s : NodeState) (last sweep : RevVec) → AreNodes clusters sessions → IsRunOf (L.may_start law.now) (L.may_say law.now) clusters sessions None past → IsNode clusters k → IsFalse (is_stopped past k) → IsMemoryOf clusters past k s → IsOnRoot clusters (drop n past) last sweep → IsRunOf (L.may_start law.now) (L.may_say law.now) clusters sessions None (event.In k (learned s last sweep).head ∷ past) × IsMemoryOf clusters (event.In k (learned s last sweep).head ∷ past) k (learned s last sweep) }
     ensures apart { (clusters : ℕ) (sessions : List ℕ) (past : Past) (e : Event) (k : ℕ) (s : NodeState) → AreNodes clusters sessions → IsRunOf (L.may_start law.now) (L.may_say law.now) clusters sessions None (e ∷ past) → IsTrue (leaves_memory k e) → IsMemoryOf clusters past k s → IsMemoryOf clusters (e ∷ past) k s }
+    ensures stopped { (clusters : ℕ) (past : Past) (k : ℕ) (s : NodeState) → IsMemoryOf clusters past k s → IsMemoryOf clusters (event.Stop k ∷ past) k (with_stop s) }
+    ensures in_flight { (clusters : ℕ) (sessions : List ℕ) (past : Past) (k : ℕ) (s : NodeState) → AreNodes clusters sessions → IsRunOf (L.may_start law.now) (L.may_say law.now) clusters sessions None past → IsNode clusters k → IsMemoryOf clusters past k s → flying_in s.above ≡ reverse (flying past k) }
+    ensures recovered { (clusters : ℕ) (sessions : List ℕ) (past : Past) (k : ℕ) (s : NodeState) → AreNodes clusters sessions → IsRunOf (L.may_start law.now) (L.may_say law.now) clusters sessions None past → IsNode clusters k → IsTrue (is_stopped past k) → IsMemoryOf clusters past k s → IsRunOf (L.may_start law.now) (L.may_say law.now) clusters sessions None (after_recovery past k) × IsMemoryOf clusters (after_recovery past k) k (with_recovery s) }
+    ensures recovered_apart { (clusters : ℕ) (sessions : List ℕ) (past : Past) (m k : ℕ) (s : NodeState) → AreNodes clusters sessions → IsRunOf (L.may_start law.now) (L.may_say law.now) clusters sessions None (after_recovery past m) → IsFalse (m == k) → IsMemoryOf clusters past k s → IsMemoryOf clusters (after_recovery past m) k s }
     ensures noted { (clusters : ℕ) (past : Past) (k : ℕ) (s : NodeState) (path : List (List ℕ)) (r : Revision) → IsMemoryOf clusters past k s → IsMemoryOf clusters past k (with_note s path r) }
     ensures published { (clusters : ℕ) (past : Past) (k : ℕ) (s : NodeState) → IsMemoryOf clusters past k s → IsMemoryOf clusters past k (without_seen s) }
     ensures pinned { (clusters : ℕ) (past : Past) (k : ℕ) (s : NodeState) (owner : ℕ) (pin : Pin) → IsMemoryOf clusters past k s → IsMemoryOf clusters past k (with_pin s owner pin) }
@@ -47,8 +54,8 @@ pub fn memories_follow_the_journal<L: Law>(law: &L)
 /// The pins of a cluster node are those of its sessions that have come and not left, each at the vector of its latest
 /// Login or Refresh, and those of their cursors, each at the vector of the session's own pin when it observed last; each
 /// with a sweep vector that goes with it. A login, and a refresh of a session that hasn't left, pin the session at the head;
-/// a session that observes pins its cursor at its own pin; and its end unpins both. Events that move no pin of the node's
-/// sessions leave the pins; so do draws, ends, notes, and what the node learns.
+/// a session that observes pins its cursor at its own pin; and its end unpins both. A recovered node has no pin any more. Events that move no pin of the node's
+/// sessions leave the pins; so do a stop, draws, ends, notes, and what the node learns.
 pub fn pins_follow_the_journal<L: Law>(law: &L)
     ensures begun { (clusters : ℕ) (sessions : List ℕ) (k : ℕ) → ArePinsOf sessions [] k (begun k (start clusters)) }
     ensures pinned { (sessions : List ℕ) (past : Past) (k : ℕ) (s : NodeState) (owner : ℕ) (pin : Pin) → ArePinsOf sessions past k s → pin_of s owner ≡ Some pin → (IsPinnedAt sessions past k owner pin.base ⊎ IsCursorAt sessions past k owner pin.base) × IsPair pin.base pin.sweep }
@@ -58,6 +65,9 @@ pub fn pins_follow_the_journal<L: Law>(law: &L)
     ensures refresh { (clusters : ℕ) (sessions : List ℕ) (past : Past) (k : ℕ) (s : NodeState) (session : ℕ) (v : RevVec) → AreNodes clusters sessions → IsRunOf (L.may_start law.now) (L.may_say law.now) clusters sessions None (event.Refresh session v ∷ past) → slice_get sessions session ≡ Some k → IsFalse (has_left past session) → IsMemoryOf clusters past k s → ArePinsOf sessions past k s → ArePinsOf sessions (event.Refresh session v ∷ past) k (with_pin s session (pin_now s)) }
     ensures observed { (sessions : List ℕ) (past : Past) (k : ℕ) (s : NodeState) (session : ℕ) (pin : Pin) → slice_get sessions session ≡ Some k → slice_get sessions (cursor_owner session) ≡ None → pin_of s session ≡ Some pin → ArePinsOf sessions past k s → ArePinsOf sessions (event.Went session kind.Pin ∷ past) k (with_pin s (cursor_owner session) pin) }
     ensures left { (clusters : ℕ) (sessions : List ℕ) (past : Past) (k : ℕ) (s : NodeState) (session : ℕ) → slice_get sessions session ≡ Some k → slice_get sessions (cursor_owner session) ≡ None → IsMemoryOf clusters past k s → ArePinsOf sessions past k s → ArePinsOf sessions (event.Went session kind.End ∷ past) k (without_session s session) }
+    ensures stopped { (sessions : List ℕ) (past : Past) (k : ℕ) (s : NodeState) → ArePinsOf sessions past k s → ArePinsOf sessions (event.Stop k ∷ past) k (with_stop s) }
+    ensures recovered { (sessions : List ℕ) (past : Past) (k : ℕ) (s : NodeState) → ArePinsOf sessions (after_recovery past k) k (with_recovery s) }
+    ensures recovered_apart { (sessions : List ℕ) (past : Past) (m k : ℕ) (s : NodeState) → IsFalse (m == k) → ArePinsOf sessions past k s → ArePinsOf sessions (after_recovery past m) k s }
     ensures apart { (sessions : List ℕ) (past : Past) (e : Event) (k : ℕ) (s : NodeState) → IsTrue (leaves_pins sessions k e) → ArePinsOf sessions past k s → ArePinsOf sessions (e ∷ past) k s }
     ensures drawn { (sessions : List ℕ) (past : Past) (k : ℕ) (s : NodeState) (r : Revision) → ArePinsOf sessions past k s → ArePinsOf sessions past k (with_draw s r) }
     ensures ended { (sessions : List ℕ) (past : Past) (k : ℕ) (s : NodeState) (r : Revision) → ArePinsOf sessions past k s → ArePinsOf sessions past k (finished s r) }

@@ -1,12 +1,13 @@
 -- A reader that reads the tree at its base reads it after the documents' answer, too, where previous documents are listed and garbage goes.
 use Rattle.std.proofs.Common.{◌≡◌, ◌-◌, ◌<◌, length, get_or, suc, arith, Bool, true, false, cond, ◌&&◌, ◌||◌, Some, None, Option, List, [], ◌∷◌, ◌++◌, refl, sym, ap, ◌∙◌, subst, is_some}
-use Rattle.std.specs.Prelude.{All, codes, is_none, map, option_to_list, slice_get}
+use Rattle.std.specs.Prelude.{◌==◌, All, codes, is_none, map, option_to_list, slice_get}
 use Rattle.std.specs.Option.{option_map, option_map_or, option_or}
 use Rattle.std.specs.declared.cmp.Ordering.{Ordering}
 use Rattle.std.specs.declared.cmp.Ordering.TheVariants.{Less, Equal, Greater}
 use Rattle.std.specs.declared.alloc.Global.{Global}
-use Rattle.std.specs.Ordering.{eq_by_cmp, is_lt, is_le, ordering_reverse}
+use Rattle.std.specs.Ordering.{eq_by_cmp, is_eq, is_lt, is_le, ordering_reverse}
 use Rattle.std.specs.FinMap.{is_sorted}
+use Rattle.std.specs.FinMap.Entries.{below_all}
 use Rattle.std.specs.List.{AllByRecursion}
 use Rattle.std.specs.Map.{lookup}
 use Rattle.std.specs.BTreeMap.{is_at}
@@ -26,7 +27,7 @@ use Rattle.jr_rev.specs.declared.vector.Pin.{Pin}
 use Rattle.jr_rev.specs.declared.vector.RevVec.{RevVec}
 use Rattle.jr_rev.specs.declared.revision.Revision.{Revision}
 use Rattle.jr_rev.specs.Vectors.{sees}
-use Rattle.jr_tree.specs.declared.tree.Node.{Node}
+use Rattle.jr_rev.proofs.Entries.{number_same}
 use Rattle.jr_tree.specs.Trees.{Nodes, born_of, born_at, node_at, is_child_of}
 use Rattle.oak_doc.specs.declared.document.Document.{Document}
 use Rattle.oak_read.specs.Meaning.{Documents, documents_in, path_of, commit_root_of, child_found, found_node}
@@ -44,7 +45,7 @@ use Rattle.oak_machine.specs.History.{Past}
 use Rattle.oak_machine.specs.Commits.{tree_at}
 use Rattle.core_read.specs.Holds.{has_revision}
 use Rattle.core_read.specs.Told.{IsTold}
-use Rattle.core_read.proofs.Entries.{first as first_part, second as second_part}
+use Rattle.core_read.proofs.Entries.{first as first_part, is_less, second as second_part}
 use Rattle.core_read.proofs.Falling.{tells_falling, tree_falling}
 use Rattle.std.proofs.Common.{◌⊎◌, inl, inr, ℕ, fold}
 use Rattle.std.specs.Map.{keys_of}
@@ -62,20 +63,26 @@ use Rattle.core_keep.specs.Keeps.{Course}
 use Rattle.core_keep.specs.Standing.{HasEntryOf}
 use Rattle.core_keep.specs.Readers.{gone_by}
 use Rattle.core_keep.proofs.AtPath.{same_listed}
-use Rattle.core_keep.proofs.Collecting.{known_tree, world_copy}
+use Rattle.core_keep.specs.Formers.{AreFormers, Former, Formers, IsShownIn}
+use Rattle.core_keep.specs.Keeps.{IsHeldPair}
+use Rattle.core_keep.specs.Readers.{asked_too, look_too}
+use Rattle.core_keep.proofs.Collecting.{held_pair, known_tree, world_copy}
+use Rattle.core_keep.proofs.Formers.{reads_found, shown_copy, shown_found}
+use Rattle.core_keep.proofs.Going.{itself as number_itself}
+use Rattle.core_keep.proofs.World.{course as course_is}
 use Rattle.core_keep.proofs.Journal.{reading, shows_at}
 use Rattle.core_keep.proofs.Readers.{known_there, known_born, reads_more, root_by}
 use Rattle.core_watch.specs.Standing.{HasEntry, is_known_or_left, Child, children_to, dated, HasNames, HasBegun, IsOnWay}
-use Rattle.core_watch.specs.Reading.{Ever, IsCopy, AreCopies, is_left, is_asked, IsAsking, IsRooted, IsFresh, Stands, IsReading}
+use Rattle.core_watch.specs.Reading.{IsCopy, AreCopies, is_left, is_asked, IsAsking, IsRooted, IsFresh, Stands, IsReading}
 use Rattle.core_watch.proofs.Left.{all_rising, all_unknown, among_roots, any_back, any_front, either, is_root, unknown_left, noted_at, noted_rising, still_known, still_unknown, same_known, now_known}
 use Rattle.core_watch.proofs.Children.{child_order, dated_are, dated_more, one_more_child, no_children, all_children, same_children}
 use Rattle.core_watch.proofs.Behind.{Entries, behind, has, each_found, IsNext, next_is, nothing_behind}
 
-from_some : {X : Type 0} (o : Option X) → is_some o ≡ true → (x : X) × (o ≡ Some x)
+pub from_some : {X : Type 0} (o : Option X) → is_some o ≡ true → (x : X) × (o ≡ Some x)
 from_some None h = absurd (false≢true h)
 from_some (Some x) h = (x, refl)
 
-is_some_map : {X Y : Type 0} (f : X → Y) (o : Option X) → is_some (option_map f o) ≡ is_some o
+pub is_some_map : {X Y : Type 0} (f : X → Y) (o : Option X) → is_some (option_map f o) ≡ is_some o
 is_some_map f None = refl
 is_some_map f (Some x) = refl
 
@@ -101,7 +108,7 @@ last_named p n all = by p (names_from_all (p ++ n ∷ []) all)
 -- ---- orders of ids
 
 -- not behind: before, or the same
-not_behind : (x y : DocId) → is_lt (id_cmp y x) ≡ false → is_le (id_cmp x y) ≡ true
+pub not_behind : (x y : DocId) → is_lt (id_cmp y x) ≡ false → is_le (id_cmp x y) ≡ true
 not_behind x y h = by (id_cmp x y) (ap is_lt (sym (id_total.antisymm y x)) ∙ h)
   where
     by : (o : Ordering) → is_lt (ordering_reverse o) ≡ false → is_le o ≡ true
@@ -109,33 +116,33 @@ not_behind x y h = by (id_cmp x y) (ap is_lt (sym (id_total.antisymm y x)) ∙ h
     by Equal k = refl
     by Greater k = absurd (false≢true (sym k))
 
-or_first : (a b : Bool) → a ≡ true → (a || b) ≡ true
+pub or_first : (a b : Bool) → a ≡ true → (a || b) ≡ true
 or_first true b h = refl
 or_first false b h = absurd (false≢true h)
 
-or_else : (a b : Bool) → b ≡ true → (a || b) ≡ true
+pub or_else : (a b : Bool) → b ≡ true → (a || b) ≡ true
 or_else true b h = refl
 or_else false b h = h
 
-or_false : (a : Bool) → (a || false) ≡ true → a ≡ true
+pub or_false : (a : Bool) → (a || false) ≡ true → a ≡ true
 or_false true h = refl
 or_false false h = h
 
-some_none : {X A : Type 0} (o : Option X) → is_some o ≡ true → is_none o ≡ true → A
+pub some_none : {X A : Type 0} (o : Option X) → is_some o ≡ true → is_none o ≡ true → A
 some_none None h k = absurd (false≢true h)
 some_none (Some x) h k = absurd (false≢true k)
 
-none_is : {X : Type 0} (o : Option X) → is_none o ≡ true → o ≡ None
+pub none_is : {X : Type 0} (o : Option X) → is_none o ≡ true → o ≡ None
 none_is None h = refl
 none_is (Some x) h = absurd (false≢true h)
 
 -- ---- entries
 
-to_entry : (x : Document) (r : Revision) → HasEntryOf r x → HasEntry true x r
+pub to_entry : (x : Document) (r : Revision) → HasEntryOf r x → HasEntry true x r
 to_entry x r (inl h) = inl (is_some_map Rattle.std.proofs.Common.not (of_revision x.deleted r) ∙ h)
 to_entry x r (inr h) = inr (h.0, refl, h.1)
 
-from_entry : (whole : Bool) (x : Document) (r : Revision) → HasEntry whole x r → HasEntryOf r x
+pub from_entry : (whole : Bool) (x : Document) (r : Revision) → HasEntry whole x r → HasEntryOf r x
 from_entry whole x r (inl h) = inl (sym (is_some_map Rattle.std.proofs.Common.not (of_revision x.deleted r)) ∙ h)
 from_entry whole x r (inr h) = inr (h.0, h.2)
 
@@ -145,7 +152,7 @@ gone_entry x r h = inl (is_some_map Rattle.std.proofs.Common.not (of_revision x.
 -- ---- which ids are left
 
 -- each id that is left is one of those asked for, or was left before
-in_unknown : (P : DocId → Type 0) (known : Known) (xs : List DocId) (ids : Ids) → ((x : DocId) → IsIn x xs → P x) → ((x : DocId) → is_left ids x ≡ true → P x) → (x : DocId) → is_left (fold (with_unknown known) ids xs) x ≡ true → P x
+pub in_unknown : (P : DocId → Type 0) (known : Known) (xs : List DocId) (ids : Ids) → ((x : DocId) → IsIn x xs → P x) → ((x : DocId) → is_left ids x ≡ true → P x) → (x : DocId) → is_left (fold (with_unknown known) ids xs) x ≡ true → P x
 in_unknown P known [] ids each before x h = before x h
 in_unknown P known (y ∷ xs) ids each before x h = in_unknown P known xs (with_unknown known ids y) (λ z i. each z (inr i)) (λ z. one z (is_some (lookup (is_at (id_cmp y)) known))) x h
   where
@@ -157,66 +164,66 @@ in_unknown P known (y ∷ xs) ids each before x h = in_unknown P known xs (with_
         by true e l = subst P (sym (same_id z y e)) (each y (inl refl))
         by false e l = before z l
 
-in_map : {X Y : Type 0} (P : Y → Type 0) (f : X → Y) (xs : List X) → ((x : X) → IsIn x xs → P (f x)) → (y : Y) → IsIn y (map f xs) → P y
+pub in_map : {X Y : Type 0} (P : Y → Type 0) (f : X → Y) (xs : List X) → ((x : X) → IsIn x xs → P (f x)) → (y : Y) → IsIn y (map f xs) → P y
 in_map P f [] each y i = absurd i
 in_map P f (x ∷ xs) each y (inl e) = subst P e (each x (inl refl))
 in_map P f (x ∷ xs) each y (inr i) = in_map P f xs (λ z j. each z (inr j)) y i
 
-in_append : {X : Type 0} (P : X → Type 0) (xs ys : List X) → ((x : X) → IsIn x xs → P x) → ((x : X) → IsIn x ys → P x) → (x : X) → IsIn x (xs ++ ys) → P x
+pub in_append : {X : Type 0} (P : X → Type 0) (xs ys : List X) → ((x : X) → IsIn x xs → P x) → ((x : X) → IsIn x ys → P x) → (x : X) → IsIn x (xs ++ ys) → P x
 in_append P [] ys f g x i = g x i
 in_append P (y ∷ xs) ys f g x (inl e) = f x (inl e)
 in_append P (y ∷ xs) ys f g x (inr i) = in_append P xs ys (λ z j. f z (inr j)) g x i
 
-in_flat : {X Y : Type 0} (P : Y → Type 0) (f : X → List Y) (xs : List X) → ((x : X) → IsIn x xs → (y : Y) → IsIn y (f x) → P y) → (y : Y) → IsIn y (flat_map f xs) → P y
+pub in_flat : {X Y : Type 0} (P : Y → Type 0) (f : X → List Y) (xs : List X) → ((x : X) → IsIn x xs → (y : Y) → IsIn y (f x) → P y) → (y : Y) → IsIn y (flat_map f xs) → P y
 in_flat P f [] each y i = absurd i
 in_flat P f (x ∷ xs) each y i = in_append P (f x) (flat_map f xs) (each x (inl refl)) (in_flat P f xs (λ z j. each z (inr j))) y i
 
 -- each commit root that is wanted is one of a revision
-roots_are : (t v : RevVec) (whole : Bool) (P : DocId → Type 0) (d : Document) → ((r : Revision) → P (commit_root_of d r)) → (x : DocId) → IsIn x (roots_of t v whole d) → P x
+pub roots_are : (t v : RevVec) (whole : Bool) (P : DocId → Type 0) (d : Document) → ((r : Revision) → P (commit_root_of d r)) → (x : DocId) → IsIn x (roots_of t v whole d) → P x
 roots_are t v whole P d each = in_append P (asked_roots t v d (keys_of d.deleted)) (cond whole (property_roots t v d d.props) []) (in_map P (commit_root_of d) _ (λ r i. each r)) (by whole)
   where
     by : (b : Bool) → (x : DocId) → IsIn x (cond b (property_roots t v d d.props) []) → P x
     by true = in_flat P (λ p. asked_roots t v d (keys_of p.1)) d.props (λ p i. in_map P (commit_root_of d) _ (λ r j. each r))
     by false = λ x i. absurd i
 
-any_in : (f : DocId → Bool) (g : Document → List DocId) (xs : List Document) (x : Document) → IsIn x xs → list_any f (g x) ≡ true → list_any f (flat_map g xs) ≡ true
+pub any_in : (f : DocId → Bool) (g : Document → List DocId) (xs : List Document) (x : Document) → IsIn x xs → list_any f (g x) ≡ true → list_any f (flat_map g xs) ≡ true
 any_in f g [] x i h = absurd i
 any_in f g (y ∷ xs) x (inl e) h = any_front f (g y) (flat_map g xs) (subst (λ (z : Document). list_any f (g z) ≡ true) (sym e) h)
 any_in f g (y ∷ xs) x (inr i) h = any_back f (g y) (flat_map g xs) (any_in f g xs x i h)
 
-any_listed : (p : Path) (es : List PrevEntry) (e : PrevEntry) → IsIn e es → list_any (eq_by_cmp id_cmp (id.Prev e.number p)) (map (λ e. id.Prev e.number p) es) ≡ true
+pub any_listed : (p : Path) (es : List PrevEntry) (e : PrevEntry) → IsIn e es → list_any (eq_by_cmp id_cmp (id.Prev e.number p)) (map (λ e. id.Prev e.number p) es) ≡ true
 any_listed p [] e i = absurd i
 any_listed p (f ∷ es) e (inl one) = or_first _ _ (subst (λ (g : PrevEntry). eq_by_cmp id_cmp (id.Prev e.number p) (id.Prev g.number p) ≡ true) (sym one) (Rattle.oak_read.proofs.Walking.own_id (id.Prev e.number p)))
 any_listed p (f ∷ es) e (inr i) = or_else (eq_by_cmp id_cmp (id.Prev e.number p) (id.Prev f.number p)) _ (any_listed p es e i)
 
 -- ---- ids that differ
 
-apart : (x y : DocId) → (x ≡ y → ⊥) → eq_by_cmp id_cmp x y ≡ false
+pub apart : (x y : DocId) → (x ≡ y → ⊥) → eq_by_cmp id_cmp x y ≡ false
 apart x y other = by (eq_by_cmp id_cmp x y) refl
   where
     by : (b : Bool) → eq_by_cmp id_cmp x y ≡ b → b ≡ false
     by true h = absurd (other (same_id x y h))
     by false h = refl
 
-prev_node : (k : ℕ) (q y : Path) → id.Prev k q ≡ id.Node y → ⊥
+pub prev_node : (k : ℕ) (q y : Path) → id.Prev k q ≡ id.Node y → ⊥
 prev_node k q y h = cc
 
-node_prev : (k : ℕ) (q y : Path) → id.Node y ≡ id.Prev k q → ⊥
+pub node_prev : (k : ℕ) (q y : Path) → id.Node y ≡ id.Prev k q → ⊥
 node_prev k q y h = cc
 
-same_of_prev : (k j : ℕ) (q y : Path) → id.Prev k q ≡ id.Prev j y → q ≡ y
+pub same_of_prev : (k j : ℕ) (q y : Path) → id.Prev k q ≡ id.Prev j y → q ≡ y
 same_of_prev k j q y h = cc
 
 -- an id that isn't noted is known as before
-beside : (known : Known) (y : DocId) (o : Option Document) (x : DocId) → (x ≡ y → ⊥) → documents_in (with_known known y o) x ≡ documents_in known x
+pub beside : (known : Known) (y : DocId) (o : Option Document) (x : DocId) → (x ≡ y → ⊥) → documents_in (with_known known y o) x ≡ documents_in known x
 beside known y o x other = noted_at known y o x ∙ ap (λ b. cond b (option_or (documents_in known y) o) (documents_in known x)) (apart x y other)
 
 -- the node behind another is another
 behind_apart : (at q : Path) → is_lt (id_cmp (id.Node at) (id.Node q)) ≡ true → q ≡ at → ⊥
 behind_apart at q h e = false≢true (sym (Rattle.core_watch.proofs.Behind.not_below_itself (id.Node at)) ∙ subst (λ (z : Path). is_lt (id_cmp (id.Node at) (id.Node z)) ≡ true) e h)
 
-module _ (table : Entries) (is : IsTable table) (past : Past) (ever : Ever) (done : Progress) (a : Global) (pin : Pin) (world : IsKeptWorld (documents_in table) past done) (held : IsHeld past pin.base pin.sweep)
-    (lists : (p : Path) (d : Document) → documents_in table (id.Node p) ≡ Some d → (e : PrevEntry) → IsIn e d.prev → ever p e.number ≡ true) where
+module _ (table : Entries) (is : IsTable table) (past : Past) (formers : Formers) (done : Progress) (a : Global) (pin : Pin) (world : IsKeptWorld (documents_in table) past done) (held : IsHeld past pin.base pin.sweep)
+    (are : AreFormers (documents_in table) (course_of past) formers) where
   abbrev ds : Documents
   ds = documents_in table
 
@@ -227,22 +234,25 @@ module _ (table : Entries) (is : IsTable table) (past : Past) (ever : Ever) (don
   tree = tree_at None past pin.base
 
   abbrev Copies : Known → Type 0
-  Copies known = AreCopies ds course ever pin.base pin.sweep known
+  Copies known = AreCopies ds course formers pin.base pin.sweep known
 
   abbrev reader : Option Path → Path → Known → List Child → Step → Reader
   reader parent at known names s = record { alloc = a; pin = pin; parent = parent; at = at; known = known; names = names; step = s }
 
   abbrev Reads : Reader → Type 0
-  Reads r = IsReading ds past ever r
+  Reads r = IsReading ds past formers r
 
   abbrev Asking : Known → Ids → Path → Type 0
-  Asking known left p = IsAsking ds course pin.base pin.sweep known left p
+  Asking known left p = IsAsking ds course formers pin.base pin.sweep known left p
 
   abbrev Rooted : Known → Ids → Bool → Path → Type 0
   Rooted known left whole p = IsRooted ds course pin.base pin.sweep known left whole p
 
   told : IsTold past
   told = world.told
+
+  pair : IsHeldPair (course_of past) (sees pin.base) (sees pin.sweep)
+  pair = held_pair past pin.base pin.sweep world.told held
 
   in_order : is_sorted path_cmp tree ≡ true
   in_order = subst (λ (t : Nodes). is_sorted path_cmp t ≡ true) (tree_falling past pin.base held.base.begun) (tells_falling past told.sound (sees pin.base) held.base.closed).order
@@ -308,7 +318,7 @@ module _ (table : Entries) (is : IsTable table) (past : Past) (ever : Ever) (don
   -- ---- the commit roots
 
   roots_stand : (parent : Option Path) (at : Path) (known : Known) (names : List Child) (e : DocId × Unit {0}) (es : Ids) → Rooted known (e ∷ es) (is_none parent) at → IsOnWay is_lt tree parent at names → IsFresh at known
-      → Stands ds course tree pin parent at known names (step.Roots (record { first = e.0; rest = es }))
+      → Stands ds course formers tree pin parent at known names (step.Roots (record { first = e.0; rest = es }))
   roots_stand None at known names e es rooted way fresh = (rooted, way, fresh)
   roots_stand (Some p) at known names e es rooted way fresh = (rooted, way, fresh)
 
@@ -353,7 +363,7 @@ module _ (table : Entries) (is : IsTable table) (past : Past) (ever : Ever) (don
       }
 
   asking_stands : (parent : Option Path) (at : Path) (known : Known) (names : List Child) (e : DocId × Unit {0}) (es : Ids) → Asking known (e ∷ es) at → IsOnWay is_lt tree parent at names → IsFresh at known
-      → Stands ds course tree pin parent at known names (step.Previous (record { first = e.0; rest = es }))
+      → Stands ds course formers tree pin parent at known names (step.Previous (record { first = e.0; rest = es }))
   asking_stands None at known names e es asking way fresh = (asking, way, fresh)
   asking_stands (Some p) at known names e es asking way fresh = (asking, way, fresh)
 
@@ -383,30 +393,32 @@ module _ (table : Entries) (is : IsTable table) (past : Past) (ever : Ever) (don
       asking = record {
         document = c;
         there = there;
-        look = λ k. ds (id.Prev k at);
-        reads = reads_more ds course (sees pin.base) (sees pin.sweep) at c (λ k. false) (is_asked (unknown known (listed at c)) at) (λ k. ds (id.Prev k at)) (λ k h. refl) (copies.each at c there).reads;
+        look = (copies.each at c there).look;
+        reads = reads_more ds course (sees pin.base) (sees pin.sweep) at c (λ k. false) (is_asked (unknown known (listed at c)) at) (copies.each at c there).look (λ k h. refl) (copies.each at c there).reads;
         found = λ e i asked. some_none _ (left_there e i) asked;
         waiting = record { rising = all_rising known (listed at c) [] refl; unknown = all_unknown known (listed at c) [] refl };
-        previous = in_unknown (λ x. (k : ℕ) × (x ≡ id.Prev k at)) known (listed at c) [] (in_map (λ x. (k : ℕ) × (x ≡ id.Prev k at)) (λ e. id.Prev e.number at) c.prev (λ e i. (e.number, refl))) (λ x h. absurd (false≢true h));
+        previous = in_unknown (λ x. (e : PrevEntry) × IsIn e c.prev × (x ≡ id.Prev e.number at)) known (listed at c) [] (in_map (λ x. (e : PrevEntry) × IsIn e c.prev × (x ≡ id.Prev e.number at)) (λ e. id.Prev e.number at) c.prev (λ e i. (e, i, refl))) (λ x h. absurd (false≢true h));
+        listed = (copies.each at c there).listed;
       }
 
   -- ---- a document is noted
 
-  own_copy : (p : Path) (d : Document) → documents_in table (id.Node p) ≡ Some d → IsCopy ds course ever pin.base pin.sweep p d
+  own_copy : (p : Path) (d : Document) → documents_in table (id.Node p) ≡ Some d → IsCopy ds course formers pin.base pin.sweep p d
   own_copy p d here = record {
+    look = λ k. documents_in table (id.Prev k p);
     reads = world_copy ds past done pin.base pin.sweep p d world held here;
     said = λ q seen unswept h. ap (λ o. has_revision o q) (sym here) ∙ h;
-    listed = λ e i. lists p d here e i;
+    listed = λ e i. let l = are.listed p d here e i in (l.0, l.1, shown_copy ds course (sees pin.base) (sees pin.sweep) p d l.0 pair here l.2);
   }
 
   copies_noted : (known : Known) → Copies known → (y : DocId) → Copies (with_known known y (documents_in table y))
   copies_noted known copies y = record { rising = noted_rising known y (documents_in table y) copies.rising; each = λ p d h. at p d (eq_by_cmp id_cmp (id.Node p) y) refl (sym (noted_at known y (documents_in table y) (id.Node p)) ∙ h) }
     where
-      newest : (p : Path) (d : Document) (o : Option Document) → documents_in known (id.Node p) ≡ o → option_or o (documents_in table (id.Node p)) ≡ Some d → IsCopy ds course ever pin.base pin.sweep p d
+      newest : (p : Path) (d : Document) (o : Option Document) → documents_in known (id.Node p) ≡ o → option_or o (documents_in table (id.Node p)) ≡ Some d → IsCopy ds course formers pin.base pin.sweep p d
       newest p d (Some c) e k = copies.each p d (e ∙ k)
       newest p d None e k = own_copy p d k
 
-      at : (p : Path) (d : Document) (b : Bool) → eq_by_cmp id_cmp (id.Node p) y ≡ b → cond b (option_or (documents_in known y) (documents_in table y)) (documents_in known (id.Node p)) ≡ Some d → IsCopy ds course ever pin.base pin.sweep p d
+      at : (p : Path) (d : Document) (b : Bool) → eq_by_cmp id_cmp (id.Node p) y ≡ b → cond b (option_or (documents_in known y) (documents_in table y)) (documents_in known (id.Node p)) ≡ Some d → IsCopy ds course formers pin.base pin.sweep p d
       at p d true e k = newest p d (documents_in known (id.Node p)) refl (ap (λ (z : DocId). option_or (documents_in known z) (documents_in table z)) (same_id (id.Node p) y e) ∙ k)
       at p d false e k = copies.each p d k
 
@@ -457,7 +469,7 @@ module _ (table : Entries) (is : IsTable table) (past : Past) (ever : Ever) (don
   nothing_known : (known : Known) → known ≡ [] → (x : DocId) → documents_in known x ≡ None
   nothing_known known e x = ap (λ (ks : Known). documents_in ks x) e
 
-  feed_main : (parent : Option Path) (at : Path) (known : Known) (names : List Child) → Copies known → Stands ds course tree pin parent at known names step.Main → Reads (fed_main (reader parent at known names step.Main) (documents_in table (id.Node at)))
+  feed_main : (parent : Option Path) (at : Path) (known : Known) (names : List Child) → Copies known → Stands ds course formers tree pin parent at known names step.Main → Reads (fed_main (reader parent at known names step.Main) (documents_in table (id.Node at)))
   feed_main None at known names copies stands = by (documents_in table (id.Node at)) refl
     where
       by : (o : Option Document) → documents_in table (id.Node at) ≡ o → Reads (fed_main (reader None at known names step.Main) o)
@@ -570,53 +582,109 @@ module _ (table : Entries) (is : IsTable table) (past : Past) (ever : Ever) (don
 
   -- ---- a previous document
 
-  -- the first that is left is read: what is found of it is known, or it is gone
-  asking_noted : (known : Known) → (at : Path) (first : DocId) (rest : Ids) → Asking known ((first, tt) ∷ rest) at → Asking (with_known known first (documents_in table first)) rest at
-  asking_noted known at first rest asking = record {
-    document = asking.document;
-    there = same_known known first (documents_in table first) (id.Node at) asking.document asking.there;
-    look = asking.look;
-    reads = reads_more ds course (sees pin.base) (sees pin.sweep) at asking.document (is_asked ((first, tt) ∷ rest) at) (is_asked rest at) asking.look (λ k h. still_left k (eq_by_cmp id_cmp (id.Prev k at) first) h) asking.reads;
-    found = λ e i asked. found e i asked (eq_by_cmp id_cmp (id.Prev e.number at) first) refl;
-    waiting = record { rising = second_part _ _ asking.waiting.rising; unknown = still_unknown known first (documents_in table first) rest (first_part _ _ asking.waiting.rising) (second_part _ _ asking.waiting.unknown) };
-    previous = λ x h. asking.previous x (later x (eq_by_cmp id_cmp x first) h);
-  }
+  first_left : (first : DocId) (rest : Ids) → is_left ((first, tt) ∷ rest) first ≡ true
+  first_left first rest = ap (λ b. is_some (cond b (Some tt) (lookup (is_at (id_cmp first)) rest))) (Rattle.oak_read.proofs.Walking.own_id first)
+
+  -- an id before others is none of them
+  none_behind : (x : DocId) (ids : Ids) → below_all id_cmp x ids ≡ true → lookup (is_at (id_cmp x)) ids ≡ None
+  none_behind x [] below = refl
+  none_behind x (e ∷ ids) below = ap (λ b. cond b (Some e.1) (lookup (is_at (id_cmp x)) ids)) (apart_less (id_cmp x e.0) (is_less (id_cmp x e.0) (first_part _ _ below))) ∙ none_behind x ids (second_part _ _ below)
     where
-      still_left : (k : ℕ) (b : Bool) → is_none (lookup (is_at (id_cmp (id.Prev k at))) rest) ≡ false → is_none (cond b (Some tt) (lookup (is_at (id_cmp (id.Prev k at))) rest)) ≡ false
-      still_left k true h = refl
-      still_left k false h = h
+      apart_less : (o : Ordering) → o ≡ Less → is_eq o ≡ false
+      apart_less o h = ap is_eq h
 
-      later : (x : DocId) (b : Bool) → is_left rest x ≡ true → is_some (cond b (Some tt) (lookup (is_at (id_cmp x)) rest)) ≡ true
-      later x true h = refl
-      later x false h = h
+  -- the first that is left is read: what is found of it is known, or it is gone
+  module _ (known : Known) (at : Path) (first : DocId) (rest : Ids) (asking : Asking known ((first, tt) ∷ rest) at) where
+    abbrev asked_entry : (e : PrevEntry) × IsIn e asking.document.prev × (first ≡ id.Prev e.number at)
+    asked_entry = asking.previous first (first_left first rest)
 
-      unknown_first : documents_in known first ≡ None
-      unknown_first = none_is _ (first_part _ _ asking.waiting.unknown)
+    abbrev k : ℕ
+    k = (asking.previous first (first_left first rest)).0.number
 
-      found : (e : PrevEntry) → IsIn e asking.document.prev → is_asked rest at e.number ≡ true → (b : Bool) → eq_by_cmp id_cmp (id.Prev e.number at) first ≡ b → documents_in (with_known known first (documents_in table first)) (id.Prev e.number at) ≡ asking.look e.number
-      found e i asked true h =
-          noted_at known first (documents_in table first) (id.Prev e.number at)
-          ∙ (ap (λ b. cond b (option_or (documents_in known first) (documents_in table first)) (documents_in known (id.Prev e.number at))) h
-          ∙ (ap (λ o. option_or o (documents_in table first)) unknown_first
-          ∙ (ap (documents_in table) (sym (same_id (id.Prev e.number at) first h))
-          ∙ sym (asking.reads.follows e i (ap (λ b. is_none (cond b (Some tt) (lookup (is_at (id_cmp (id.Prev e.number at))) rest))) h)))))
-      found e i asked false h =
-          noted_at known first (documents_in table first) (id.Prev e.number at)
-          ∙ (ap (λ b. cond b (option_or (documents_in known first) (documents_in table first)) (documents_in known (id.Prev e.number at))) h
-          ∙ asking.found e i (ap (λ b. is_none (cond b (Some tt) (lookup (is_at (id_cmp (id.Prev e.number at))) rest))) h ∙ asked))
+    abbrev there : Option Document
+    there = documents_in table (id.Prev (asking.previous first (first_left first rest)).0.number at)
+
+    former : (f : Former) × (formers at k ≡ Some f) × IsShownIn (sees pin.base) f (gone_by asking.document asking.look)
+    former = asking.listed asked_entry.0 asked_entry.1
+
+    unasked : is_asked ((first, tt) ∷ rest) at k ≡ false
+    unasked = ap (λ b. is_none (cond b (Some tt) (lookup (is_at (id_cmp (id.Prev k at))) rest))) (ap (λ (x : DocId). eq_by_cmp id_cmp x first) (sym asked_entry.2) ∙ Rattle.oak_read.proofs.Walking.own_id first)
+
+    way : (asking.look k ≡ documents_in table (id.Prev k at)) ⊎ (asking.look k ≡ None)
+    way = asking.reads.follows asked_entry.0 asked_entry.1 unasked
+
+    not_again : is_none (lookup (is_at (id_cmp (id.Prev k at))) rest) ≡ true
+    not_again = ap is_none (subst (λ (x : DocId). lookup (is_at (id_cmp x)) rest ≡ None) asked_entry.2 (none_behind first rest (first_part _ _ asking.waiting.rising)))
+
+    -- what is left still wasn't asked for
+    still_unasked : (j : ℕ) → is_asked rest at j ≡ false → asked_too (is_asked ((first, tt) ∷ rest) at) k j ≡ false
+    still_unasked j h = by (j == k) refl
+      where
+        either_way : (b : Bool) → is_none (cond b (Some tt) (lookup (is_at (id_cmp (id.Prev j at))) rest)) ≡ false
+        either_way true = refl
+        either_way false = h
+
+        by : (b : Bool) → (j == k) ≡ b → cond b true (is_asked ((first, tt) ∷ rest) at j) ≡ false
+        by true same = absurd (false≢true (sym h ∙ (ap (λ (i : ℕ). is_none (lookup (is_at (id_cmp (id.Prev i at))) rest)) (number_same j k same) ∙ not_again)))
+        by false same = either_way (eq_by_cmp id_cmp (id.Prev j at) first)
+
+    found_reads : Rattle.core_keep.specs.Readers.Reads ds course (sees pin.base) (sees pin.sweep) at asking.document (is_asked rest at) (look_too asking.look k there)
+    found_reads = reads_more ds course (sees pin.base) (sees pin.sweep) at asking.document (asked_too (is_asked ((first, tt) ∷ rest) at) k) (is_asked rest at) (look_too asking.look k there) still_unasked
+        (reads_found ds course (sees pin.base) (sees pin.sweep) at asking.document (is_asked ((first, tt) ∷ rest) at) asking.look asking.reads (course_is ds past done world).falls pair k former.0 (are.former at k former.0 former.1) (λ x h. are.copies at k former.0 x former.1 h) former.2 way)
+
+    asking_noted : Asking (with_known known first (documents_in table first)) rest at
+    asking_noted = record {
+      document = asking.document;
+      there = same_known known first (documents_in table first) (id.Node at) asking.document asking.there;
+      look = look_too asking.look k there;
+      reads = found_reads;
+      found = λ e i asked. found e i asked (eq_by_cmp id_cmp (id.Prev e.number at) first) refl;
+      waiting = record { rising = second_part _ _ asking.waiting.rising; unknown = still_unknown known first (documents_in table first) rest (first_part _ _ asking.waiting.rising) (second_part _ _ asking.waiting.unknown) };
+      previous = λ x h. asking.previous x (later x (eq_by_cmp id_cmp x first) h);
+      listed = λ e i. let l = asking.listed e i in (l.0, l.1, shown_found asking.document asking.look (sees pin.base) l.0 k there way l.2);
+    }
+      where
+        later : (x : DocId) (b : Bool) → is_left rest x ≡ true → is_some (cond b (Some tt) (lookup (is_at (id_cmp x)) rest)) ≡ true
+        later x true h = refl
+        later x false h = h
+
+        unknown_first : documents_in known first ≡ None
+        unknown_first = none_is _ (first_part _ _ asking.waiting.unknown)
+
+        number_of_id : DocId → ℕ
+        number_of_id (id.Prev j q) = j
+        number_of_id i = 0
+
+        itself : (j : ℕ) → (j == j) ≡ true
+        itself j = number_itself j
+
+        found : (e : PrevEntry) → IsIn e asking.document.prev → is_asked rest at e.number ≡ true → (b : Bool) → eq_by_cmp id_cmp (id.Prev e.number at) first ≡ b → documents_in (with_known known first (documents_in table first)) (id.Prev e.number at) ≡ look_too asking.look k there e.number
+        found e i asked true h =
+            let one : e.number ≡ k = ap number_of_id (same_id (id.Prev e.number at) first h ∙ asked_entry.2) in
+            noted_at known first (documents_in table first) (id.Prev e.number at)
+            ∙ (ap (λ b. cond b (option_or (documents_in known first) (documents_in table first)) (documents_in known (id.Prev e.number at))) h
+            ∙ (ap (λ o. option_or o (documents_in table first)) unknown_first
+            ∙ (ap (documents_in table) asked_entry.2
+            ∙ sym (ap (λ b. cond b there (asking.look e.number)) (ap (λ (j : ℕ). j == k) one ∙ itself k)))))
+        found e i asked false h =
+            noted_at known first (documents_in table first) (id.Prev e.number at)
+            ∙ (ap (λ b. cond b (option_or (documents_in known first) (documents_in table first)) (documents_in known (id.Prev e.number at))) h
+            ∙ (asking.found e i (ap (λ b. is_none (cond b (Some tt) (lookup (is_at (id_cmp (id.Prev e.number at))) rest))) h ∙ asked)
+            ∙ sym (ap (λ b. cond b there (asking.look e.number)) (other (e.number == k) refl))))
+          where
+            other : (b : Bool) → (e.number == k) ≡ b → b ≡ false
+            other false m = refl
+            other true m = absurd (false≢true (sym h ∙ (ap (λ (x : DocId). eq_by_cmp id_cmp x first) (ap (λ (j : ℕ). id.Prev j at) (number_same e.number k m) ∙ sym asked_entry.2) ∙ Rattle.oak_read.proofs.Walking.own_id first)))
 
   fresh_previous : (at : Path) (known : Known) (k : ℕ) (y : DocId) (o : Option Document) → y ≡ id.Prev k at → IsFresh at known → IsFresh at (with_known known y o)
   fresh_previous at known k y o one fresh q j h = beside known y o (id.Prev j q) (λ e. behind_apart at q h (same_of_prev j k q at (e ∙ one))) ∙ fresh q j h
-
-  first_left : (first : DocId) (rest : Ids) → is_left ((first, tt) ∷ rest) first ≡ true
-  first_left first rest = ap (λ b. is_some (cond b (Some tt) (lookup (is_at (id_cmp first)) rest))) (Rattle.oak_read.proofs.Walking.own_id first)
 
   feed_previous : (parent : Option Path) (at : Path) (known : Known) (names : List Child) (left : Left) → Copies known → Asking known ((left.first, tt) ∷ left.rest) at → IsOnWay is_lt tree parent at names → IsFresh at known
       → Reads (settled (noted (reader parent at known names (step.Previous left)) left.first (documents_in table left.first)))
   feed_previous parent at known names left copies asking way fresh =
       let k = asking.previous left.first (first_left left.first left.rest) in
       previous_go_on parent at (with_known known left.first (documents_in table left.first)) names (step.Previous left) left.rest (copies_noted known copies left.first)
-      (asking_noted known at left.first left.rest asking) way (fresh_previous at known k.0 left.first (documents_in table left.first) k.1 fresh)
+      (asking_noted known at left.first left.rest asking) way (fresh_previous at known (k.0).number left.first (documents_in table left.first) k.2 fresh)
 
   -- ---- a commit root
 
@@ -666,7 +734,7 @@ module _ (table : Entries) (is : IsTable table) (past : Past) (ever : Ever) (don
 
   -- ---- any step
 
-  feed_step : (parent : Option Path) (at : Path) (known : Known) (names : List Child) (s : Step) → Copies known → Stands ds course tree pin parent at known names s → Reads (fed (reader parent at known names s) (answer table (due (reader parent at known names s))))
+  feed_step : (parent : Option Path) (at : Path) (known : Known) (names : List Child) (s : Step) → Copies known → Stands ds course formers tree pin parent at known names s → Reads (fed (reader parent at known names s) (answer table (due (reader parent at known names s))))
   feed_step None at known names step.Main copies stands = feed_main None at known names copies stands
   feed_step (Some p) at known names step.Main copies stands = feed_main (Some p) at known names copies stands
   feed_step None at known names step.Next copies stands = absurd stands
@@ -678,6 +746,6 @@ module _ (table : Entries) (is : IsTable table) (past : Past) (ever : Ever) (don
   feed_step None at known names (step.Done o) copies stands = record { copies = copies; stands = stands }
   feed_step (Some p) at known names (step.Done o) copies stands = record { copies = copies; stands = stands }
 
-pub reading_feeds : (table : Entries) (past : Past) (ever : Ever) (done : Progress) (r : Reader) → IsTable table → IsKeptWorld (documents_in table) past done → IsHeld past r.pin.base r.pin.sweep
-    → ((p : Path) (d : Document) → documents_in table (id.Node p) ≡ Some d → (e : PrevEntry) → IsIn e d.prev → ever p e.number ≡ true) → IsReading (documents_in table) past ever r → IsReading (documents_in table) past ever (fed r (answer table (due r)))
-reading_feeds table past ever done r is world held lists reads = feed_step table is past ever done r.alloc r.pin world held lists r.parent r.at r.known r.names r.step reads.copies reads.stands
+pub reading_feeds : (table : Entries) (past : Past) (formers : Formers) (done : Progress) (r : Reader) → IsTable table → IsKeptWorld (documents_in table) past done → IsHeld past r.pin.base r.pin.sweep
+    → AreFormers (documents_in table) (course_of past) formers → IsReading (documents_in table) past formers r → IsReading (documents_in table) past formers (fed r (answer table (due r)))
+reading_feeds table past formers done r is world held are reads = feed_step table is past formers done r.alloc r.pin world held are r.parent r.at r.known r.names r.step reads.copies reads.stands

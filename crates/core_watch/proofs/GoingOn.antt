@@ -1,5 +1,5 @@
 -- What the steps of others leave to readers: writes and undos, marks and notes, the last write with its Commit, other events, what splits move and collections drop.
-use Rattle.std.proofs.Common.{◌≡◌, ◌⊎◌, inl, inr, ℕ, Bool, true, false, cond, ◌||◌, Some, None, Option, List, [], ◌∷◌, fold, refl, sym, ap, ◌∙◌, subst, is_some}
+use Rattle.std.proofs.Common.{◌≡◌, ℕ, Bool, true, false, cond, ◌||◌, Some, None, Option, List, [], ◌∷◌, fold, refl, sym, ap, ◌∙◌, subst, is_some}
 use Rattle.std.specs.Ordering.{is_eq, eq_by_cmp}
 use Rattle.std.specs.Cmp.{tied_itself}
 use Rattle.std.specs.List.{list_all}
@@ -30,7 +30,6 @@ use Rattle.oak_machine.specs.Runs.{MayCommit}
 use Rattle.core_read.specs.Committing.{is_marking, IsWriteOp}
 use Rattle.core_read.specs.Writes.{is_entry_of}
 use Rattle.core_read.specs.Holds.{edit_of, has_revision, the_start, IsSameAt, IsSameBut}
-use Rattle.core_read.specs.Told.{IsIn}
 use Rattle.core_read.specs.World.{Progress}
 use Rattle.core_read.specs.Writes.{IsOrderedDocument}
 use Rattle.core_read.proofs.Committing.{markings_all, marks_same, op_all}
@@ -47,7 +46,7 @@ use Rattle.core_keep.proofs.Collecting.{held_pair}
 use Rattle.core_keep.proofs.Going.{besides_goes, course_goes, last_goes, moved_goes, others_go, previous_goes, pruned_goes, removed_goes}
 use Rattle.core_keep.proofs.Journal.{edit_is}
 use Rattle.core_keep.proofs.World.{besides, course, names, open_of, unsaid_at}
-use Rattle.core_watch.specs.Reading.{Ever, ReadsOn}
+use Rattle.core_watch.specs.Reading.{ReadsOn}
 
 apart : (s : Revision → Bool) (q r : Revision) → s q ≡ true → s r ≡ false → eq_by_cmp revision_cmp q r ≡ false
 apart s q r h k = by (eq_by_cmp revision_cmp q r) refl
@@ -57,23 +56,23 @@ apart s q r h k = by (eq_by_cmp revision_cmp q r) refl
     by false e = refl
 
 -- nothing changed
-pub on_itself : (pin : Pin) (ever : Ever) (ds : Documents) (past : Past) (done : Progress) → IsKeptWorld ds past done → ReadsOn pin ever ds ds past past
-on_itself pin ever ds past done world = record {
+pub on_itself : (pin : Pin) (ds : Documents) (past : Past) (done : Progress) → IsKeptWorld ds past done → ReadsOn pin ds ds past past
+on_itself pin ds past done world = record {
   tree = refl;
   silent = λ p q s u h. h;
-  goes = λ p copy asked allowed. course_goes ds (course_of past) (course_of past) (sees pin.base) (sees pin.sweep) p copy asked (course ds past done world).falls (course ds past done world).falls refl (λ q s. refl) (λ r h. h);
+  goes = λ p copy asked. course_goes ds (course_of past) (course_of past) (sees pin.base) (sees pin.sweep) p copy asked (course ds past done world).falls (course ds past done world).falls refl (λ q s. refl) (λ r h. h);
 }
 
 -- an event that is no Commit
-pub on_event : (pin : Pin) (ever : Ever) (ds : Documents) (past : Past) (done : Progress) → IsKeptWorld ds past done → (e : Event) → ((r : Revision) → is_commit_of r e ≡ false) → ReadsOn pin ever ds ds past (e ∷ past)
-on_event pin ever ds past done world (event.Commit r) none = absurd (false≢true (sym (none r) ∙ ap is_eq (tied_itself revision_total r)))
-on_event pin ever ds past done world e none = record {
+pub on_event : (pin : Pin) (ds : Documents) (past : Past) (done : Progress) → IsKeptWorld ds past done → (e : Event) → ((r : Revision) → is_commit_of r e ≡ false) → ReadsOn pin ds ds past (e ∷ past)
+on_event pin ds past done world (event.Commit r) none = absurd (false≢true (sym (none r) ∙ ap is_eq (tied_itself revision_total r)))
+on_event pin ds past done world e none = record {
   tree = refl;
   silent = λ p q s u h. h;
-  goes = λ p copy asked allowed. course_goes ds (course_of past) (course_of (e ∷ past)) (sees pin.base) (sees pin.sweep) p copy asked (course ds past done world).falls (course ds past done world).falls refl (λ q s. refl) (λ r h. h);
+  goes = λ p copy asked. course_goes ds (course_of past) (course_of (e ∷ past)) (sees pin.base) (sees pin.sweep) p copy asked (course ds past done world).falls (course ds past done world).falls refl (λ q s. refl) (λ r h. h);
 }
 
-module _ (pin : Pin) (ever : Ever) (ds now : Documents) (past : Past) (done : Progress) (world : IsKeptWorld ds past done) (held : IsHeld past pin.base pin.sweep) where
+module _ (pin : Pin) (ds now : Documents) (past : Past) (done : Progress) (world : IsKeptWorld ds past done) (held : IsHeld past pin.base pin.sweep) where
   abbrev c : Course
   c = course_of past
 
@@ -91,17 +90,17 @@ module _ (pin : Pin) (ever : Ever) (ds now : Documents) (past : Past) (done : Pr
           subst (λ (z : Path). has_revision (ds (id.Node z)) q ≡ true) (sym one) (same q seen (ap (λ o. has_revision o q) (sym main.at) ∙ subst (λ (z : Path). has_revision (now (id.Node z)) q ≡ true) one h))
 
   -- a change of entries of a revision in flight alone
-  pub on_change : (r : Revision) (dr : Draw) → draw_of past r ≡ Some dr → is_in_flight past r ≡ true → edit_of past r ≡ None → (p : Path) (d : Document) → IsMainAt ds now p d → IsSameBut r p (ds (id.Node p)) d → has_revision (Some d) r ≡ false → ReadsOn pin ever ds now past past
+  pub on_change : (r : Revision) (dr : Draw) → draw_of past r ≡ Some dr → is_in_flight past r ≡ true → edit_of past r ≡ None → (p : Path) (d : Document) → IsMainAt ds now p d → IsSameBut r p (ds (id.Node p)) d → has_revision (Some d) r ≡ false → ReadsOn pin ds now past past
   on_change r dr drawn flying uncommitted at d main same unsaid = record {
     tree = refl;
     silent = λ p q s u h. silent_at at d main (λ q seen k. sym (same.said q (apart (sees pin.base) q r seen (held.base.settled r flying))) ∙ k) p q s h;
-    goes = λ p copy asked allowed. besides_goes ds now c world.keeps (course ds past done world) (sees pin.base) (sees pin.sweep) pair p copy asked at d main (λ q. eq_by_cmp revision_cmp q r) (open_of ds past done world r flying uncommitted)
+    goes = λ p copy asked. besides_goes ds now c world.keeps (course ds past done world) (sees pin.base) (sees pin.sweep) pair p copy asked at d main (λ q. eq_by_cmp revision_cmp q r) (open_of ds past done world r flying uncommitted)
         (λ q h. subst (λ (x : Revision). sees pin.base x ≡ false) (sym (same_revision q r h)) (held.base.settled r flying)) (besides ds now past done world r dr drawn flying uncommitted at d main same unsaid);
   }
 
   -- a committer writes a document
   pub on_write : (r : Revision) (dr : Draw) → draw_of past r ≡ Some dr → is_in_flight past r ≡ true → edit_of past r ≡ None → (p : Path) (marks : List Change) (op : UpdateOp) (number : ℕ) → IsWriteOp op r dr.edit.writes (commit_root dr.marks) p marks → done r p ≡ false
-      → IsMainAt ds now p (after_changes (ds (id.Node p)) op number) → ReadsOn pin ever ds now past past
+      → IsMainAt ds now p (after_changes (ds (id.Node p)) op number) → ReadsOn pin ds now past past
   on_write r dr drawn flying uncommitted p marks op number wop new main =
       let all : list_all (is_entry_of r) op.changes ≡ true = op_all op r dr.edit.writes (commit_root dr.marks) p marks (ds (id.Node p)) number wop (names ds past done world p) ((world.partly r dr drawn flying uncommitted).left p new) in
       on_change r dr drawn flying uncommitted p (after_changes (ds (id.Node p)) op number) main
@@ -110,7 +109,7 @@ module _ (pin : Pin) (ever : Ever) (ds now : Documents) (past : Past) (done : Pr
 
   -- it undoes one, whose entries are in order
   pub on_undo : (r : Revision) (dr : Draw) → draw_of past r ≡ Some dr → is_in_flight past r ≡ true → edit_of past r ≡ None → (p : Path) (d : Document) (op : UpdateOp) (number : ℕ) → ds (id.Node p) ≡ Some d → IsOrderedDocument d → op.changes ≡ change.Undo r ∷ []
-      → IsMainAt ds now p (after_changes (Some d) op number) → ReadsOn pin ever ds now past past
+      → IsMainAt ds now p (after_changes (Some d) op number) → ReadsOn pin ds now past past
   on_undo r dr drawn flying uncommitted p d op number is rise only main =
       let named : d.id ≡ id.Node p = names ds past done world p d is in
       let shape : after_changes (Some d) op number ≡ record (changed d (change.Undo r)) { mod_count = number } = ap (λ (cs : List Change). record (fold changed d cs) { mod_count = number }) only in
@@ -123,7 +122,7 @@ module _ (pin : Pin) (ever : Ever) (ds now : Documents) (past : Past) (done : Pr
       (undo_said r p d named rise unsaid)
 
   -- a document gets marks and notes
-  pub on_mark : (p : Path) (op : UpdateOp) (number : ℕ) → op.id ≡ id.Node p → list_all is_marking op.changes ≡ true → IsMainAt ds now p (after_changes (ds (id.Node p)) op number) → ReadsOn pin ever ds now past past
+  pub on_mark : (p : Path) (op : UpdateOp) (number : ℕ) → op.id ≡ id.Node p → list_all is_marking op.changes ≡ true → IsMainAt ds now p (after_changes (ds (id.Node p)) op number) → ReadsOn pin ds now past past
   on_mark at op number is all main =
       let entries : list_all (is_entry_of the_start) op.changes ≡ true = markings_all the_start op.changes all in
       let d : Document = after_changes (ds (id.Node at)) op number in
@@ -131,7 +130,7 @@ module _ (pin : Pin) (ever : Ever) (ds now : Documents) (past : Past) (done : Pr
       record {
         tree = refl;
         silent = λ p q s u h. silent_at at d main (λ q seen k. sym (update_says the_start q (ds (id.Node at)) op number entries) ∙ k) p q s h;
-        goes = λ p copy asked allowed. besides_goes ds now c world.keeps (course ds past done world) (sees pin.base) (sees pin.sweep) pair p copy asked at d main (λ q. false) (λ q h. absurd (false≢true h)) (λ q h. absurd (false≢true h)) (record {
+        goes = λ p copy asked. besides_goes ds now c world.keeps (course ds past done world) (sees pin.base) (sees pin.sweep) pair p copy asked at d main (λ q. false) (λ q h. absurd (false≢true h)) (λ q h. absurd (false≢true h)) (record {
           at = λ q h. marks_same q at (ds (id.Node at)) op number is all;
           said = λ q h k. update_says the_start q (ds (id.Node at)) op number entries ∙ k;
           unsaid = λ q e o k. update_says the_start q (ds (id.Node at)) op number entries ∙ k;
@@ -141,48 +140,43 @@ module _ (pin : Pin) (ever : Ever) (ds now : Documents) (past : Past) (done : Pr
       }
 
   -- documents of no node change
-  pub on_others : ((q : Path) → now (id.Node q) ≡ ds (id.Node q)) → ((k : ℕ) (q : Path) → now (id.Prev k q) ≡ ds (id.Prev k q)) → ReadsOn pin ever ds now past past
+  pub on_others : ((q : Path) → now (id.Node q) ≡ ds (id.Node q)) → ((k : ℕ) (q : Path) → now (id.Prev k q) ≡ ds (id.Prev k q)) → ReadsOn pin ds now past past
   on_others node previous = record {
     tree = refl;
     silent = λ p q s u h. ap (λ o. has_revision o q) (sym (node p)) ∙ h;
-    goes = λ p copy asked allowed. others_go ds now c world.keeps (course ds past done world) (sees pin.base) (sees pin.sweep) pair p copy asked node previous;
+    goes = λ p copy asked. others_go ds now c world.keeps (course ds past done world) (sees pin.base) (sees pin.sweep) pair p copy asked node previous;
   }
 
-  -- a previous document that nobody lists goes, or one comes that was never listed
-  pub on_previous : (at : Path) (k : ℕ) → IsPreviousAt ds now at k → IsUnlisted ds at k → (now (id.Prev k at) ≡ None) ⊎ (ever at k ≡ false) → ReadsOn pin ever ds now past past
-  on_previous at k change unlisted way = record {
+  -- a previous document that nobody lists goes, or one comes
+  pub on_previous : (at : Path) (k : ℕ) → IsPreviousAt ds now at k → IsUnlisted ds at k → ReadsOn pin ds now past past
+  on_previous at k change unlisted = record {
     tree = refl;
     silent = λ p q s u h. ap (λ o. has_revision o q) (sym (change.node p)) ∙ h;
-    goes = λ p copy asked allowed. previous_goes ds now c world.keeps (course ds past done world) (sees pin.base) (sees pin.sweep) pair p copy asked at k change unlisted (by p copy asked allowed way);
+    goes = λ p copy asked. previous_goes ds now c world.keeps (course ds past done world) (sees pin.base) (sees pin.sweep) pair p copy asked at k change unlisted;
   }
-    where
-      by : (p : Path) (copy : Document) (asked : ℕ → Bool) → ((e : PrevEntry) → IsIn e copy.prev → asked e.number ≡ false → ever p e.number ≡ true) → (now (id.Prev k at) ≡ None) ⊎ (ever at k ≡ false)
-          → (now (id.Prev k at) ≡ None) ⊎ ((e : PrevEntry) → IsIn e copy.prev → asked e.number ≡ false → p ≡ at → e.number ≡ k → ⊥)
-      by p copy asked allowed (inl gone) = inl gone
-      by p copy asked allowed (inr never) = inr (λ e i a one same. false≢true (sym never ∙ subst (λ (z : Path). ever z k ≡ true) one (subst (λ (j : ℕ). ever p j ≡ true) same (allowed e i a))))
 
   -- garbage entries go, and previous documents are unlisted
-  pub on_pruned : (at : Path) (old d : Document) → ds (id.Node at) ≡ Some old → IsMainAt ds now at d → IsPruned ds c at old d → ReadsOn pin ever ds now past past
+  pub on_pruned : (at : Path) (old d : Document) → ds (id.Node at) ≡ Some old → IsMainAt ds now at d → IsPruned ds c at old d → ReadsOn pin ds now past past
   on_pruned at old d is main pruned = record {
     tree = refl;
     silent = λ p q s u h. silent_at at d main (λ q seen k. ap (λ o. has_revision o q) is ∙ pruned.revisions.sub q k) p q s h;
-    goes = λ p copy asked allowed. pruned_goes ds now c world.keeps (course ds past done world) (sees pin.base) (sees pin.sweep) pair p copy asked at old d is main pruned;
+    goes = λ p copy asked. pruned_goes ds now c world.keeps (course ds past done world) (sees pin.base) (sees pin.sweep) pair p copy asked at old d is main pruned;
   }
 
   -- a split lists what it moved
-  pub on_moved : (at : Path) (old d : Document) (e : PrevEntry) (x : Document) → ds (id.Node at) ≡ Some old → ds (id.Prev e.number at) ≡ Some x → IsMainAt ds now at d → IsMoved c at old d e x → ReadsOn pin ever ds now past past
+  pub on_moved : (at : Path) (old d : Document) (e : PrevEntry) (x : Document) → ds (id.Node at) ≡ Some old → ds (id.Prev e.number at) ≡ Some x → IsMainAt ds now at d → IsMoved c at old d e x → ReadsOn pin ds now past past
   on_moved at old d e x is there main moved = record {
     tree = refl;
     silent = λ p q s u h. silent_at at d main (λ q seen k. ap (λ o. has_revision o q) is ∙ (ap (λ es. is_some (of_revision es q)) (sym moved.revisions) ∙ k)) p q s h;
-    goes = λ p copy asked allowed. moved_goes ds now c world.keeps (course ds past done world) (sees pin.base) (sees pin.sweep) pair p copy asked at old d e x is there main moved;
+    goes = λ p copy asked. moved_goes ds now c world.keeps (course ds past done world) (sees pin.base) (sees pin.sweep) pair p copy asked at old d e x is there main moved;
   }
 
   -- a document of an absent node goes
-  pub on_removed : (at : Path) (old : Document) → ds (id.Node at) ≡ Some old → IsChangeAt ds now at → now (id.Node at) ≡ None → ((k : ℕ) → now (id.Prev k at) ≡ ds (id.Prev k at)) → IsUnwanted c at old → ReadsOn pin ever ds now past past
+  pub on_removed : (at : Path) (old : Document) → ds (id.Node at) ≡ Some old → IsChangeAt ds now at → now (id.Node at) ≡ None → ((k : ℕ) → now (id.Prev k at) ≡ ds (id.Prev k at)) → IsUnwanted c at old → ReadsOn pin ds now past past
   on_removed at old is elsewhere gone stay unwanted = record {
     tree = refl;
     silent = λ p q s u h. silent p q h (eq_by_cmp path_cmp p at) refl;
-    goes = λ p copy asked allowed. removed_goes ds now c world.keeps (course ds past done world) (sees pin.base) (sees pin.sweep) pair p copy asked at old is elsewhere gone stay unwanted;
+    goes = λ p copy asked. removed_goes ds now c world.keeps (course ds past done world) (sees pin.base) (sees pin.sweep) pair p copy asked at old is elsewhere gone stay unwanted;
   }
     where
       silent : (p : Path) (q : Revision) → has_revision (now (id.Node p)) q ≡ true → (b : Bool) → eq_by_cmp path_cmp p at ≡ b → has_revision (ds (id.Node p)) q ≡ true
@@ -191,14 +185,14 @@ module _ (pin : Pin) (ever : Ever) (ds now : Documents) (past : Past) (done : Pr
 
   -- the last write of a draw, with its Commit, after which the world is kept
   pub on_last : (r : Revision) (dr : Draw) (op : UpdateOp) (number : ℕ) → draw_of past r ≡ Some dr → MayCommit past r → op.id ≡ id.Node (commit_root dr.marks) → op.changes ≡ change.Revisions r ∷ []
-      → IsMainAt ds now (commit_root dr.marks) (after_changes (ds (id.Node (commit_root dr.marks))) op number) → IsKeptWorld now (event.Commit r ∷ past) done → ReadsOn pin ever ds now past (event.Commit r ∷ past)
+      → IsMainAt ds now (commit_root dr.marks) (after_changes (ds (id.Node (commit_root dr.marks))) op number) → IsKeptWorld now (event.Commit r ∷ past) done → ReadsOn pin ds now past (event.Commit r ∷ past)
   on_last r dr op number drawn may is only main then = record {
     tree = tree_commit past r dr world.told may drawn pin.base held.base;
     silent = λ p q s u h. silent_at root d main (λ q seen k. sym (same.said q (apart (sees pin.base) q r seen unseen)) ∙ k) p q s h;
-    goes = λ p copy asked allowed.
+    goes = λ p copy asked.
         let docs : GoesOn ds now c c (sees pin.base) (sees pin.sweep) p copy asked = last_goes ds now c world.keeps (course ds past done world) (sees pin.base) (sees pin.sweep) pair p copy asked root d main same_at said same.whole in
         let tells : GoesOn now now c later (sees pin.base) (sees pin.sweep) p copy asked = course_goes now c later (sees pin.base) (sees pin.sweep) p copy asked (course ds past done world).falls (course now (event.Commit r ∷ past) done then).falls refl seen_same still_done in
-        record { tree = tells.tree; node_last = tells.node_last; prop_last = tells.prop_last; done = tells.done; said = docs.said; sub = docs.sub; list = docs.list; previous = docs.previous };
+        record { tree = tells.tree; node_last = tells.node_last; prop_last = tells.prop_last; done = tells.done; said = docs.said; sub = docs.sub; list = docs.list; stays = docs.stays; previous = docs.previous };
   }
     where
       later : Course

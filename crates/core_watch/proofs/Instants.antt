@@ -1,5 +1,5 @@
 -- A reader that others let read on ends in the tree at its base.
-use Rattle.std.proofs.Common.{◌≡◌, ℕ, zero, suc, false, Some, None, Option, List, [], ◌∷◌, refl, sym, ap, ◌∙◌, subst, is_some}
+use Rattle.std.proofs.Common.{◌≡◌, ℕ, zero, suc, Some, None, Option, List, [], ◌∷◌, refl, sym, ap, ◌∙◌, subst, is_some}
 use Rattle.std.specs.Option.{unwrap_or}
 use Rattle.std.specs.declared.alloc.Global.{Global}
 use mathlib.Core.Bool.{false≢true}
@@ -20,7 +20,8 @@ use Rattle.core_keep.specs.Journal.{course_of}
 use Rattle.core_keep.specs.Keeps.{Course}
 use Rattle.core_watch.specs.Standing.{Child, path_read, AreChildrenOf, IsNodeOf}
 use Rattle.core_watch.specs.Moments.{after_moments, answered, EndsWith, first_of, HasIdsAmong, IsFor, Moment}
-use Rattle.core_watch.specs.Reading.{Ever, IsReading, Stands}
+use Rattle.core_keep.specs.Formers.{Formers}
+use Rattle.core_watch.specs.Reading.{IsReading, Stands}
 use Rattle.core_watch.specs.Instants.{Instant, AreReadable, documents_at, first_instants, moments_of}
 use Rattle.core_watch.proofs.Fed.{reading_feeds}
 use Rattle.core_watch.proofs.Finite.{ends, done_with}
@@ -28,34 +29,34 @@ use Rattle.core_watch.proofs.Lasting.{reading_lasts}
 use Rattle.core_watch.proofs.Moments.{fed_keeps}
 use Rattle.core_watch.proofs.Steady.{children_only, node_only, IsGiven}
 
-pub begins_node : (ds : Documents) (past : Past) (ever : Ever) (a : Global) (pin : Pin) (p : Path) → IsReading ds past ever (node_reader a pin p)
-begins_node ds past ever a pin p = record { copies = record { rising = refl; each = λ q d h. absurd (false≢true (ap is_some h)) }; stands = refl }
+pub begins_node : (ds : Documents) (past : Past) (formers : Formers) (a : Global) (pin : Pin) (p : Path) → IsReading ds past formers (node_reader a pin p)
+begins_node ds past formers a pin p = record { copies = record { rising = refl; each = λ q d h. absurd (false≢true (ap is_some h)) }; stands = refl }
 
-pub begins_children : (ds : Documents) (past : Past) (ever : Ever) (a : Global) (pin : Pin) (p : Path) → IsReading ds past ever (children_reader a pin p)
-begins_children ds past ever a pin p = record { copies = record { rising = refl; each = λ q d h. absurd (false≢true (ap is_some h)) }; stands = (record { least = refl; none = refl }, refl) }
+pub begins_children : (ds : Documents) (past : Past) (formers : Formers) (a : Global) (pin : Pin) (p : Path) → IsReading ds past formers (children_reader a pin p)
+begins_children ds past formers a pin p = record { copies = record { rising = refl; each = λ q d h. absurd (false≢true (ap is_some h)) }; stands = (record { least = refl; none = refl }, refl) }
 
-given : (ds : Documents) (c : Course) (t : Nodes) (pin : Pin) (parent : Option Path) (at : Path) (known : Known) (names : List Child) (o : ReadOut) → Stands ds c t pin parent at known names (step.Done o) → IsGiven t parent (unwrap_or parent at) o
-given ds c t pin None at known names o h = h
-given ds c t pin (Some p) at known names o h = h
+given : (ds : Documents) (c : Course) (formers : Formers) (t : Nodes) (pin : Pin) (parent : Option Path) (at : Path) (known : Known) (names : List Child) (o : ReadOut) → Stands ds c formers t pin parent at known names (step.Done o) → IsGiven t parent (unwrap_or parent at) o
+given ds c formers t pin None at known names o h = h
+given ds c formers t pin (Some p) at known names o h = h
 
 -- where it is done it gives that of the tree at its base
-gives : (ds : Documents) (past : Past) (ever : Ever) (r : Reader) (o : ReadOut) → IsReading ds past ever r → r.step ≡ step.Done o → IsGiven (tree_at None past r.pin.base) r.parent (path_read r) o
-gives ds past ever r o reading done = given ds (course_of past) (tree_at None past r.pin.base) r.pin r.parent r.at r.known r.names o (subst (λ (s : Step). Stands ds (course_of past) (tree_at None past r.pin.base) r.pin r.parent r.at r.known r.names s) done reading.stands)
+gives : (ds : Documents) (past : Past) (formers : Formers) (r : Reader) (o : ReadOut) → IsReading ds past formers r → r.step ≡ step.Done o → IsGiven (tree_at None past r.pin.base) r.parent (path_read r) o
+gives ds past formers r o reading done = given ds (course_of past) formers (tree_at None past r.pin.base) r.pin r.parent r.at r.known r.names o (subst (λ (s : Step). Stands ds (course_of past) formers (tree_at None past r.pin.base) r.pin r.parent r.at r.known r.names s) done reading.stands)
 
-pub gives_node : (ds : Documents) (past : Past) (ever : Ever) (r : Reader) (o : ReadOut) → IsReading ds past ever r → r.parent ≡ None → r.step ≡ step.Done o → IsNodeOf (tree_at None past r.pin.base) (path_read r) o
-gives_node ds past ever r o reading none done = node_only (tree_at None past r.pin.base) r.parent (path_read r) o none (gives ds past ever r o reading done)
+pub gives_node : (ds : Documents) (past : Past) (formers : Formers) (r : Reader) (o : ReadOut) → IsReading ds past formers r → r.parent ≡ None → r.step ≡ step.Done o → IsNodeOf (tree_at None past r.pin.base) (path_read r) o
+gives_node ds past formers r o reading none done = node_only (tree_at None past r.pin.base) r.parent (path_read r) o none (gives ds past formers r o reading done)
 
-pub gives_children : (ds : Documents) (past : Past) (ever : Ever) (r : Reader) (p : Path) (o : ReadOut) → IsReading ds past ever r → r.parent ≡ Some p → r.step ≡ step.Done o → AreChildrenOf (tree_at None past r.pin.base) p o
-gives_children ds past ever r p o reading some done = children_only (tree_at None past r.pin.base) r.parent (path_read r) p o some (gives ds past ever r o reading done)
+pub gives_children : (ds : Documents) (past : Past) (formers : Formers) (r : Reader) (p : Path) (o : ReadOut) → IsReading ds past formers r → r.parent ≡ Some p → r.step ≡ step.Done o → AreChildrenOf (tree_at None past r.pin.base) p o
+gives_children ds past formers r p o reading some done = children_only (tree_at None past r.pin.base) r.parent (path_read r) p o some (gives ds past formers r o reading done)
 
 -- after all answers it gives, where it is done, what the tree of the first instant has
-run : (is : List Instant) (i : Instant) (r : Reader) → AreReadable r.pin i is → IsReading (documents_at i) i.moment.past i.ever r → (o : ReadOut) → (after_moments (moments_of is) r).step ≡ step.Done o → IsGiven (tree_at None i.moment.past r.pin.base) r.parent (path_read r) o
-run [] i r on reading o done = gives (documents_at i) i.moment.past i.ever r o reading done
+run : (is : List Instant) (i : Instant) (r : Reader) → AreReadable r.pin i is → IsReading (documents_at i) i.moment.past i.formers r → (o : ReadOut) → (after_moments (moments_of is) r).step ≡ step.Done o → IsGiven (tree_at None i.moment.past r.pin.base) r.parent (path_read r) o
+run [] i r on reading o done = gives (documents_at i) i.moment.past i.formers r o reading done
 run (k ∷ is) i r on reading o done =
     let kept : IsFor r.pin r.parent (path_read r) (answered r k.moment) = fed_keeps r (answer k.moment.table (due r)) in
-    let now : IsReading (documents_at k) k.moment.past k.ever (answered r k.moment) =
-    reading_feeds k.moment.table k.moment.past k.ever (on.2).done r (on.2).ordered (on.2).kept (on.2).held (on.2).listed
-    (reading_lasts i.ever k.ever (documents_at i) (documents_at k) i.moment.past k.moment.past r on.0 on.1 reading) in
+    let now : IsReading (documents_at k) k.moment.past k.formers (answered r k.moment) =
+    reading_feeds k.moment.table k.moment.past k.formers (on.2).done r (on.2).ordered (on.2).kept (on.2).held (on.2).listed
+    (reading_lasts i.formers k.formers (documents_at i) (documents_at k) i.moment.past k.moment.past r on.0 on.1 reading) in
     let rest : IsGiven (tree_at None k.moment.past (answered r k.moment).pin.base) (answered r k.moment).parent (path_read (answered r k.moment)) o =
     run is k (answered r k.moment) (subst (λ (pin : Pin). AreReadable pin k is) (sym kept.same_pin) on.3) now o done in
     subst (λ (t : Nodes). IsGiven t r.parent (path_read r) o) (on.0).tree
@@ -64,10 +65,10 @@ run (k ∷ is) i r on reading o done =
     (subst (λ (pin : Pin). IsGiven (tree_at None k.moment.past pin.base) (answered r k.moment).parent (path_read (answered r k.moment)) o) kept.same_pin rest)))
 
 pub reads_node : (a : Global) (pin : Pin) (p : Path) (i : Instant) (is : List Instant) (o : ReadOut) → AreReadable pin i is → (after_moments (moments_of is) (node_reader a pin p)).step ≡ step.Done o → IsNodeOf (tree_at None i.moment.past pin.base) p o
-reads_node a pin p i is o on done = run is i (node_reader a pin p) on (begins_node (documents_at i) i.moment.past i.ever a pin p) o done
+reads_node a pin p i is o on done = run is i (node_reader a pin p) on (begins_node (documents_at i) i.moment.past i.formers a pin p) o done
 
 pub reads_children : (a : Global) (pin : Pin) (p : Path) (i : Instant) (is : List Instant) (o : ReadOut) → AreReadable pin i is → (after_moments (moments_of is) (children_reader a pin p)).step ≡ step.Done o → AreChildrenOf (tree_at None i.moment.past pin.base) p o
-reads_children a pin p i is o on done = run is i (children_reader a pin p) on (begins_children (documents_at i) i.moment.past i.ever a pin p) o done
+reads_children a pin p i is o on done = run is i (children_reader a pin p) on (begins_children (documents_at i) i.moment.past i.formers a pin p) o done
 
 -- the moments of the first instants are the first of the moments
 firsts : (n : ℕ) (f : ℕ → Instant) → moments_of (first_instants n f) ≡ first_of n (λ i. (f i).moment)

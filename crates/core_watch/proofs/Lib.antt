@@ -14,3 +14,4 @@ pub mod Lasting
 pub mod Fed
 pub mod GoingOn
 pub mod Instants
+pub mod StayingOn

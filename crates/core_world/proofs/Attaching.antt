@@ -24,9 +24,8 @@ use Rattle.oak_machine.specs.declared.event.StepKind.TheVariants as kind
 use Rattle.oak_machine.specs.History.{Past}
 use Rattle.oak_machine.specs.Laws.{Says, Starts, StartsProper}
 use Rattle.oak_machine.specs.Runs.{IsRunOf}
-use Rattle.oak_machine.specs.Sessions.{base_of, has_left, has_login, has_reader, is_attached, kept_checkpoint, last_checkpoint}
+use Rattle.oak_machine.specs.Sessions.{base_of, has_left, has_login, has_reader, is_attached, is_recovered, is_stopped_under, kept_checkpoint, last_checkpoint}
 use Rattle.oak_node.specs.Pins.{pin_of}
-use Rattle.oak_read.specs.Meaning.{documents_in}
 use Rattle.oak_store.specs.Tables.{Table, next_number}
 use Rattle.core_read.proofs.Entries.{lookup-remove, sorted_insert, sorted_remove}
 use Rattle.core_heads.proofs.Orders.{not_both, same_number}
@@ -34,14 +33,14 @@ use Rattle.core_heads.proofs.Runs.{kept_last}
 use Rattle.core_clash.proofs.Basics.{same_name}
 use Rattle.core_nodes.specs.Nodes.{IsPair, base_of_pin}
 use Rattle.core_world.specs.Kept.{AreSettingsKept, AreLayersKept, live_base, reader_at, has_written}
-use Rattle.core_world.specs.States.{State, actor_pin, memory_of, reader_pin}
+use Rattle.core_world.specs.States.{State, actor_pin, memory_of, node_of, reader_pin}
 use Rattle.core_world.specs.Steps.{after_attach, after_detach, after_unfound, after_update, settings_op}
 use Rattle.core_world.proofs.Backs.{with_table}
 use Rattle.core_world.proofs.Checkpoints.{name_total, nodes_same, previous_same, root_same, settings_there}
 use Rattle.core_world.proofs.Draws.{base_is, its_pair}
 use Rattle.core_world.proofs.Finishing.{quiet_commits}
-use Rattle.core_world.proofs.Flights.{still_idle}
-use Rattle.core_world.proofs.Lives.{runs_on, session_there, told, reader_held}
+use Rattle.core_world.proofs.Flights.{work_quiet}
+use Rattle.core_world.proofs.Lives.{session_there, told, reader_held}
 use Rattle.core_world.proofs.Memories.{aside}
 use Rattle.core_world.proofs.Readers.{apart_from, event_reads, is_live}
 use Rattle.core_world.proofs.Roots.{root_quiet}
@@ -82,14 +81,14 @@ number_is q s h = grind (arith, nat_tests)
 number_other : (q s : ℕ) → (s == q) ≡ false → is_eq (nat_cmp q s) ≡ false
 number_other q s h = grind (arith, nat_tests)
 
-number_test : (q s : ℕ) → eq_by_cmp nat_cmp q s ≡ (s == q)
+pub number_test : (q s : ℕ) → eq_by_cmp nat_cmp q s ≡ (s == q)
 number_test q s = by (s == q) refl
   where
     by : (b : Bool) → (s == q) ≡ b → eq_by_cmp nat_cmp q s ≡ b
     by true h = number_is q s h
     by false h = number_other q s h
 
-module _ (past : Past) (t : Table) (set : AreSettingsKept past t) (s : ℕ) where
+module _ (sessions : List ℕ) (past : Past) (t : Table) (set : AreSettingsKept sessions past t) (s : ℕ) where
   module _ (i : Text) (v : RevVec) (h : kept_checkpoint past i ≡ Some v) where
     abbrev made : Document
     made = after_changes (Some set.document) (settings_op (change.Attach s i)) (next_number t)
@@ -107,15 +106,19 @@ module _ (past : Past) (t : Table) (set : AreSettingsKept past t) (s : ℕ) wher
       at_base : Some pin.base ≡ last_checkpoint past i
       at_base = ap base_of_pin (sym e) ∙ (set.checkpoints i ∙ (h ∙ sym (kept_last past i v h)))
 
-      base_then : (q : ℕ) (b : Bool) → base_of_pin (cond b (Some pin) (lookup (is_at (nat_cmp q)) set.document.readers)) ≡ cond b (last_checkpoint past i) (reader_at past q)
-      base_then q true = at_base
-      base_then q false = set.readers q
+      base_then : (q : ℕ) → is_stopped_under sessions past q ≡ false → (b : Bool) → base_of_pin (cond b (Some pin) (lookup (is_at (nat_cmp q)) set.document.readers)) ≡ cond b (last_checkpoint past i) (reader_at past q)
+      base_then q on true = at_base
+      base_then q on false = set.readers q on
+
+      only_then : (q : ℕ) (x : Pin) (b : Bool) → cond b (Some pin) (lookup (is_at (nat_cmp q)) set.document.readers) ≡ Some x → cond b (last_checkpoint past i) (reader_at past q) ≡ Some x.base
+      only_then q x true k = sym at_base ∙ ap base_of_pin k
+      only_then q x false k = set.only q x k
 
       pair_then : (q : ℕ) (x : Pin) (b : Bool) → cond b (Some pin) (lookup (is_at (nat_cmp q)) set.document.readers) ≡ Some x → IsPair x.base x.sweep
       pair_then q x true k = subst (λ (p : Pin). IsPair p.base p.sweep) (ap (λ o. unwrap_or o pin) k) (set.checkpoint_pairs i pin e)
       pair_then q x false k = set.reader_pairs q x k
 
-      attach_with : AreSettingsKept (event.Attach s i ∷ past) (after_update t (settings_op (change.Attach s i)))
+      attach_with : AreSettingsKept sessions (event.Attach s i ∷ past) (after_update t (settings_op (change.Attach s i)))
       attach_with = record {
         document = after_changes (Some set.document) (settings_op (change.Attach s i)) (next_number t);
         there = settings_there t set.document set.there (change.Attach s i);
@@ -123,14 +126,15 @@ module _ (past : Past) (t : Table) (set : AreSettingsKept past t) (s : ℕ) wher
         numbered = subst (λ (es : List (ℕ × Pin)). is_sorted nat_cmp es ≡ true) (sym readers_are) (sorted_insert nat_cmp nat_cmp_total s pin set.document.readers set.numbered);
         checkpoints = set.checkpoints;
         checkpoint_pairs = set.checkpoint_pairs;
-        readers = λ q. ap base_of_pin (found_then q) ∙ base_then q (s == q);
+        readers = λ q on. ap base_of_pin (found_then q) ∙ base_then q on (s == q);
+        only = λ q x k. only_then q x (s == q) (sym (found_then q) ∙ k);
         reader_pairs = λ q x k. pair_then q x (s == q) (sym (found_then q) ∙ k);
       }
 
-    pub attach_set : AreSettingsKept (event.Attach s i ∷ past) (after_update t (settings_op (change.Attach s i)))
+    pub attach_set : AreSettingsKept sessions (event.Attach s i ∷ past) (after_update t (settings_op (change.Attach s i)))
     attach_set = by (lookup (is_at (name_cmp i)) set.document.checkpoints) refl (set.checkpoints i ∙ h)
       where
-        by : (o : Option Pin) → lookup (is_at (name_cmp i)) set.document.checkpoints ≡ o → base_of_pin o ≡ Some v → AreSettingsKept (event.Attach s i ∷ past) (after_update t (settings_op (change.Attach s i)))
+        by : (o : Option Pin) → lookup (is_at (name_cmp i)) set.document.checkpoints ≡ o → base_of_pin o ≡ Some v → AreSettingsKept sessions (event.Attach s i ∷ past) (after_update t (settings_op (change.Attach s i)))
         by None e k = absurd (false≢true (ap is_some k))
         by (Some pin) e k = attach_with pin e
 
@@ -146,7 +150,7 @@ module _ (past : Past) (t : Table) (set : AreSettingsKept past t) (s : ℕ) wher
     same_readers : (after_changes (Some set.document) (settings_op (change.Attach s i)) (next_number t)).readers ≡ set.document.readers
     same_readers = ap (λ (o : Option Pin). option_map_or (λ pin. insert_entry nat_cmp set.document.readers s pin) o set.document.readers) none_there
 
-    pub attach_unfound : AreSettingsKept (event.Went s kind.Settings ∷ past) (after_update t (settings_op (change.Attach s i)))
+    pub attach_unfound : AreSettingsKept sessions (event.Went s kind.Settings ∷ past) (after_update t (settings_op (change.Attach s i)))
     attach_unfound = record {
       document = after_changes (Some set.document) (settings_op (change.Attach s i)) (next_number t);
       there = settings_there t set.document set.there (change.Attach s i);
@@ -154,7 +158,8 @@ module _ (past : Past) (t : Table) (set : AreSettingsKept past t) (s : ℕ) wher
       numbered = subst (λ (es : List (ℕ × Pin)). is_sorted nat_cmp es ≡ true) (sym same_readers) set.numbered;
       checkpoints = set.checkpoints;
       checkpoint_pairs = set.checkpoint_pairs;
-      readers = λ q. ap (λ (es : List (ℕ × Pin)). base_of_pin (lookup (is_at (nat_cmp q)) es)) same_readers ∙ set.readers q;
+      readers = λ q on. ap (λ (es : List (ℕ × Pin)). base_of_pin (lookup (is_at (nat_cmp q)) es)) same_readers ∙ set.readers q on;
+      only = λ q x k. set.only q x (sym (ap (λ (es : List (ℕ × Pin)). lookup (is_at (nat_cmp q)) es) same_readers) ∙ k);
       reader_pairs = λ q x k. set.reader_pairs q x (sym (ap (λ (es : List (ℕ × Pin)). lookup (is_at (nat_cmp q)) es) same_readers) ∙ k);
     }
 
@@ -165,7 +170,7 @@ module _ (past : Past) (t : Table) (set : AreSettingsKept past t) (s : ℕ) wher
         by true e = sym (ap (λ (x : Text). lookup (is_at (name_cmp x)) set.document.checkpoints) (same_name q i e) ∙ none_there)
         by false e = refl
 
-    pub release_unfound : AreSettingsKept (event.Went s kind.Settings ∷ past) (after_update t (settings_op (change.Release i)))
+    pub release_unfound : AreSettingsKept sessions (event.Went s kind.Settings ∷ past) (after_update t (settings_op (change.Release i)))
     release_unfound = record {
       document = after_changes (Some set.document) (settings_op (change.Release i)) (next_number t);
       there = settings_there t set.document set.there (change.Release i);
@@ -174,21 +179,26 @@ module _ (past : Past) (t : Table) (set : AreSettingsKept past t) (s : ℕ) wher
       checkpoints = λ q. ap base_of_pin (still q) ∙ set.checkpoints q;
       checkpoint_pairs = λ q x k. set.checkpoint_pairs q x (sym (still q) ∙ k);
       readers = set.readers;
+      only = set.only;
       reader_pairs = set.reader_pairs;
     }
 
   left_then : (q : ℕ) → lookup (is_at (nat_cmp q)) (remove_entry (is_at (nat_cmp s)) set.document.readers) ≡ cond (s == q) None (lookup (is_at (nat_cmp q)) set.document.readers)
   left_then q = lookup-remove nat_cmp nat_cmp_total q s set.document.readers set.numbered ∙ ap (λ b. cond b None (lookup (is_at (nat_cmp q)) set.document.readers)) (number_test q s)
 
-  base_left : (q : ℕ) (b : Bool) → base_of_pin (cond b None (lookup (is_at (nat_cmp q)) set.document.readers)) ≡ cond b None (reader_at past q)
-  base_left q true = refl
-  base_left q false = set.readers q
+  base_left : (q : ℕ) → is_stopped_under sessions past q ≡ false → (b : Bool) → base_of_pin (cond b None (lookup (is_at (nat_cmp q)) set.document.readers)) ≡ cond b None (reader_at past q)
+  base_left q on true = refl
+  base_left q on false = set.readers q on
+
+  only_left : (q : ℕ) (x : Pin) (b : Bool) → cond b None (lookup (is_at (nat_cmp q)) set.document.readers) ≡ Some x → cond b None (reader_at past q) ≡ Some x.base
+  only_left q x true k = absurd (false≢true (ap is_some k))
+  only_left q x false k = set.only q x k
 
   pair_left : (q : ℕ) (x : Pin) (b : Bool) → cond b None (lookup (is_at (nat_cmp q)) set.document.readers) ≡ Some x → IsPair x.base x.sweep
   pair_left q x true k = absurd (false≢true (ap is_some k))
   pair_left q x false k = set.reader_pairs q x k
 
-  pub detach_set : AreSettingsKept (event.Detach s ∷ past) (after_update t (settings_op (change.Detach s)))
+  pub detach_set : AreSettingsKept sessions (event.Detach s ∷ past) (after_update t (settings_op (change.Detach s)))
   detach_set = record {
     document = after_changes (Some set.document) (settings_op (change.Detach s)) (next_number t);
     there = settings_there t set.document set.there (change.Detach s);
@@ -196,35 +206,36 @@ module _ (past : Past) (t : Table) (set : AreSettingsKept past t) (s : ℕ) wher
     numbered = sorted_remove nat_cmp (is_at (nat_cmp s)) set.document.readers set.numbered;
     checkpoints = set.checkpoints;
     checkpoint_pairs = set.checkpoint_pairs;
-    readers = λ q. ap base_of_pin (left_then q) ∙ base_left q (s == q);
+    readers = λ q on. ap base_of_pin (left_then q) ∙ base_left q on (s == q);
+    only = λ q x k. only_left q x (s == q) (sym (left_then q) ∙ k);
     reader_pairs = λ q x k. pair_left q x (s == q) (sym (left_then q) ∙ k);
   }
 
 -- ---- the steps
 
 module _ (starts : Starts) (says : Says) (proper : StartsProper starts) (w : State) (kept : AreLayersKept starts says w) (s : ℕ) (login : has_login w.past s ≡ true) (stays : has_left w.past s ≡ false) where
-  pub attach_keeps : (i : Text) (v : RevVec) → is_attached w.past s ≡ false → w.reading s ≡ None → kept_checkpoint w.past i ≡ Some v → AreLayersKept starts says (after_attach w s i)
-  attach_keeps i v detached unread there =
+  pub attach_keeps : is_stopped_under w.sessions w.past s ≡ false → (i : Text) (v : RevVec) → is_attached w.past s ≡ false → w.reading s ≡ None → kept_checkpoint w.past i ≡ Some v → AreLayersKept starts says (after_attach w s i)
+  attach_keeps on i v detached unread there =
       let c : Change = change.Attach s i in
       let e : Event = event.Attach s i in
       let same = nodes_same w.table kept.settings.document kept.settings.there c in
       let previous = previous_same w.table kept.settings.document kept.settings.there c in
       let u : Table = after_update w.table (settings_op c) in
-      let run : IsRunOf starts says w.clusters w.sessions None (e ∷ w.past) = ((subst (λ (o : Option RevVec). IsSome o) (sym there) refl, detached, runs_on starts says w kept.sessions s), kept.sessions.run) in
+      let run : IsRunOf starts says w.clusters w.sessions None (e ∷ w.past) = ((subst (λ (o : Option RevVec). IsSome o) (sym there) refl, detached, on), kept.sessions.run) in
       let t = told starts says proper w kept.sessions in
       record {
         sessions = record {
           nodes = kept.sessions.nodes;
           run = run;
           committing = quiet_commits w.past u w.running (nodes_commit w.past w.table u w.running kept.sessions.committing t same previous) t e refl (λ k. refl);
-          working = record { idle = λ q h. still_idle e w.past q refl (kept.sessions.working.idle q h); stays = kept.sessions.working.stays };
+          working = work_quiet w.sessions w.past w.running w.reading kept.sessions.working e refl (λ q. refl) (λ k. refl);
           memories = aside starts says w.clusters w.sessions kept.sessions.nodes w.past w.memories kept.sessions.memories e run (λ j. refl) (λ j. refl);
-          readers = event_reads w.past w.table w.reading kept.sessions.readers (reader_held starts says proper w kept.sessions) e u
+          readers = event_reads w.past w.table w.formers w.reading kept.sessions.readers (reader_held starts says proper w kept.sessions) e u
               (lets_then w.table u u w.past w.past (e ∷ w.past) (λ pin h. h) (nodes_let w.past w.table u w.running kept.sessions.committing t same previous) (lets_calm u w.past (λ r. has_written (kept.sessions.committing.writers r)) (same_world w.past w.table u w.running kept.sessions.committing t same previous) e (λ x. refl) refl))
-              (apart_from w.past w.table w.reading kept.sessions.readers (reader_held starts says proper w kept.sessions) s unread);
+              (apart_from w.past w.table w.formers w.reading kept.sessions.readers (reader_held starts says proper w kept.sessions) s unread);
         };
         root = root_quiet w.clusters w.past u e refl (root_same w.clusters w.past w.table u same kept.root);
-        settings = attach_set w.past w.table kept.settings s i v there;
+        settings = attach_set w.sessions w.past w.table kept.settings s i v there;
       }
 
   pub detach_keeps : is_attached w.past s ≡ false → has_reader w.past s ≡ true → AreLayersKept starts says (after_detach w s)
@@ -239,10 +250,10 @@ module _ (starts : Starts) (says : Says) (proper : StartsProper starts) (w : Sta
             (nodes_commit w.past w.table u w.running kept.sessions.committing (told starts says proper w kept.sessions) same previous)
             (nodes_let w.past w.table u w.running kept.sessions.committing (told starts says proper w kept.sessions) same previous);
         root = root_quiet w.clusters w.past u e refl (root_same w.clusters w.past w.table u same kept.root);
-        settings = detach_set w.past w.table kept.settings s;
+        settings = detach_set w.sessions w.past w.table kept.settings s;
       }
 
-  unfound : (c : Change) → AreSettingsKept (event.Went s kind.Settings ∷ w.past) (after_update w.table (settings_op c)) → AreLayersKept starts says (after_unfound w s c)
+  unfound : (c : Change) → AreSettingsKept w.sessions (event.Went s kind.Settings ∷ w.past) (after_update w.table (settings_op c)) → AreLayersKept starts says (after_unfound w s c)
   unfound c set =
       let e : Event = event.Went s kind.Settings in
       let same = nodes_same w.table kept.settings.document kept.settings.there c in
@@ -257,21 +268,20 @@ module _ (starts : Starts) (says : Says) (proper : StartsProper starts) (w : Sta
       }
 
   pub attach_unfound_keeps : (i : Text) → kept_checkpoint w.past i ≡ None → AreLayersKept starts says (after_unfound w s (change.Attach s i))
-  attach_unfound_keeps i none = unfound (change.Attach s i) (attach_unfound w.past w.table kept.settings s i none)
+  attach_unfound_keeps i none = unfound (change.Attach s i) (attach_unfound w.sessions w.past w.table kept.settings s i none)
 
   pub release_unfound_keeps : (i : Text) → kept_checkpoint w.past i ≡ None → AreLayersKept starts says (after_unfound w s (change.Release i))
-  release_unfound_keeps i none = unfound (change.Release i) (release_unfound w.past w.table kept.settings s i none)
+  release_unfound_keeps i none = unfound (change.Release i) (release_unfound w.sessions w.past w.table kept.settings s i none)
 
   -- the pin at which it reads is at its base
-  pub actor_based : (pin : Pin) → actor_pin w s ≡ Some pin → base_of w.past s ≡ Some pin.base
-  actor_based pin h = by (is_attached w.past s) refl h
+  pub actor_based : is_recovered w.past (node_of w s) ≡ false → (pin : Pin) → actor_pin w s ≡ Some pin → base_of w.past s ≡ Some pin.base
+  actor_based alive pin h = by (is_attached w.past s) refl h
     where
       by : (b : Bool) → is_attached w.past s ≡ b → cond b (reader_pin w.table s) (pin_of (memory_of w s) s) ≡ Some pin → base_of w.past s ≡ Some pin.base
       by true a k =
           attached_reader starts says w.clusters w.sessions w.past kept.sessions.run s a
-          ∙ (sym (kept.settings.readers s)
-          ∙ ap base_of_pin (sym (ap (λ (o : Option Document). option_and_then (λ d. lookup (is_at (nat_cmp s)) d.readers) o) kept.settings.there) ∙ k))
-      by false a k = base_is starts says proper w kept.sessions s login stays a ∙ ap (λ (o : Option Pin). Some (option_map_or (λ (p : Pin). p.base) o (memory_of w s).head)) k
+          ∙ kept.settings.only s pin (sym (ap (λ (o : Option Document). option_and_then (λ d. lookup (is_at (nat_cmp s)) d.readers) o) kept.settings.there) ∙ k)
+      by false a k = base_is starts says proper w kept.sessions s alive login stays a ∙ ap (λ (o : Option Pin). Some (option_map_or (λ (p : Pin). p.base) o (memory_of w s).head)) k
 
   pub actor_pair : (pin : Pin) → actor_pin w s ≡ Some pin → IsPair pin.base pin.sweep
   actor_pair pin h = by (is_attached w.past s) h
@@ -280,5 +290,5 @@ module _ (starts : Starts) (says : Says) (proper : StartsProper starts) (w : Sta
       by true k = kept.settings.reader_pairs s pin (sym (ap (λ (o : Option Document). option_and_then (λ d. lookup (is_at (nat_cmp s)) d.readers) o) kept.settings.there) ∙ k)
       by false k = its_pair starts says proper w kept.sessions s (session_there starts says proper w kept.sessions s login) pin k
 
-  pub actor_live : (pin : Pin) → actor_pin w s ≡ Some pin → live_base w.past s ≡ Some pin.base
-  actor_live pin h = is_live w.past s pin.base login stays (actor_based pin h)
+  pub actor_live : is_recovered w.past (node_of w s) ≡ false → (pin : Pin) → actor_pin w s ≡ Some pin → live_base w.past s ≡ Some pin.base
+  actor_live alive pin h = is_live w.past s pin.base login stays (actor_based alive pin h)

@@ -23,10 +23,9 @@ use Rattle.oak_machine.specs.Commits.{is_commit_of}
 use Rattle.oak_machine.specs.Heads.{local, published}
 use Rattle.oak_machine.specs.Laws.{Says, Starts, StartsProper}
 use Rattle.oak_machine.specs.Runs.{IsNode, IsRunOf, MayFollow}
-use Rattle.oak_machine.specs.Sessions.{has_left, has_login, is_end_of_session, is_stop_of}
+use Rattle.oak_machine.specs.Sessions.{has_left, has_login, is_end_of_session, is_stop_of, is_stopped_under}
 use Rattle.oak_node.specs.Heads.{learned}
 use Rattle.oak_node.specs.Memory.{own_entry}
-use Rattle.oak_read.specs.Meaning.{documents_in}
 use Rattle.oak_store.specs.Tables.{Table, found, next_number, with_document}
 use Rattle.core_read.specs.Committing.{is_marking}
 use Rattle.core_read.proofs.Latest.{at_most_trans}
@@ -38,13 +37,14 @@ use Rattle.core_nodes.proofs.Vectors.{right_seen}
 use Rattle.jr_rev.specs.Vectors.{greatest, sees, raised}
 use Rattle.core_clash.specs.Core.{is_quiet}
 use Rattle.core_nodes.proofs.Memories.{own_is}
+use Rattle.core_nodes.proofs.Pins.{leaves_both}
 use Rattle.core_nodes.specs.Nodes.{IsMemoryOf, IsOnRoot, is_of_node, leaves_memory, moved_pin}
 use Rattle.core_world.specs.States.{State, history_in, memory_of, node_of, nodes_in}
 use Rattle.core_world.specs.Steps.{after_back, after_learn, after_learn_swept, after_out, after_pending, after_sweep, after_update, back_op, sweep_op, with_result}
 use Rattle.core_world.specs.Kept.{has_written, AreCommitting, AreSessionsKept, AreLayersKept, IsRootKept, WereOnRoot}
 use Rattle.core_world.proofs.Finishing.{quiet_commits}
-use Rattle.core_world.proofs.Flights.{draws_nothing, still_idle}
-use Rattle.core_world.proofs.Lives.{its_node, reader_held, reads_calm, session_there, told}
+use Rattle.core_world.proofs.Flights.{draws_nothing, work_quiet}
+use Rattle.core_world.proofs.Lives.{its_node, node_goes, reader_held, reads_calm, session_there, told}
 use Rattle.core_world.proofs.Letting.{is_bound, LetsRead, lets_calm, lets_still, lets_then}
 use Rattle.core_world.proofs.Memories.{aside, learn_memories, pending_memories, swept_memories}
 use Rattle.core_world.proofs.Readers.{event_reads, moved_base}
@@ -64,7 +64,7 @@ update_is t x op at create met =
     ∙ ap (λ c. with_result t x (cond (is_none (found t x) && not false) (Err fault.Absent) (cond (is_met (found t x) c) (Ok (after_changes (found t x) op (next_number t))) (Err (refusal (found t x) c))))) met)
 
 -- the root after an update of it alone
-told_root : (t : Table) (d : Document) (op : UpdateOp) → op.id ≡ id.Node [] → op.create ≡ false → op.cond ≡ None → nodes_in t [] ≡ Some d → nodes_in (after_update t op) [] ≡ Some (after_changes (Some d) op (next_number t))
+pub told_root : (t : Table) (d : Document) (op : UpdateOp) → op.id ≡ id.Node [] → op.create ≡ false → op.cond ≡ None → nodes_in t [] ≡ Some d → nodes_in (after_update t op) [] ≡ Some (after_changes (Some d) op (next_number t))
 told_root t d op at create met there =
     ap (λ (u : Table). nodes_in u []) (update_is t (id.Node []) op at create met ∙ ap (done_at t (id.Node []) op) there)
     ∙ (put_write t [] (after_changes (Some d) op (next_number t)) (next_number t)).at
@@ -79,9 +79,9 @@ module _ (starts : Starts) (says : Says) (proper : StartsProper starts) (w : Sta
       nodes = kept.nodes;
       run = (may, kept.run);
       committing = quiet_commits w.past u w.running committing (told starts says proper w kept) e quiet on;
-      working = record { idle = λ q h. still_idle e w.past q draws (kept.working.idle q h); stays = λ q x h. ap (λ b. b || has_left w.past q) (ends q) ∙ kept.working.stays q x h };
-      memories = aside starts says w.clusters w.sessions kept.nodes w.past w.memories kept.memories e (may, kept.run) leaves (λ j. ap (λ o. option_map_or (λ n. not (is_of_node w.sessions j n)) o true) unmoved);
-      readers = event_reads w.past w.table w.reading kept.readers (reader_held starts says proper w kept) e u
+      working = work_quiet w.sessions w.past w.running w.reading kept.working e draws ends on;
+      memories = aside starts says w.clusters w.sessions kept.nodes w.past w.memories kept.memories e (may, kept.run) leaves (λ j. leaves_both w.sessions j e (leaves j) (ap (λ o. option_map_or (λ n. not (is_of_node w.sessions j n)) o true) unmoved));
+      readers = event_reads w.past w.table w.formers w.reading kept.readers (reader_held starts says proper w kept) e u
           (lets_then w.table u u w.past w.past (e ∷ w.past) (λ pin h. h) lets (lets_calm u w.past (λ r. has_written (committing.writers r)) committing.kept e calm unbound))
           (λ q r h. ap (λ o. option_map_or (λ n. n == q) o false) unbased);
     }
@@ -117,15 +117,15 @@ module _ (starts : Starts) (says : Says) (proper : StartsProper starts) (w : Sta
     pub sweep_sessions : (r : Revision) → r.cluster ≡ node_of w s → is_at_most r (published None w.past (node_of w s)) ≡ true → AreSessionsKept starts says (after_sweep w s r)
     sweep_sessions r of low = with_vectors (event.Sweep (node_of w s) r) (of, low) refl (λ k. refl) (λ q. refl) refl refl (λ q. refl) refl (λ j. refl) refl [] (sweep_op r) refl refl refl refl (λ d. d.last_rev) (λ d. raised d.sweep_rev r) (λ d n. refl)
 
-    pub learn_sessions : (n : ℕ) (last sweep : RevVec) → IsOnRoot w.clusters (drop n w.past) last sweep → AreSessionsKept starts says (after_learn w s last sweep)
-    learn_sessions n last sweep root =
+    pub learn_sessions : is_stopped_under w.sessions w.past s ≡ false → (n : ℕ) (last sweep : RevVec) → IsOnRoot w.clusters (drop n w.past) last sweep → AreSessionsKept starts says (after_learn w s last sweep)
+    learn_sessions on n last sweep root =
         let e : Event = event.In (node_of w s) (learned (memory_of w s) last sweep).head in
-        let learns = learn_memories starts says w.clusters w.sessions kept.nodes w.past w.memories kept.memories (node_of w s) node (kept.committing.unstopped (node_of w s)) n last sweep root kept.run in
+        let learns = learn_memories starts says w.clusters w.sessions kept.nodes w.past w.memories kept.memories (node_of w s) node (node_goes starts says proper w kept s there on) n last sweep root kept.run in
         record {
           nodes = kept.nodes;
           run = learns.0;
           committing = quiet_commits w.past w.table w.running kept.committing (told starts says proper w kept) e refl (λ k. refl);
-          working = record { idle = λ q h. still_idle e w.past q refl (kept.working.idle q h); stays = kept.working.stays };
+          working = work_quiet w.sessions w.past w.running w.reading kept.working e refl (λ q. refl) (λ k. refl);
           memories = learns.1;
           readers = reads_calm starts says proper w kept e (λ q. refl) refl (λ q r h. refl);
         }
@@ -138,7 +138,7 @@ module _ (starts : Starts) (says : Says) (proper : StartsProper starts) (w : Sta
           nodes = kept.nodes;
           run = run;
           committing = quiet_commits w.past w.table w.running kept.committing (told starts says proper w kept) e refl (λ k. refl);
-          working = record { idle = λ q h. still_idle e w.past q refl (kept.working.idle q h); stays = kept.working.stays };
+          working = work_quiet w.sessions w.past w.running w.reading kept.working e refl (λ q. refl) (λ k. refl);
           memories = pending_memories starts says w.clusters w.sessions kept.nodes w.past w.memories kept.memories s (node_of w s) node run;
           readers = reads_calm starts says proper w kept e (λ q. refl) refl (λ q r h. refl);
         }
@@ -151,7 +151,7 @@ module _ (starts : Starts) (says : Says) (proper : StartsProper starts) (w : Sta
           nodes = kept.nodes;
           run = run;
           committing = quiet_commits w.past w.table w.running kept.committing (told starts says proper w kept) e refl (λ k. refl);
-          working = record { idle = λ q h. still_idle e w.past q refl (kept.working.idle q h); stays = kept.working.stays };
+          working = work_quiet w.sessions w.past w.running w.reading kept.working e refl (λ q. refl) (λ k. refl);
           memories = swept_memories starts says w.clusters w.sessions kept.nodes w.past w.memories kept.memories s (node_of w s) node r of low run;
           readers = reads_calm starts says proper w kept e (λ q. refl) refl (λ q r h. refl);
         }
@@ -166,7 +166,7 @@ module _ (starts : Starts) (says : Says) (proper : StartsProper starts) (w : Sta
   back_keeps stays p r other = record {
     sessions = back_sessions starts says proper w kept.sessions s login stays p r;
     root = root_quiet w.clusters w.past (after_update w.table (back_op p r)) (event.Went s kind.Back) refl (update_elsewhere w.clusters w.past w.table kept.root p (back_op p r) refl other);
-    settings = settings_quiet w.past w.table (after_update w.table (back_op p r)) (event.Went s kind.Back) refl (update_apart w.table p (back_op p r) refl) kept.settings;
+    settings = settings_quiet w.sessions w.past w.table (after_update w.table (back_op p r)) (event.Went s kind.Back) refl (update_apart w.table p (back_op p r) refl) kept.settings;
   }
 
   pub out_keeps : (r : Revision) → r.cluster ≡ node_of w s → is_at_most r (local None w.past (node_of w s)) ≡ true → AreLayersKept starts says (after_out w s r)
@@ -177,7 +177,7 @@ module _ (starts : Starts) (says : Says) (proper : StartsProper starts) (w : Sta
       there = told_root w.table kept.root.document (back_op [] r) refl refl refl kept.root.there;
       tells = root_out w.clusters kept.sessions.nodes.eight w.past kept.root.document.last_rev kept.root.document.sweep_rev kept.root.tells (node_of w s) on r of;
     };
-    settings = settings_quiet w.past w.table (after_update w.table (back_op [] r)) (event.Out (node_of w s) r) refl (update_apart w.table [] (back_op [] r) refl) kept.settings;
+    settings = settings_quiet w.sessions w.past w.table (after_update w.table (back_op [] r)) (event.Out (node_of w s) r) refl (update_apart w.table [] (back_op [] r) refl) kept.settings;
   }
 
   pub sweep_keeps : (r : Revision) → r.cluster ≡ node_of w s → is_at_most r (published None w.past (node_of w s)) ≡ true → AreLayersKept starts says (after_sweep w s r)
@@ -188,28 +188,28 @@ module _ (starts : Starts) (says : Says) (proper : StartsProper starts) (w : Sta
       there = told_root w.table kept.root.document (sweep_op r) refl refl refl kept.root.there;
       tells = root_swept w.clusters kept.sessions.nodes.eight w.past kept.root.document.last_rev kept.root.document.sweep_rev kept.root.tells (node_of w s) on r of low;
     });
-    settings = settings_quiet w.past w.table (after_update w.table (sweep_op r)) (event.Sweep (node_of w s) r) refl (update_apart w.table [] (sweep_op r) refl) kept.settings;
+    settings = settings_quiet w.sessions w.past w.table (after_update w.table (sweep_op r)) (event.Sweep (node_of w s) r) refl (update_apart w.table [] (sweep_op r) refl) kept.settings;
   }
 
-  pub learn_keeps : (last sweep : RevVec) → WereOnRoot w.clusters w.past last sweep → AreLayersKept starts says (after_learn w s last sweep)
-  learn_keeps last sweep were = record {
-    sessions = learn_sessions starts says proper w kept.sessions s login were.0 last sweep were.1;
+  pub learn_keeps : is_stopped_under w.sessions w.past s ≡ false → (last sweep : RevVec) → WereOnRoot w.clusters w.past last sweep → AreLayersKept starts says (after_learn w s last sweep)
+  learn_keeps running last sweep were = record {
+    sessions = learn_sessions starts says proper w kept.sessions s login running were.0 last sweep were.1;
     root = root_quiet w.clusters w.past w.table (event.In (node_of w s) (learned (memory_of w s) last sweep).head) refl kept.root;
-    settings = settings_quiet w.past w.table w.table (event.In (node_of w s) (learned (memory_of w s) last sweep).head) refl refl kept.settings;
+    settings = settings_quiet w.sessions w.past w.table w.table (event.In (node_of w s) (learned (memory_of w s) last sweep).head) refl refl kept.settings;
   }
 
   pub pending_keeps : has_left w.past s ≡ false → AreLayersKept starts says (after_pending w s)
   pending_keeps stays = record {
     sessions = pending_sessions starts says proper w kept.sessions s login stays;
     root = root_quiet w.clusters w.past w.table (event.Went s kind.Back) refl kept.root;
-    settings = settings_quiet w.past w.table w.table (event.Went s kind.Back) refl refl kept.settings;
+    settings = settings_quiet w.sessions w.past w.table w.table (event.Went s kind.Back) refl refl kept.settings;
   }
 
   pub learn_swept_keeps : has_left w.past s ≡ false → (r : Revision) → r.cluster ≡ node_of w s → is_at_most r (local None w.past (node_of w s)) ≡ true → AreLayersKept starts says (after_learn_swept w s r)
   learn_swept_keeps stays r of low = record {
     sessions = learn_swept_sessions starts says proper w kept.sessions s login stays r of low;
     root = root_quiet w.clusters w.past w.table (event.Went s kind.Learn) refl kept.root;
-    settings = settings_quiet w.past w.table w.table (event.Went s kind.Learn) refl refl kept.settings;
+    settings = settings_quiet w.sessions w.past w.table w.table (event.Went s kind.Learn) refl refl kept.settings;
   }
 
   pub own_entry_is : own_entry (memory_of w s) ≡ local None w.past (node_of w s)

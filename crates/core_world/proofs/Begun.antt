@@ -1,15 +1,16 @@
 -- The world before any step is kept.
 use Rattle.std.proofs.Math.Path.{fun_ext}
-use Rattle.std.proofs.Common.{filter_map, Option, Some, None, true}
+use Rattle.std.proofs.Common.{filter_map, Option, Some, None}
 use Rattle.std.specs.Option.{option_map_or}
 use Rattle.jr_path.specs.declared.path.DocId.TheVariants as id
 use Rattle.jr_path.specs.declared.path.Path.{Path}
 use Rattle.oak_doc.specs.declared.document.Document.{Document}
+use Rattle.core_read.specs.Told.{IsIn}
 use Rattle.core_clash.specs.Sound.{Sound}
 use Rattle.core_world.specs.States.{listed_at, moved_in}
 use Rattle.core_keep.proofs.Start.{holds_keeps, kept_start, start_separate}
 use Rattle.oak_read.specs.Meaning.{documents_in}
-use Rattle.std.proofs.Common.{◌≡◌, ℕ, zero, suc, ◌+◌, ◌-◌, ◌<◌, false, List, [], length, map, is_some, refl, sym, ap, subst, ◌∙◌, arith, true}
+use Rattle.std.proofs.Common.{◌≡◌, ℕ, zero, suc, ◌+◌, ◌-◌, ◌<◌, false, List, [], length, map, is_some, refl, sym, ap, subst, ◌∙◌, arith}
 use Rattle.std.proofs.Math.ListN.{get_or}
 use Rattle.std.proofs.lemmas.List.FromFn.{length-map-range_with_len}
 use Rattle.std.specs.List.{range_with_len}
@@ -77,13 +78,13 @@ start_kept starts says clusters sessions nodes = record {
       swept = λ o f. refl;
       partly = λ r d h f. absurd (false≢true (ap is_some h));
     };
-    unstopped = λ k. refl;
+    unstopped = λ s x h. absurd (false≢true (ap is_some h));
   };
-  working = record { idle = λ s h. refl; stays = λ s x h. absurd (false≢true (ap is_some h)) };
+  working = record { idle = λ s h on. refl; stays = λ s x h. absurd (false≢true (ap is_some h)); goes = λ s x h. absurd (false≢true (ap is_some h)); reads = λ s r h. absurd (false≢true (ap is_some h)); halted = λ s stopped h. absurd (false≢true h) };
   memories = record {
     counted = length-map-range_with_len (λ k. begun k (start clusters)) 1 clusters;
     memory = λ k node. subst (λ (m : NodeState). IsMemoryOf clusters [] k m) (sym (begun_at clusters k node)) (begun_is clusters sessions nodes k node);
     pins = λ k node. subst (λ (m : NodeState). ArePinsOf sessions [] k m) (sym (begun_at clusters k node)) (begun_pins clusters sessions k);
   };
-  readers = record { ever = λ p k. true; listed = λ p d h e i. refl; above = λ s r h. absurd (false≢true (ap is_some h)); reads = λ s r h. absurd (false≢true (ap is_some h)); at_base = λ s r h. absurd (false≢true (ap is_some h)); pairs = λ s r h. absurd (false≢true (ap is_some h)) };
+  readers = record { told = record { listed = λ p d h e i. absurd (subst (λ l. IsIn e l) ((start_holds clusters (length sessions)).whole p d h) i); former = λ p k f h. absurd (false≢true (ap is_some h)); copies = λ p k f x h there. absurd (false≢true (ap is_some h)) }; above = λ s r h. absurd (false≢true (ap is_some h)); reads = λ s r h. absurd (false≢true (ap is_some h)); at_base = λ s r h. absurd (false≢true (ap is_some h)); pairs = λ s r h. absurd (false≢true (ap is_some h)) };
 }

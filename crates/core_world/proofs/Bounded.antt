@@ -1,4 +1,5 @@
 -- A bound that is at most what is held sees nothing in flight, and no more than the bases of what is.
+use Rattle.core_nodes.proofs.Recovering.{flier_alive}
 use Rattle.core_keep.specs.Journal.{IsUsed}
 use Rattle.core_keep.proofs.Events.{kept_bound}
 use Rattle.oak_read.specs.Meaning.{documents_in}
@@ -18,25 +19,24 @@ use Rattle.oak_machine.specs.declared.event.Event.TheVariants as event
 use Rattle.oak_machine.specs.History.{Past}
 use Rattle.oak_machine.specs.Commits.{draw_of, is_ended, is_in_base, is_in_flight}
 use Rattle.oak_machine.specs.Laws.{Says, Starts, StartsProper}
-use Rattle.oak_machine.specs.Runs.{IsRunOf, MayBound}
-use Rattle.oak_machine.specs.Sessions.{has_left, has_login, is_drawing}
+use Rattle.oak_machine.specs.Runs.{IsNode, IsRunOf, MayBound}
+use Rattle.oak_machine.specs.Sessions.{has_left, has_login, is_drawing, is_recovered, is_stopped_under}
 use Rattle.oak_node.specs.Pins.{pin_of}
 use Rattle.oak_store.specs.Tables.{Table}
-use Rattle.core_read.specs.Told.{IsTold}
 use Rattle.core_heads.proofs.Below.{below_seen}
 use Rattle.core_heads.proofs.Runs.{bound_run}
 use Rattle.core_keep.specs.Holding.{IsBelowAll}
 use Rattle.core_clash.specs.Collecting.{MayBound as MayBoundBases}
 use Rattle.core_clash.specs.Sessions.{Running}
-use Rattle.core_clash.proofs.Basics.{same_revision, some_is}
+use Rattle.core_clash.proofs.Basics.{some_is}
 use Rattle.core_clash.proofs.Dropped.{bound_keeps}
 use Rattle.core_nodes.specs.Nodes.{pinned_at}
 use Rattle.core_world.specs.Held.{holding_in}
-use Rattle.core_world.specs.Kept.{AreCommitting, AreLayersKept, AreSessionsKept, has_written}
-use Rattle.core_world.specs.States.{State, base_in, core_in, history_in, memory_of, node_of}
+use Rattle.core_world.specs.Kept.{AreCommitting, AreLayersKept, has_written}
+use Rattle.core_world.specs.States.{State, core_in, history_in, memory_of, node_of}
 use Rattle.core_world.proofs.Draws.{pinned_is, some_pin}
 use Rattle.core_world.proofs.Flights.{drawing, same_number}
-use Rattle.core_world.proofs.Held.{found_in, takes_part, unrecovered}
+use Rattle.core_world.proofs.Held.{found_in, takes_part}
 use Rattle.core_world.proofs.Lives.{its_node, session_there}
 use Rattle.core_world.proofs.Logged.{drawn_by}
 use Rattle.core_world.proofs.Readers.{detached_base}
@@ -92,8 +92,18 @@ module _ (starts : Starts) (says : Says) (proper : StartsProper starts) (w : Sta
   stays s drawing = by (w.running s) refl
     where
       by : (o : Option Running) → w.running s ≡ o → has_left w.past s ≡ false
-      by None e = absurd (false≢true (sym (kept.sessions.working.idle s e) ∙ drawing))
+      by None e = idle (is_stopped_under w.sessions w.past s) refl
+        where
+          idle : (b : Bool) → is_stopped_under w.sessions w.past s ≡ b → has_left w.past s ≡ false
+          idle false on = absurd (false≢true (sym (kept.sessions.working.idle s e on) ∙ drawing))
+          idle true on = kept.sessions.working.halted s on drawing
       by (Some x) e = kept.sessions.working.stays s x e
+
+  -- the node of a session with a draw in flight wasn't recovered
+  alive : (r : Revision) → is_in_flight w.past r ≡ true → (d : Draw) → draw_of w.past r ≡ Some d → is_recovered w.past (node_of w d.session) ≡ false
+  alive r flies d drawn =
+      let by = drawn_by starts says w.clusters w.sessions w.past r d kept.sessions.run drawn in
+      ap (is_recovered w.past) (ap (λ o. unwrap_or o 0) by.node ∙ ap (λ (x : Revision). x.cluster) by.named) ∙ flier_alive starts says w.clusters w.sessions kept.sessions.nodes w.past kept.sessions.run r flies
 
   base_sees_bound : (r o : Revision) → is_in_flight w.past r ≡ true → sees m o ≡ true → is_in_base w.past r o ≡ true
   base_sees_bound r o flies seen =
@@ -102,18 +112,19 @@ module _ (starts : Starts) (says : Says) (proper : StartsProper starts) (w : Sta
       let unended = not_ended w.past r flies in
       let there = session_there starts says proper w kept.sessions (d.0).session by.login in
       let node = its_node starts says proper w kept.sessions (d.0).session there in
-      let pin = some_pin starts says proper w kept.sessions (d.0).session by.login (stays (d.0).session (drawing w.past r d.0 unended w.past d.1)) in
-      let held = below.pins (node_of w (d.0).session) (takes_part starts says proper w kept (node_of w (d.0).session) node) pin.0 (found_in (is_at (nat_cmp (d.0).session)) _ pin.0 pin.1) in
-      let base : pin.0.base ≡ (d.0).base = base_of_pin (d.0) (d.1) unended by.login pin in
+      let goes = alive r flies d.0 d.1 in
+      let pin = some_pin starts says proper w kept.sessions (d.0).session goes by.login (stays (d.0).session (drawing w.past r d.0 unended w.past d.1)) in
+      let held = below.pins (node_of w (d.0).session) (takes_part starts says proper w kept (node_of w (d.0).session) node goes) pin.0 (found_in (is_at (nat_cmp (d.0).session)) _ pin.0 pin.1) in
+      let base : pin.0.base ≡ (d.0).base = base_of_pin (d.0) (d.1) unended goes by.login pin in
       ap (λ (x : Option Draw). option_map_or (λ (e : Draw). sees e.base o) x false) d.1 ∙ subst (λ (v : RevVec). sees v o ≡ true) base (below_seen m pin.0.base o held.0 seen)
     where
       value : (a b : RevVec) → Some a ≡ Some b → a ≡ b
       value a b h = ap (λ x. unwrap_or x a) h
 
-      base_of_pin : (d : Draw) → draw_of w.past r ≡ Some d → is_ended w.past r ≡ false → has_login w.past d.session ≡ true → (pin : (x : Pin) × (pin_of (memory_of w d.session) d.session ≡ Some x)) → pin.0.base ≡ d.base
-      base_of_pin d drawn unended login pin = value _ _
+      base_of_pin : (d : Draw) → draw_of w.past r ≡ Some d → is_ended w.past r ≡ false → is_recovered w.past (node_of w d.session) ≡ false → has_login w.past d.session ≡ true → (pin : (x : Pin) × (pin_of (memory_of w d.session) d.session ≡ Some x)) → pin.0.base ≡ d.base
+      base_of_pin d drawn unended goes login pin = value _ _
           (sym (ap (λ (x : Option Pin). Some (option_map_or (λ (p : Pin). p.base) x (memory_of w d.session).head)) pin.1)
-          ∙ (sym (pinned_is starts says proper w kept.sessions d.session login (stays d.session (drawing w.past r d unended w.past drawn)))
+          ∙ (sym (pinned_is starts says proper w kept.sessions d.session goes login (stays d.session (drawing w.past r d unended w.past drawn)))
           ∙ flying_pinned starts says w.clusters w.sessions w.past r d kept.sessions.run drawn unended))
 
   pub may_bound_core : MayBoundBases w.past m t
@@ -123,9 +134,15 @@ module _ (starts : Starts) (says : Says) (proper : StartsProper starts) (w : Sta
     swept = λ o seen. below_seen t m o swept seen;
   }
     where
+      node : (o : Revision) → is_in_flight w.past o ≡ true → IsNode w.clusters o.cluster
+      node o flies =
+          let d = drawn_in w.past o flies in
+          let by = drawn_by starts says w.clusters w.sessions w.past o d.0 kept.sessions.run d.1 in
+          subst (λ (x : Revision). IsNode w.clusters x.cluster) by.named (kept.sessions.nodes.node (d.0).session (d.0).revision.cluster by.node)
+
       unseen : (o : Revision) (b : Bool) → sees m o ≡ b → (is_in_flight w.past o ≡ true) ⊎ ⊥ → b ≡ false
       unseen o false e flies = refl
-      unseen o true e (inl flies) = absurd ((bound_run w.clusters w.sessions kept.sessions.nodes None starts says w.past m t (may, kept.sessions.run) 1 (omega arith, kept.sessions.nodes.some) (unrecovered starts says proper w kept 1) o (inl flies)).0 e)
+      unseen o true e (inl flies) = absurd ((bound_run w.clusters w.sessions kept.sessions.nodes None starts says w.past m t (may, kept.sessions.run) o.cluster (node o flies) (flier_alive starts says w.clusters w.sessions kept.sessions.nodes w.past kept.sessions.run o flies) o (inl flies)).0 e)
       unseen o true e (inr n) = absurd n
 
 pub bound_commits : (past : Past) (t : Table) (running : ℕ → Option Running) (a : AreCommitting past t running) → (m s : RevVec) → MayBoundBases past m s → IsUsed past (sees m) → AreCommitting (event.Bound m s ∷ past) t running

@@ -1,5 +1,5 @@
 -- From the start a commit can be made whole: each step's premises can be met.
-use Rattle.std.proofs.Common.{◌≡◌, inl, inr, ℕ, zero, suc, Some, None, [], ◌∷◌, is_some, refl, ap, arith}
+use Rattle.std.proofs.Common.{◌≡◌, inl, inr, ℕ, zero, suc, true, Option, Some, None, [], ◌∷◌, is_some, refl, ap, subst, sym, arith}
 use Rattle.std.specs.Prelude.{slice_get}
 use Rattle.std.specs.Option.{unwrap_or}
 use mathlib.Core.Bool.{false≢true}
@@ -9,6 +9,7 @@ use Rattle.oak_clash.specs.Clashes.{marked_paths}
 use Rattle.oak_machine.specs.Commits.{tree_at}
 use Rattle.oak_machine.specs.Laws.{AreOfWrites, HasBase, Starts, StartsProper}
 use Rattle.oak_machine.specs.Runs.{AreNodes, IsNode, any_said}
+use Rattle.core_clash.specs.Sessions.{Running}
 use Rattle.core_world.specs.Kept.{AreSessionsKept}
 use Rattle.core_world.specs.States.{State}
 use Rattle.core_world.specs.Steps.{after_leave, after_refresh}
@@ -16,7 +17,7 @@ use Rattle.core_world.proofs.Begun.{start_kept}
 use Rattle.core_world.proofs.Commits.{last_keeps, mark_keeps, undo_keeps, write_keeps}
 use Rattle.core_world.proofs.Draws.{draw_keeps, finish_keeps}
 use Rattle.core_world.proofs.Lives.{leave_keeps, login_keeps, refresh_keeps}
-use Rattle.core_world.proofs.Rows.{begins, drawn, edit, first_done, marks, next, second_done, wrote}
+use Rattle.core_world.proofs.Rows.{begins, drawn, edit, first_done, marks, next, next_ends, second_done, wrote}
 
 -- the law that lets each proper edit with its marks start
 abbrev proper_starts : Starts
@@ -40,14 +41,18 @@ lawful_first v = (record { tree = record { paths = refl; names = refl; root = re
 lawful_second : (v : RevVec) → IsProper (tree_at None begins.past v) (edit 2).writes × AreOfWrites (tree_at None begins.past v) (edit 2) marks
 lawful_second v = (record { tree = record { paths = refl; names = refl; root = refl; parents = refl }; once = refl; changing = refl; emptied = refl }, refl)
 
+some_running : (o : Option Running) → is_some o ≡ true → (x : Running) × (o ≡ Some x)
+some_running None h = absurd (false≢true h)
+some_running (Some x) h = (x, refl)
+
 abbrev Kept : State → Type 0
 Kept w = AreSessionsKept proper_starts any_said w
 
 both_in : Kept begins
-both_in = login_keeps proper_starts any_said proper _ (login_keeps proper_starts any_said proper _ (start_kept proper_starts any_said 2 (1 ∷ 2 ∷ []) two_nodes) 0 refl refl) 1 refl refl
+both_in = login_keeps proper_starts any_said proper _ (login_keeps proper_starts any_said proper _ (start_kept proper_starts any_said 2 (1 ∷ 2 ∷ []) two_nodes) 0 refl refl refl) 1 refl refl refl
 
 both_drawn : Kept drawn
-both_drawn = draw_keeps proper_starts any_said proper _ (draw_keeps proper_starts any_said proper begins both_in 0 refl refl refl refl (edit 1) marks (λ v base. lawful_first v) (λ o h. absurd (false≢true h)) (marked_paths marks)) 1 refl refl refl refl (edit 2) marks (λ v base. lawful_second v) (λ o h. absurd (false≢true h)) (marked_paths marks)
+both_drawn = draw_keeps proper_starts any_said proper _ (draw_keeps proper_starts any_said proper begins both_in 0 refl refl refl refl refl refl (edit 1) marks (λ v base. lawful_first v) (λ o h. absurd (false≢true h)) (marked_paths marks)) 1 refl refl refl refl refl refl (edit 2) marks (λ v base. lawful_second v) (λ o h. absurd (false≢true h)) (marked_paths marks)
 
 both_wrote : Kept wrote
 both_wrote = write_keeps proper_starts any_said proper _ (write_keeps proper_starts any_said proper drawn both_drawn 1 _ refl refl refl [] [] refl refl) 0 _ refl refl refl [] [] refl refl
@@ -68,8 +73,11 @@ second_undone : Kept (next (next first_done 1) 1)
 second_undone = undo_keeps proper_starts any_said proper (next first_done 1) second_refused 1 _ refl [] [] refl refl refl
 
 second_kept : Kept second_done
-second_kept = finish_keeps proper_starts any_said proper (next (next first_done 1) 1) second_undone 1 _ refl (inr (refl, refl))
+unfolding some_running
+second_kept =
+    let x = some_running ((next (next first_done 1) 1).running 1) refl in
+    subst (λ (w : State). AreSessionsKept proper_starts any_said w) (sym (next_ends (next (next first_done 1) 1) 1 x.0 x.1 refl refl)) (finish_keeps proper_starts any_said proper (next (next first_done 1) 1) second_undone 1 x.0 x.1 (inr (refl, refl)))
 
 -- the first moves on to the head, and leaves
 first_left : Kept (after_leave (after_refresh second_done 0) 0)
-first_left = leave_keeps proper_starts any_said proper _ (refresh_keeps proper_starts any_said proper second_done second_kept 0 refl refl refl refl) 0 refl refl refl refl refl
+first_left = leave_keeps proper_starts any_said proper _ (refresh_keeps proper_starts any_said proper second_done second_kept 0 refl refl refl refl refl) 0 refl refl refl refl refl refl

@@ -1,38 +1,34 @@
 -- A step that changes documents of nodes and previous ones, without a commit, keeps the world where the committers stay sound and readers read on.
-use Rattle.std.proofs.Common.{◌≡◌, ℕ, Bool, true, false, cond, ◌||◌, ◌&&◌, not, Some, None, Option, List, [], ◌∷◌, is_some, refl, sym, ap, ◌∙◌, subst}
+use Rattle.std.proofs.Common.{◌≡◌, ℕ, true, false, ◌||◌, not, None, [], ◌∷◌, refl, ap, ◌∙◌}
 use Rattle.std.specs.Option.{option_map_or}
 use Rattle.std.specs.Prelude.{◌==◌}
-use mathlib.Core.Bool.{false≢true}
-use Rattle.jr_path.specs.declared.path.Path.{Path}
 use Rattle.jr_path.specs.declared.path.DocId.TheVariants as id
-use Rattle.jr_rev.specs.declared.revision.Revision.{Revision}
 use Rattle.jr_rev.specs.declared.vector.Pin.{Pin}
-use Rattle.oak_doc.specs.declared.document.Document.{Document}
 use Rattle.oak_machine.specs.declared.event.Event.{Event}
 use Rattle.oak_machine.specs.declared.event.Event.TheVariants as event
 use Rattle.oak_machine.specs.declared.event.StepKind.{StepKind}
 use Rattle.oak_machine.specs.declared.event.StepKind.TheVariants as kind
 use Rattle.oak_machine.specs.Steps.{is_kind}
-use Rattle.oak_machine.specs.History.{Past}
 use Rattle.oak_machine.specs.Laws.{Says, Starts, StartsProper}
 use Rattle.oak_machine.specs.Runs.{IsRunOf}
 use Rattle.oak_machine.specs.Sessions.{has_left, has_login}
-use Rattle.oak_read.specs.Meaning.{Documents, documents_in}
+use Rattle.oak_read.specs.Meaning.{documents_in}
 use Rattle.oak_store.specs.Tables.{Table}
 use Rattle.core_clash.specs.Sound.{Sound}
 use Rattle.core_keep.specs.Holding.{IsHoldingStep}
-use Rattle.core_keep.specs.Journal.{IsHeld, IsKeptWorld}
+use Rattle.core_keep.specs.Journal.{course_of, IsHeld, IsKeptWorld}
 use Rattle.core_nodes.specs.Nodes.{is_of_node}
-use Rattle.core_watch.specs.Instants.{AreListed}
-use Rattle.core_watch.specs.Reading.{Ever, ReadsOn}
+use Rattle.core_keep.specs.Formers.{AreFormers, Formers, Grows}
+use Rattle.core_watch.specs.Reading.{ReadsOn}
 use Rattle.core_watch.proofs.GoingOn.{on_event}
 use Rattle.core_watch.proofs.Lasting.{reading_lasts}
+use Rattle.core_watch.proofs.StayingOn.{formers_event}
 use Rattle.core_world.specs.Collecting.{after_change}
 use Rattle.core_world.specs.Held.{holding_in}
 use Rattle.core_world.specs.Kept.{AreCommitting, AreLayersKept, AreReading, IsRootKept, has_written}
 use Rattle.core_world.specs.States.{State, core_in}
 use Rattle.core_world.proofs.Finishing.{quiet_commits}
-use Rattle.core_world.proofs.Flights.{still_idle}
+use Rattle.core_world.proofs.Flights.{work_quiet}
 use Rattle.core_world.proofs.Held.{all_still, holding, same_kept}
 use Rattle.core_world.proofs.Lives.{goes_not, moves_no_pin, reader_held, told}
 use Rattle.core_world.proofs.Memories.{aside}
@@ -45,8 +41,8 @@ module _ (starts : Starts) (says : Says) (proper : StartsProper starts) (w : Sta
 
   -- other documents, before the journal tells
   module _ (u : Table) (sound : Sound (core_in w.past u kept.sessions.committing.writers)) (world : IsKeptWorld (documents_in u.documents) w.past (λ r. has_written (kept.sessions.committing.writers r)))
-      (more : Ever) (grows : (p : Path) (n : ℕ) → kept.sessions.readers.ever p n ≡ true → more p n ≡ true) (listed : AreListed (documents_in u.documents) more)
-      (on : (pin : Pin) → IsHeld w.past pin.base pin.sweep → ReadsOn pin kept.sessions.readers.ever (documents_in w.table.documents) (documents_in u.documents) w.past w.past)
+      (more : Formers) (grows : Grows w.formers more) (formers : AreFormers (documents_in u.documents) (course_of w.past) more)
+      (on : (pin : Pin) → IsHeld w.past pin.base pin.sweep → ReadsOn pin (documents_in w.table.documents) (documents_in u.documents) w.past w.past)
       (root : IsRootKept w.clusters w.past u) (set : documents_in u.documents id.Settings ≡ documents_in w.table.documents id.Settings) where
     committing : AreCommitting w.past u w.running
     committing = record {
@@ -58,19 +54,18 @@ module _ (starts : Starts) (says : Says) (proper : StartsProper starts) (w : Sta
       unstopped = kept.sessions.committing.unstopped;
     }
 
-    readers : AreReading (e ∷ w.past) u w.reading
+    readers : AreReading (e ∷ w.past) u more w.reading
     readers = record {
-      ever = more;
-      listed = listed;
+      told = formers_event (documents_in u.documents) w.past (λ o. has_written (kept.sessions.committing.writers o)) world e (λ o. refl) more formers;
       reads = λ q r h. reading_lasts more more (documents_in u.documents) (documents_in u.documents) w.past (e ∷ w.past) r
-          (on_event r.pin more (documents_in u.documents) w.past (λ o. has_written (kept.sessions.committing.writers o)) world e (λ o. refl)) (λ p n i. i)
-          (reading_lasts kept.sessions.readers.ever more (documents_in w.table.documents) (documents_in u.documents) w.past w.past r (on r.pin (reader_held starts says proper w kept.sessions q r h)) grows (kept.sessions.readers.reads q r h));
+          (on_event r.pin (documents_in u.documents) w.past (λ o. has_written (kept.sessions.committing.writers o)) world e (λ o. refl)) (λ p n f i. i)
+          (reading_lasts w.formers more (documents_in w.table.documents) (documents_in u.documents) w.past w.past r (on r.pin (reader_held starts says proper w kept.sessions q r h)) grows (kept.sessions.readers.reads q r h));
       above = λ q r h. let a = kept.sessions.readers.above q r h in record { base = a.base; sweep = a.sweep };
       at_base = λ q r h. Rattle.core_world.proofs.Readers.live_left w.past e q (ap (λ o. option_map_or (λ n. n == q) o false) (moves_no_pin s k other apart)) ∙ kept.sessions.readers.at_base q r h;
       pairs = kept.sessions.readers.pairs;
     }
 
-    pub changed_keeps : AreLayersKept starts says (after_change w s k u)
+    pub changed_keeps : AreLayersKept starts says (record (after_change w s k u) { formers = more })
     changed_keeps =
         let run : IsRunOf starts says w.clusters w.sessions None (e ∷ w.past) = ((login, stays), kept.sessions.run) in
         record {
@@ -78,13 +73,13 @@ module _ (starts : Starts) (says : Says) (proper : StartsProper starts) (w : Sta
             nodes = kept.sessions.nodes;
             run = run;
             committing = quiet_commits w.past u w.running committing (told starts says proper w kept.sessions) e refl (λ k. refl);
-            working = record { idle = λ q h. still_idle e w.past q refl (kept.sessions.working.idle q h); stays = λ q x h. ap (λ b. b || has_left w.past q) (goes_not s k other q) ∙ kept.sessions.working.stays q x h };
+            working = work_quiet w.sessions w.past w.running w.reading kept.sessions.working e refl (goes_not s k other) (λ j. refl);
             memories = aside starts says w.clusters w.sessions kept.sessions.nodes w.past w.memories kept.sessions.memories e run (λ j. refl) (λ j. ap (λ o. option_map_or (λ n. not (is_of_node w.sessions j n)) o true) (moves_no_pin s k other apart));
             readers = readers;
           };
           root = root_quiet w.clusters w.past u e refl root;
-          settings = settings_quiet w.past w.table u e refl set kept.settings;
+          settings = settings_quiet w.sessions w.past w.table u e refl set kept.settings;
         }
 
-    pub changed_rises : IsHoldingStep (holding_in w) (holding_in (after_change w s k u))
-    changed_rises = holding starts says proper w kept (after_change w s k u) changed_keeps (e ∷ []) refl refl refl (all_still starts says proper w kept) (same_kept starts says proper w kept u set)
+    pub changed_rises : IsHoldingStep (holding_in w) (holding_in (record (after_change w s k u) { formers = more }))
+    changed_rises = holding starts says proper w kept (record (after_change w s k u) { formers = more }) changed_keeps (e ∷ []) refl refl refl (all_still starts says proper w kept) (same_kept starts says proper w kept u set)

@@ -1,5 +1,5 @@
 -- Checkpoints are made and released.
-use Rattle.std.proofs.Common.{◌≡◌, ℕ, Bool, true, false, cond, Some, None, [], ◌∷◌, is_some, refl, sym, ap, subst, ◌∙◌}
+use Rattle.std.proofs.Common.{◌≡◌, ℕ, Bool, true, false, cond, Some, None, List, [], ◌∷◌, is_some, refl, sym, ap, subst, ◌∙◌}
 use Rattle.std.specs.Prelude.{IsSome}
 use Rattle.std.specs.BTreeMap.{is_at, insert_entry}
 use Rattle.std.specs.Map.{lookup, remove_entry}
@@ -25,7 +25,7 @@ use Rattle.oak_machine.specs.declared.event.Event.{Event}
 use Rattle.oak_machine.specs.declared.event.Event.TheVariants as event
 use Rattle.oak_machine.specs.History.{Past}
 use Rattle.oak_machine.specs.Laws.{Says, Starts, StartsProper}
-use Rattle.oak_machine.specs.Sessions.{has_left, has_login, is_attached, kept_checkpoint}
+use Rattle.oak_machine.specs.Sessions.{has_left, has_login, is_attached, is_stopped_under, kept_checkpoint}
 use Rattle.oak_node.specs.Pins.{pin_of}
 use Rattle.oak_read.specs.Meaning.{documents_in}
 use Rattle.oak_store.specs.Tables.{Table, next_number, with_document}
@@ -33,10 +33,10 @@ use Rattle.core_read.proofs.Entries.{lookup-remove, sorted_insert, sorted_remove
 use Rattle.core_nodes.specs.Nodes.{IsPair, base_of_pin}
 use Rattle.core_world.specs.Kept.{AreSettingsKept, AreLayersKept, IsRootKept}
 use Rattle.core_world.specs.States.{State, memory_of, nodes_in}
-use Rattle.core_world.specs.Steps.{after_checkpoint, after_release, after_update, settings_op}
+use Rattle.core_world.specs.Steps.{after_checkpoint, after_release, after_update, settings_op, settings_ops}
 use Rattle.core_world.proofs.Backs.{done_at, update_is, with_table}
 use Rattle.core_world.proofs.Draws.{base_is, its_pair}
-use Rattle.core_world.proofs.Lives.{runs_on, session_there, told}
+use Rattle.core_world.proofs.Lives.{node_alive, session_there, told}
 use Rattle.core_world.proofs.Roots.{root_quiet}
 use Rattle.core_world.proofs.Tables.{id_itself, put_is}
 use Rattle.core_world.proofs.Telling.{nodes_commit, nodes_let}
@@ -56,26 +56,37 @@ same_text a b = ap is_eq (name_total.antisymm a b) ∙ turned (name_cmp b a)
 
 -- ---- the settings after an update
 
-module _ (t : Table) (d : Document) (there : documents_in t.documents id.Settings ≡ Some d) (c : Change) where
+module _ (t : Table) (d : Document) (there : documents_in t.documents id.Settings ≡ Some d) (cs : List Change) where
   abbrev made : Document
-  made = after_changes (Some d) (settings_op c) (next_number t)
+  made = after_changes (Some d) (settings_ops cs) (next_number t)
 
   abbrev now : Table
-  now = with_document t id.Settings (after_changes (Some d) (settings_op c) (next_number t)) (next_number t)
+  now = with_document t id.Settings (after_changes (Some d) (settings_ops cs) (next_number t)) (next_number t)
 
-  pub settings_is : after_update t (settings_op c) ≡ with_document t id.Settings (after_changes (Some d) (settings_op c) (next_number t)) (next_number t)
-  settings_is = update_is t id.Settings (settings_op c) refl refl refl ∙ ap (done_at t id.Settings (settings_op c)) there
+  changed_is : after_update t (settings_ops cs) ≡ with_document t id.Settings (after_changes (Some d) (settings_ops cs) (next_number t)) (next_number t)
+  changed_is = update_is t id.Settings (settings_ops cs) refl refl refl ∙ ap (done_at t id.Settings (settings_ops cs)) there
 
+  pub changed_there : documents_in (after_update t (settings_ops cs)).documents id.Settings ≡ Some (after_changes (Some d) (settings_ops cs) (next_number t))
+  changed_there = ap (λ (u : Table). documents_in u.documents id.Settings) changed_is ∙ (put_is t id.Settings made (next_number t) id.Settings ∙ ap (λ b. cond b (Some made) (documents_in t.documents id.Settings)) (id_itself id.Settings))
+
+  pub nodes_left : (p : Path) → nodes_in (after_update t (settings_ops cs)) p ≡ nodes_in t p
+  nodes_left p = ap (λ (u : Table). nodes_in u p) changed_is ∙ put_is t id.Settings made (next_number t) (id.Node p)
+
+  pub previous_left : (k : ℕ) (p : Path) → documents_in (after_update t (settings_ops cs)).documents (id.Prev k p) ≡ documents_in t.documents (id.Prev k p)
+  previous_left k p = ap (λ (u : Table). documents_in u.documents (id.Prev k p)) changed_is ∙ put_is t id.Settings made (next_number t) (id.Prev k p)
+
+-- and after that for one change
+module _ (t : Table) (d : Document) (there : documents_in t.documents id.Settings ≡ Some d) (c : Change) where
   pub settings_there : documents_in (after_update t (settings_op c)).documents id.Settings ≡ Some (after_changes (Some d) (settings_op c) (next_number t))
-  settings_there = ap (λ (u : Table). documents_in u.documents id.Settings) settings_is ∙ (put_is t id.Settings made (next_number t) id.Settings ∙ ap (λ b. cond b (Some made) (documents_in t.documents id.Settings)) (id_itself id.Settings))
+  settings_there = changed_there t d there (c ∷ [])
 
   pub nodes_same : (p : Path) → nodes_in (after_update t (settings_op c)) p ≡ nodes_in t p
-  nodes_same p = ap (λ (u : Table). nodes_in u p) settings_is ∙ put_is t id.Settings made (next_number t) (id.Node p)
+  nodes_same = nodes_left t d there (c ∷ [])
 
   pub previous_same : (k : ℕ) (p : Path) → documents_in (after_update t (settings_op c)).documents (id.Prev k p) ≡ documents_in t.documents (id.Prev k p)
-  previous_same k p = ap (λ (u : Table). documents_in u.documents (id.Prev k p)) settings_is ∙ put_is t id.Settings made (next_number t) (id.Prev k p)
+  previous_same = previous_left t d there (c ∷ [])
 
-module _ (past : Past) (t : Table) (set : AreSettingsKept past t) where
+module _ (sessions : List ℕ) (past : Past) (t : Table) (set : AreSettingsKept sessions past t) where
   abbrev d : Document
   d = set.document
 
@@ -92,7 +103,7 @@ module _ (past : Past) (t : Table) (set : AreSettingsKept past t) where
     pair_then q x true h = subst (λ (p : Pin). IsPair p.base p.sweep) (ap (λ o. unwrap_or o pin) h) pair
     pair_then q x false h = set.checkpoint_pairs q x h
 
-    pub checkpoint_set : AreSettingsKept (event.Checkpoint i pin.base ∷ past) (after_update t (settings_op (change.Checkpoint i pin)))
+    pub checkpoint_set : AreSettingsKept sessions (event.Checkpoint i pin.base ∷ past) (after_update t (settings_op (change.Checkpoint i pin)))
     checkpoint_set = record {
       document = after_changes (Some set.document) (settings_op (change.Checkpoint i pin)) (next_number t);
       there = settings_there t set.document set.there (change.Checkpoint i pin);
@@ -101,6 +112,7 @@ module _ (past : Past) (t : Table) (set : AreSettingsKept past t) where
       checkpoints = λ q. ap base_of_pin (found_then q) ∙ (base_then q (eq_by_cmp name_cmp q i) ∙ ap (λ b. cond b (Some pin.base) (kept_checkpoint past q)) (same_text q i));
       checkpoint_pairs = λ q x h. pair_then q x (eq_by_cmp name_cmp q i) (sym (found_then q) ∙ h);
       readers = set.readers;
+      only = set.only;
       reader_pairs = set.reader_pairs;
     }
 
@@ -117,7 +129,7 @@ module _ (past : Past) (t : Table) (set : AreSettingsKept past t) where
     pair_left q x true h = absurd (false≢true (ap is_some h))
     pair_left q x false h = set.checkpoint_pairs q x h
 
-    pub release_set : AreSettingsKept (event.Release i ∷ past) (after_update t (settings_op (change.Release i)))
+    pub release_set : AreSettingsKept sessions (event.Release i ∷ past) (after_update t (settings_op (change.Release i)))
     release_set = record {
       document = after_changes (Some set.document) (settings_op (change.Release i)) (next_number t);
       there = settings_there t set.document set.there (change.Release i);
@@ -126,6 +138,7 @@ module _ (past : Past) (t : Table) (set : AreSettingsKept past t) where
       checkpoints = λ q. ap base_of_pin (left_then q) ∙ (base_left q (eq_by_cmp name_cmp q i) ∙ ap (λ b. cond b None (kept_checkpoint past q)) (same_text q i));
       checkpoint_pairs = λ q x h. pair_left q x (eq_by_cmp name_cmp q i) (sym (left_then q) ∙ h);
       readers = set.readers;
+      only = set.only;
       reader_pairs = set.reader_pairs;
     }
 
@@ -137,20 +150,20 @@ root_same clusters past t u same root = record { document = root.document; there
 -- ---- the steps
 
 module _ (starts : Starts) (says : Says) (proper : StartsProper starts) (w : State) (kept : AreLayersKept starts says w) where
-  pub checkpoint_keeps : (s : ℕ) (i : Text) (pin : Pin) → has_login w.past s ≡ true → has_left w.past s ≡ false → is_attached w.past s ≡ false → pin_of (memory_of w s) s ≡ Some pin → AreLayersKept starts says (after_checkpoint w s i pin)
-  checkpoint_keeps s i pin login stays detached has =
+  pub checkpoint_keeps : (s : ℕ) (i : Text) (pin : Pin) → is_stopped_under w.sessions w.past s ≡ false → has_login w.past s ≡ true → has_left w.past s ≡ false → is_attached w.past s ≡ false → pin_of (memory_of w s) s ≡ Some pin → AreLayersKept starts says (after_checkpoint w s i pin)
+  checkpoint_keeps s i pin on login stays detached has =
       let c : Change = change.Checkpoint i pin in
       let e : Event = event.Checkpoint i pin.base in
       let same = nodes_same w.table kept.settings.document kept.settings.there c in
       let previous = previous_same w.table kept.settings.document kept.settings.there c in
       let u : Table = after_update w.table (settings_op c) in
-      let base = base_is starts says proper w kept.sessions s login stays detached ∙ ap (λ o. Some (Rattle.std.specs.Option.option_map_or (λ (p : Pin). p.base) o (memory_of w s).head)) has in
+      let base = base_is starts says proper w kept.sessions s (node_alive starts says proper w kept.sessions s (session_there starts says proper w kept.sessions s login) on) login stays detached ∙ ap (λ o. Some (Rattle.std.specs.Option.option_map_or (λ (p : Pin). p.base) o (memory_of w s).head)) has in
       record {
-        sessions = with_table starts says proper w kept.sessions e (s, base, detached, runs_on starts says w kept.sessions s) refl (λ k. refl) (λ r. refl) refl refl (λ q. refl) refl (λ j. refl) refl u
+        sessions = with_table starts says proper w kept.sessions e (s, base, detached, on) refl (λ k. refl) (λ r. refl) refl refl (λ q. refl) refl (λ j. refl) refl u
             (nodes_commit w.past w.table u w.running kept.sessions.committing (told starts says proper w kept.sessions) same previous)
             (nodes_let w.past w.table u w.running kept.sessions.committing (told starts says proper w kept.sessions) same previous);
         root = root_quiet w.clusters w.past u e refl (root_same w.clusters w.past w.table u same kept.root);
-        settings = checkpoint_set w.past w.table kept.settings i pin (its_pair starts says proper w kept.sessions s (session_there starts says proper w kept.sessions s login) pin has);
+        settings = checkpoint_set w.sessions w.past w.table kept.settings i pin (its_pair starts says proper w kept.sessions s (session_there starts says proper w kept.sessions s login) pin has);
       }
 
   pub release_keeps : (i : Text) → IsSome (kept_checkpoint w.past i) → AreLayersKept starts says (after_release w i)
@@ -165,5 +178,5 @@ module _ (starts : Starts) (says : Says) (proper : StartsProper starts) (w : Sta
             (nodes_commit w.past w.table u w.running kept.sessions.committing (told starts says proper w kept.sessions) same previous)
             (nodes_let w.past w.table u w.running kept.sessions.committing (told starts says proper w kept.sessions) same previous);
         root = root_quiet w.clusters w.past u e refl (root_same w.clusters w.past w.table u same kept.root);
-        settings = release_set w.past w.table kept.settings i;
+        settings = release_set w.sessions w.past w.table kept.settings i;
       }

@@ -11,6 +11,7 @@ use Rattle.oak_machine.specs.Laws.{Says, Starts, StartsProper}
 use Rattle.oak_machine.specs.Sessions.{has_left, has_login}
 use Rattle.oak_read.specs.Meaning.{Documents, documents_in}
 use Rattle.core_world.specs.Collecting.{MayPrune, MayRemove, MayRemovePrevious, MaySplit, after_copied, after_pruned, after_removed, after_split}
+use Rattle.core_keep.specs.Formers.{Former, IsCopyOf}
 use Rattle.core_world.specs.Kept.{IsKept}
 use Rattle.core_world.specs.States.{State}
 use Rattle.core_world.proofs.Splitting.{copied_keeps, copied_rises, pruned_keeps, pruned_rises, removed_keeps, removed_rises, split_keeps, split_rises, unlisted_goes, unlisted_rises}
@@ -24,12 +25,12 @@ use Rattle.std.proofs.Common.{Some}
 use Rattle.core_world.proofs.Whole.{goes, layers_of}
 
 module _ (starts : Starts) (says : Says) (proper : StartsProper starts) (w : State) (kept : IsKept starts says w) (s : ℕ) (login : has_login w.past s ≡ true) (stays : has_left w.past s ≡ false) where
-  pub copied_whole : (p : Path) (k : ℕ) (x : Document) → documents_in w.table.documents (id.Prev k p) ≡ None → kept.sessions.readers.ever p k ≡ false → IsKept starts says (after_copied w s p k x)
+  pub copied_whole : (p : Path) (k : ℕ) (x : Document) → documents_in w.table.documents (id.Prev k p) ≡ None → ((f : Former) → w.formers p k ≡ Some f → IsCopyOf p k f x) → IsKept starts says (after_copied w s p k x)
   copied_whole p k x none new = goes starts says proper w kept (after_copied w s p k x) (copied_keeps starts says proper w (layers_of starts says w kept) s login stays p k x none new) (λ r. refl) (λ r. refl) (copied_rises starts says proper w (layers_of starts says w kept) s login stays p k x none new)
       (quiet_pinned starts says proper w (layers_of starts says w kept) kept.pinned (after_copied w s p k x) refl refl refl (λ q. refl) (put_is w.table (id.Prev k p) x (next_number w.table) id.Settings))
 
-  pub split_whole : (read : Documents) (pin : Pin) (p : Path) (old : Document) (e : PrevEntry) → MaySplit w read pin p old e → IsKept starts says (after_split w s read pin p old e)
-  split_whole read pin p old e may = goes starts says proper w kept (after_split w s read pin p old e) (split_keeps starts says proper w (layers_of starts says w kept) s login stays read pin p old e may) (λ r. refl) (λ r. refl) (split_rises starts says proper w (layers_of starts says w kept) s login stays read pin p old e may)
+  pub split_whole : (read : Documents) (pin : Pin) (p : Path) (old : Document) (e : PrevEntry) → MaySplit w read pin p old e → w.formers p e.number ≡ None → IsKept starts says (after_split w s read pin p old e)
+  split_whole read pin p old e may new = goes starts says proper w kept (after_split w s read pin p old e) (split_keeps starts says proper w (layers_of starts says w kept) s login stays read pin p old e may new) (λ r. refl) (λ r. refl) (split_rises starts says proper w (layers_of starts says w kept) s login stays read pin p old e may new)
       (quiet_pinned starts says proper w (layers_of starts says w kept) kept.pinned (after_split w s read pin p old e) refl refl refl (λ q. refl) (put_is w.table (id.Node p) (split_now w read pin old e) (next_number w.table) id.Settings))
 
   pub pruned_whole : (m t : RevVec) (p : Path) (old : Document) (op : UpdateOp) → MayPrune w m t p old op → IsKept starts says (after_pruned w s p old op)

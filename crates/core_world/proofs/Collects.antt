@@ -1,14 +1,10 @@
 -- What splits and collections do keeps the world.
-use Rattle.std.proofs.Common.{◌≡◌, ◌⊎◌, inl, inr, ℕ, Bool, true, false, cond, not, ◌||◌, ◌&&◌, Some, None, Option, List, [], ◌∷◌, filter_map, map, is_some, refl, sym, ap, ◌∙◌, subst}
+use Rattle.std.proofs.Common.{◌≡◌, inl, inr, ℕ, Bool, true, false, cond, not, Some, None, Option, List, [], ◌∷◌, filter_map, map, refl, sym, ap, ◌∙◌, subst}
 use Rattle.std.proofs.Math.Path.{fun_ext}
-use Rattle.std.specs.Prelude.{◌==◌}
-use Rattle.std.specs.BTreeMap.{is_at}
 use Rattle.std.specs.FinMap.{is_sorted}
-use Rattle.std.specs.List.{cons_option, filter, fold, list_any}
-use Rattle.std.specs.Map.{lookup, remove_entry}
+use Rattle.std.specs.List.{cons_option, filter, fold}
 use Rattle.std.specs.Option.{option_map_or, unwrap_or}
 use Rattle.std.specs.Ordering.{eq_by_cmp}
-use mathlib.Core.Bool.{false≢true}
 use Rattle.jr_path.specs.Ids.{id_cmp}
 use Rattle.jr_path.specs.Names.{path_cmp}
 use Rattle.jr_path.specs.declared.path.DocId.{DocId}
@@ -16,7 +12,6 @@ use Rattle.jr_path.specs.declared.path.DocId.TheVariants as id
 use Rattle.jr_path.specs.declared.path.Path.{Path}
 use Rattle.jr_path.proofs.Orders.{id_total}
 use Rattle.jr_rev.specs.declared.revision.Revision.{Revision}
-use Rattle.jr_rev.specs.Vectors.{start_of}
 use Rattle.jr_tree.proofs.Pointwise.{same_path}
 use Rattle.oak_doc.specs.declared.document.Document.{Document}
 use Rattle.oak_doc.specs.declared.document.PrevEntry.{PrevEntry}
@@ -28,21 +23,19 @@ use Rattle.oak_doc.specs.declared.update.UpdateOp.{UpdateOp}
 use Rattle.oak_doc.specs.Updates.{after_changes, changed, pruned}
 use Rattle.oak_machine.specs.History.{Past}
 use Rattle.oak_read.specs.Meaning.{Documents, documents_in}
-use Rattle.oak_store.specs.Tables.{Table, next_number, with_document}
+use Rattle.oak_store.specs.Tables.{Table, with_document}
 use Rattle.oak_commit.specs.Clashing.{Writer}
 use Rattle.core_read.specs.Told.{IsIn}
 use Rattle.core_clash.specs.Core.{with_document as with_node}
 use Rattle.core_clash.specs.Collecting.{with_moved}
 use Rattle.core_clash.specs.Sound.{Sound}
 use Rattle.core_keep.specs.Dropping.{DropsGarbage, is_number_of}
-use Rattle.core_keep.specs.Steps.{IsChangeAt, IsMainAt, IsPreviousAt, IsUnlisted}
+use Rattle.core_keep.specs.Steps.{IsMainAt}
 use Rattle.core_keep.proofs.Garbage.{same_parts, unlisted_from}
-use Rattle.core_watch.specs.Instants.{AreListed}
-use Rattle.core_watch.specs.Reading.{Ever}
 use Rattle.core_world.specs.Collecting.{without}
 use Rattle.core_world.specs.Kept.{IsRootKept}
 use Rattle.core_world.specs.States.{core_in, moved_in, nodes_in}
-use Rattle.core_world.proofs.Tables.{put_is, put_main, put_node}
+use Rattle.core_world.proofs.Tables.{put_main, put_node}
 use Rattle.core_read.proofs.Entries.{lookup-remove}
 
 -- ---- what is listed

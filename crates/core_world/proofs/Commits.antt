@@ -6,7 +6,6 @@ use Rattle.jr_path.specs.declared.path.Path.{Path}
 use Rattle.jr_path.specs.declared.path.Item.{Item}
 use Rattle.jr_path.specs.declared.path.DocId.TheVariants as id
 use Rattle.jr_rev.specs.declared.revision.Revision.{Revision}
-use Rattle.jr_rev.specs.declared.vector.RevVec.{RevVec}
 use Rattle.oak_clash.specs.declared.mark.MarkAt.{MarkAt}
 use Rattle.oak_clash.specs.Clashes.{commit_root}
 use Rattle.oak_commit.specs.Clashing.{Met, Writer, collision, found, mark_op, noted}
@@ -24,31 +23,30 @@ use Rattle.oak_machine.specs.declared.event.StepKind.TheVariants as kind
 use Rattle.oak_machine.specs.Commits.{marks_of}
 use Rattle.oak_machine.specs.Laws.{Says, Starts, StartsProper}
 use Rattle.oak_machine.specs.Runs.{MayFollow, MayRefuse}
-use Rattle.oak_machine.specs.Sessions.{has_left, has_login, is_drawing, is_end_of_session}
+use Rattle.oak_machine.specs.Sessions.{has_left, has_login, is_end_of_session, is_stop_of, is_drawing}
 use Rattle.oak_read.specs.declared.reader.Reader.{Reader}
 use Rattle.oak_read.specs.Meaning.{documents_in}
 use Rattle.oak_store.specs.Tables.{Table, after_undo, next_number}
-use Rattle.core_read.specs.Told.{IsInUse}
-use Rattle.core_heads.proofs.Runs.{held_in_use, sound_run}
 use Rattle.core_clash.specs.Core.{root_of}
 use Rattle.oak_commit.specs.Looking.{whole}
 use Rattle.core_clash.specs.Sessions.{IsTheirs, Running}
 use Rattle.core_clash.specs.Sound.{Cause}
 use Rattle.core_clash.proofs.Steps.{may_refuse_at_last, may_refuse_at_mark}
 use Rattle.core_clash.proofs.Updates.{last_is, mark_is}
+use Rattle.core_nodes.proofs.Pins.{leaves_both}
 use Rattle.core_nodes.specs.Nodes.{is_of_node, leaves_memory, moved_pin}
 use Rattle.core_world.specs.States.{State, core_in, history_in, nodes_in, with_session, moved_in}
 use Rattle.core_world.specs.Steps.{after_last, after_mark, after_undoing, after_update, after_want, after_write, after_write_in_want, lasted_by, marked_by, refused}
 use Rattle.core_world.specs.Kept.{AreAtWork, AreCommitting, AreSessionsKept, has_written}
-use Rattle.core_world.proofs.Committers.{at_idle, at_session, session_twice}
-use Rattle.core_world.proofs.Flights.{draws_nothing, number_itself, still_idle}
+use Rattle.core_world.proofs.Committers.{session_twice, work_session}
+use Rattle.core_world.proofs.Flights.{draws_nothing, number_itself, still_on, work_quiet}
 use Rattle.core_world.proofs.Lasting.{commit_follows, commit_lets, last_commits, may_last}
 use Rattle.core_world.proofs.Lives.{reader_held, told}
 use Rattle.core_world.proofs.Letting.{LetsRead, lets_calm}
 use Rattle.core_world.proofs.Logged.{IsDrawnBy, drawn_by}
 use Rattle.core_world.proofs.Marking.{mark_cause, mark_commits, mark_lets, may_mark}
 use Rattle.core_world.proofs.Memories.{aside}
-use Rattle.core_world.proofs.Readers.{event_reads, live_is, moved_base}
+use Rattle.core_world.proofs.Readers.{event_reads, moved_base}
 use Rattle.core_world.proofs.Refusing.{refuse_commits, want_commits}
 use Rattle.core_world.proofs.Undoing.{undo_commits, undo_lets}
 use Rattle.core_world.proofs.Writing.{write_commits, write_lets}
@@ -68,17 +66,14 @@ module _ (starts : Starts) (says : Says) (proper : StartsProper starts) (w : Sta
     on_its_node = subst (λ (n : ℕ). slice_get w.sessions n ≡ Some x.draw.revision.cluster) its.session drawn.node
 
     -- an event of this session that is neither a draw, nor an end, nor one of the pins, with a change of one document
-    module _ (e : Event) (u : Table) (y : Running) (may : MayFollow starts says (history_in w) e) (draws : draws_nothing e ≡ true) (ends : (q : ℕ) → is_end_of_session q e ≡ false) (unbased : moved_base e ≡ None)
+    module _ (e : Event) (u : Table) (y : Running) (may : MayFollow starts says (history_in w) e) (draws : draws_nothing e ≡ true) (ends : (q : ℕ) → is_end_of_session q e ≡ false) (on : (k : ℕ) → is_stop_of k e ≡ false) (unbased : moved_base e ≡ None)
         (leaves : (j : ℕ) → leaves_memory j e ≡ true) (unmoved : moved_pin e ≡ None) (committing : AreCommitting (e ∷ w.past) u (with_session w.running s (Some y)))
         (lets : LetsRead w.table u w.past (e ∷ w.past)) where
       stay_on : (q : ℕ) → has_left w.past q ≡ false → has_left (e ∷ w.past) q ≡ false
       stay_on q h = ap (λ b. b || has_left w.past q) (ends q) ∙ h
 
-      working : AreAtWork (e ∷ w.past) (with_session w.running s (Some y))
-      working = record {
-        idle = at_idle (λ q. is_drawing (e ∷ w.past) q ≡ false) w.running s y (λ q f h. still_idle e w.past q draws (kept.working.idle q h));
-        stays = at_session (λ q (z : Running). has_left (e ∷ w.past) q ≡ false) w.running s y (stay_on s (kept.working.stays s x here)) (λ q z f h. stay_on q (kept.working.stays q z h));
-      }
+      working : AreAtWork w.sessions (e ∷ w.past) (with_session w.running s (Some y)) w.reading
+      working = work_session w.sessions (e ∷ w.past) w.running w.reading (work_quiet w.sessions w.past w.running w.reading kept.working e draws ends on) s y (stay_on s (kept.working.stays s x here)) (still_on w.sessions w.past e on s ∙ kept.working.goes s x here)
 
       pub with_event : AreSessionsKept starts says (record w { past = e ∷ w.past; table = u; running = with_session w.running s (Some y) })
       with_event = record {
@@ -86,8 +81,8 @@ module _ (starts : Starts) (says : Says) (proper : StartsProper starts) (w : Sta
         run = (may, kept.run);
         committing = committing;
         working = working;
-        memories = aside starts says w.clusters w.sessions kept.nodes w.past w.memories kept.memories e (may, kept.run) leaves (λ j. ap (λ o. option_map_or (λ n. not (is_of_node w.sessions j n)) o true) unmoved);
-        readers = event_reads w.past w.table w.reading kept.readers (reader_held starts says proper w kept) e u lets (λ q r h. ap (λ o. option_map_or (λ n. n == q) o false) unbased);
+        memories = aside starts says w.clusters w.sessions kept.nodes w.past w.memories kept.memories e (may, kept.run) leaves (λ j. leaves_both w.sessions j e (leaves j) (ap (λ o. option_map_or (λ n. not (is_of_node w.sessions j n)) o true) unmoved));
+        readers = event_reads w.past w.table w.formers w.reading kept.readers (reader_held starts says proper w kept) e u lets (λ q r h. ap (λ o. option_map_or (λ n. n == q) o false) unbased);
       }
 
     module _ (uncommitted : x.committed ≡ false) (going : x.writer.undoing ≡ false) where
@@ -97,7 +92,7 @@ module _ (starts : Starts) (says : Says) (proper : StartsProper starts) (w : Sta
       write_keeps p rest unmet next =
           let op = write_op x.draw.revision x.draw.edit.writes x.draw.marks p in
           let wrote : Writer = record x.writer { left = rest; written = x.writer.written ++ p ∷ []; due = found x.draw.base x.draw.revision p x.draw.marks (whole p (nodes_in w.table p) (moved_in w.table p)) } in
-          with_event (event.Went s kind.Write) (after_update w.table op) (record { draw = x.draw; writer = wrote; committed = x.committed }) (login, kept.working.stays s x here) refl (λ q. refl) refl (λ j. refl) refl
+          with_event (event.Went s kind.Write) (after_update w.table op) (record { draw = x.draw; writer = wrote; committed = x.committed }) (login, kept.working.stays s x here) refl (λ q. refl) (λ k. refl) refl (λ j. refl) refl
           (subst (λ (n : ℕ). AreCommitting (event.Went n kind.Write ∷ w.past) (after_update w.table op) (with_session w.running s (Some (record { draw = x.draw; writer = wrote; committed = x.committed })))) its.session
           (write_commits w.past w.table w.running kept.committing (told starts says proper w kept) s x here uncommitted going p rest unmet next))
           (subst (λ (n : ℕ). LetsRead w.table (after_update w.table op) w.past (event.Went n kind.Write ∷ w.past)) its.session
@@ -106,7 +101,7 @@ module _ (starts : Starts) (says : Says) (proper : StartsProper starts) (w : Sta
       -- ---- a refusal
 
       pub refused_keeps : (item : Item) (o : Revision) → Cause w.past x.draw.revision item o → MayRefuse w.past x.draw.revision item o → AreSessionsKept starts says (refused w s x item o)
-      refused_keeps item o cause may = with_event (event.Refuse x.draw.revision item o) w.table (record { draw = x.draw; writer = record x.writer { due = []; undoing = true }; committed = x.committed }) may refl (λ q. refl) refl (λ j. refl) refl
+      refused_keeps item o cause may = with_event (event.Refuse x.draw.revision item o) w.table (record { draw = x.draw; writer = record x.writer { due = []; undoing = true }; committed = x.committed }) may refl (λ q. refl) (λ k. refl) refl (λ j. refl) refl
           (refuse_commits w.past w.table w.running kept.committing (told starts says proper w kept) s x here uncommitted going item o cause)
           (lets_calm w.table w.past (λ r. has_written (kept.committing.writers r)) kept.committing.kept (event.Refuse x.draw.revision item o) (λ q. refl) refl)
 
@@ -122,7 +117,7 @@ module _ (starts : Starts) (says : Says) (proper : StartsProper starts) (w : Sta
         marked_keeps : noted (nodes_in w.table root) f.other ≡ false → AreSessionsKept starts says (marked_by w s x f rest (Ok doc))
         marked_keeps free =
             let now : Table = Rattle.oak_store.specs.Tables.with_document w.table (id.Node root) doc (next_number w.table) in
-            with_event (event.Went s kind.Mark) now (record { draw = x.draw; writer = record x.writer { due = rest }; committed = x.committed }) (login, kept.working.stays s x here) refl (λ q. refl) refl (λ j. refl) refl
+            with_event (event.Went s kind.Mark) now (record { draw = x.draw; writer = record x.writer { due = rest }; committed = x.committed }) (login, kept.working.stays s x here) refl (λ q. refl) (λ k. refl) refl (λ j. refl) refl
             (subst (λ (n : ℕ). AreCommitting (event.Went n kind.Mark ∷ w.past) now (with_session w.running s (Some (record { draw = x.draw; writer = record x.writer { due = rest }; committed = x.committed })))) its.session
             (mark_commits w.past w.table w.running kept.committing (told starts says proper w kept) s x here uncommitted going f rest next free))
             (subst (λ (n : ℕ). LetsRead w.table now w.past (event.Went n kind.Mark ∷ w.past)) its.session
@@ -157,7 +152,7 @@ module _ (starts : Starts) (says : Says) (proper : StartsProper starts) (w : Sta
         committed_keeps : is_some (collision (nodes_in w.table (commit_root x.draw.marks)) x.draw.revision) ≡ false → AreSessionsKept starts says (lasted_by w s x (Ok last_doc))
         committed_keeps free =
             with_event (event.Commit x.draw.revision) (Rattle.oak_store.specs.Tables.with_document w.table (id.Node (commit_root x.draw.marks)) last_doc (next_number w.table)) (record { draw = x.draw; writer = x.writer; committed = true })
-            (commit_follows w.past w.table w.running kept.committing (told starts says proper w kept) s x here uncommitted going unmet none_left free) refl (λ q. refl) refl (λ j. refl) refl
+            (commit_follows w.past w.table w.running kept.committing (told starts says proper w kept) s x here uncommitted going unmet none_left free) refl (λ q. refl) (λ k. refl) refl (λ j. refl) refl
             (last_commits w.past w.table w.running kept.committing (told starts says proper w kept) s x here uncommitted going unmet none_left free)
             (commit_lets w.past w.table w.running kept.committing (told starts says proper w kept) s x here uncommitted going unmet none_left free)
 
@@ -180,10 +175,7 @@ module _ (starts : Starts) (says : Says) (proper : StartsProper starts) (w : Sta
         nodes = kept.nodes;
         run = kept.run;
         committing = want_commits w.past w.table w.running kept.committing (told starts says proper w kept) s x here uncommitted going;
-        working = record {
-          idle = at_idle (λ q. is_drawing w.past q ≡ false) w.running s _ (λ q f h. kept.working.idle q h);
-          stays = at_session (λ q (z : Running). has_left w.past q ≡ false) w.running s _ (kept.working.stays s x here) (λ q z f h. kept.working.stays q z h);
-        };
+        working = work_session w.sessions w.past w.running w.reading kept.working s _ (kept.working.stays s x here) (kept.working.goes s x here);
         memories = kept.memories;
         readers = kept.readers;
       }
@@ -193,7 +185,7 @@ module _ (starts : Starts) (says : Says) (proper : StartsProper starts) (w : Sta
     pub undo_keeps : (p : Path) (rest : List Path) → x.committed ≡ false → x.writer.undoing ≡ true → x.writer.written ≡ p ∷ rest → AreSessionsKept starts says (after_undoing w s x p rest)
     undo_keeps p rest uncommitted undoing next =
         let now : Table = after_undo w.table (id.Node p) x.draw.revision in
-        with_event (event.Went s kind.Undo) now (record { draw = x.draw; writer = record x.writer { written = rest }; committed = x.committed }) (login, kept.working.stays s x here) refl (λ q. refl) refl (λ j. refl) refl
+        with_event (event.Went s kind.Undo) now (record { draw = x.draw; writer = record x.writer { written = rest }; committed = x.committed }) (login, kept.working.stays s x here) refl (λ q. refl) (λ k. refl) refl (λ j. refl) refl
         (subst (λ (n : ℕ). AreCommitting (event.Went n kind.Undo ∷ w.past) now (with_session w.running s (Some (record { draw = x.draw; writer = record x.writer { written = rest }; committed = x.committed })))) its.session
         (undo_commits w.past w.table w.running kept.committing (told starts says proper w kept) s x here uncommitted undoing p rest next))
         (subst (λ (n : ℕ). LetsRead w.table now w.past (event.Went n kind.Undo ∷ w.past)) its.session

@@ -1,5 +1,5 @@
 -- What each session has, after a change of one session's; and the committers after a step of one.
-use Rattle.std.proofs.Common.{◌≡◌, ℕ, Bool, true, false, cond, ◌⊎◌, inl, inr, Some, None, Option, refl, sym, ap, subst, ◌∙◌, is_some}
+use Rattle.std.proofs.Common.{◌≡◌, ℕ, Bool, true, false, cond, ◌⊎◌, inl, inr, Some, None, Option, List, refl, sym, ap, subst, ◌∙◌, is_some}
 use Rattle.std.proofs.Math.Path.{fun_ext}
 use Rattle.std.specs.Prelude.{◌==◌}
 use mathlib.Core.Bool.{false≢true}
@@ -12,6 +12,9 @@ use Rattle.oak_machine.specs.Commits.{draw_of, is_committed, is_ended}
 use Rattle.core_clash.specs.Core.{with_writer}
 use Rattle.core_clash.specs.Sessions.{IsTheirs, Running}
 use Rattle.core_clash.proofs.Basics.{decide, some_is, writer_mine, writer_other}
+use Rattle.oak_machine.specs.Sessions.{has_left, is_drawing, is_stopped_under}
+use Rattle.oak_read.specs.declared.reader.Reader.{Reader}
+use Rattle.core_world.specs.Kept.{AreAtWork}
 use Rattle.core_world.specs.States.{with_session}
 use Rattle.core_world.proofs.Flights.{other_number, same_number}
 
@@ -54,6 +57,16 @@ session_twice has s x y = fun_ext (λ q. by q (q == s))
     by : (q : ℕ) (b : Bool) → cond b y (cond b x (has q)) ≡ cond b y (has q)
     by q true = refl
     by q false = refl
+
+-- one session's committer stands otherwise
+pub work_session : (sessions : List ℕ) (past : Past) (running : ℕ → Option Running) (reading : ℕ → Option Reader) → AreAtWork sessions past running reading → (s : ℕ) (y : Running) → has_left past s ≡ false → is_stopped_under sessions past s ≡ false → AreAtWork sessions past (with_session running s (Some y)) reading
+work_session sessions past running reading work s y stays on = record {
+  idle = at_idle (λ q. is_stopped_under sessions past q ≡ false → is_drawing past q ≡ false) running s y (λ q f h. work.idle q h);
+  stays = at_session (λ q (z : Running). has_left past q ≡ false) running s y stays (λ q z f h. work.stays q z h);
+  goes = at_session (λ q (z : Running). is_stopped_under sessions past q ≡ false) running s y on (λ q z f h. work.goes q z h);
+  reads = work.reads;
+  halted = work.halted;
+}
 
 -- ---- committers
 

@@ -5,6 +5,7 @@ use mathlib.Core.Bool.{false≢true}
 use Rattle.jr_rev.specs.Vectors.{sees}
 use Rattle.jr_rev.specs.declared.revision.Revision.{Revision}
 use Rattle.jr_rev.specs.Revisions.{is_before, is_same}
+use Rattle.oak_machine.specs.Sessions.{is_stopped}
 use Rattle.oak_machine.specs.declared.event.Draw.{Draw}
 use Rattle.oak_machine.specs.declared.event.Event.TheVariants as event
 use Rattle.oak_machine.specs.History.{Past}
@@ -107,6 +108,10 @@ module _ (starts : Starts) (says : Says) (proper : StartsProper starts) (cluster
         writer = writer_other a.writers d.revision (beginning d).writer y.draw.revision apart ∙ its.writer;
       })
 
+  -- its cluster node wasn't stopped
+  running_now : is_stopped past d.revision.cluster ≡ false
+  running_now = sym (ap (λ o. option_map_or (is_stopped past) o false) run.0.cluster) ∙ run.0.running
+
   pub draw_commits : AreCommitting later t (with_session running d.session (Some (beginning d)))
   draw_commits = record {
     writers = with_writer a.writers d.revision (beginning d).writer;
@@ -114,5 +119,5 @@ module _ (starts : Starts) (says : Says) (proper : StartsProper starts) (cluster
     theirs = theirs;
     listed = at_session (λ q (y : Running). y.writer.paths ≡ paths_to_write y.draw.marks) running d.session (beginning d) refl (λ q y f h. a.listed q y h);
     kept = world_by (documents_in t.documents) later _ (λ q. is_among (with_writer a.writers d.revision (beginning d).writer q).written) (progress_with a.writers d.revision (beginning d).writer (λ p. false) (λ p. refl)) readable;
-    unstopped = a.unstopped;
+    unstopped = at_session (λ q (y : Running). is_stopped past y.draw.revision.cluster ≡ false) running d.session (beginning d) running_now (λ q y f h. a.unstopped q y h);
   }

@@ -16,7 +16,7 @@ use Rattle.oak_machine.specs.declared.event.Event.TheVariants as event
 use Rattle.oak_machine.specs.History.{Past}
 use Rattle.oak_machine.specs.Laws.{Says, Starts, StartsProper}
 use Rattle.oak_machine.specs.Runs.{IsNode, IsRunOf, MayDraw}
-use Rattle.oak_machine.specs.Sessions.{base_of, has_left, has_login, is_attached, is_drawing}
+use Rattle.oak_machine.specs.Sessions.{base_of, has_left, has_login, is_attached, is_drawing, is_recovered, is_stopped, is_stopped_under}
 use Rattle.oak_node.specs.Heads.{finished, next_draw, with_draw}
 use Rattle.oak_node.specs.Memory.{NodeState, own_entry}
 use Rattle.oak_node.specs.Pins.{pin_of}
@@ -24,7 +24,7 @@ use Rattle.core_clash.specs.Collecting.{SeesBounded}
 use Rattle.core_clash.specs.Sessions.{IsTheirs, Running}
 use Rattle.core_nodes.specs.Nodes.{IsPair, base_of_pin, pinned_at, session_base}
 use Rattle.core_nodes.proofs.Events.{next_is}
-use Rattle.core_nodes.proofs.Pins.{session_owner}
+use Rattle.core_nodes.proofs.Pins.{alive_base, session_owner}
 use Rattle.core_world.specs.States.{State, base_in, history_in, memory_at, memory_of, node_of, with_memory, with_session}
 use Rattle.core_world.specs.Steps.{IsThrough, after_draw, after_finish, after_notes, beginning, draw_in, memories_with}
 use Rattle.core_world.specs.Kept.{AreAtWork, AreMemories, AreSessionsKept}
@@ -32,8 +32,9 @@ use Rattle.core_world.proofs.Committers.{at_idle, at_idle_now, at_others, at_ses
 use Rattle.core_world.proofs.Commits.{drawn, its, on_its_node}
 use Rattle.core_world.proofs.Drawing.{draw_commits}
 use Rattle.core_world.proofs.Finishing.{finish_commits, quiet_commits}
-use Rattle.core_world.proofs.Flights.{drawn_idle, ended_idle, still_idle}
-use Rattle.core_world.proofs.Lives.{reads_calm, its_node, on_node, runs_on, session_there, told}
+use Rattle.std.specs.Prelude.{◌==◌}
+use Rattle.core_world.proofs.Flights.{drawn_idle, ended_idle, same_number, still_idle, was_drawing, was_drawn, work_quiet}
+use Rattle.core_world.proofs.Lives.{reads_calm, its_node, on_node, session_there, told}
 use Rattle.core_world.proofs.Memories.{aside, draw_memories, end_memories, set_here}
 use Rattle.core_world.proofs.Readers.{detached_base, session_based, some_pinned}
 
@@ -45,19 +46,20 @@ module _ (starts : Starts) (says : Says) (proper : StartsProper starts) (w : Sta
   -- ---- the pin of a session
 
   -- a node's memory has the session's pin, at its base
-  pub its_base : (s : ℕ) → is_some (slice_get w.sessions s) ≡ true → base_of_pin (pin_of (memory_of w s) s) ≡ session_base w.past s
-  its_base s there =
+  pub its_base : (s : ℕ) → is_some (slice_get w.sessions s) ≡ true → is_recovered w.past (node_of w s) ≡ false → base_of_pin (pin_of (memory_of w s) s) ≡ session_base w.past s
+  its_base s there alive =
       (kept.memories.pins (node_of w s) (its_node starts says proper w kept s there)).bases s
-      ∙ session_owner w.sessions w.past (node_of w s) s (on_node starts says proper w kept s there)
+      ∙ (alive_base w.sessions w.past (node_of w s) alive s
+      ∙ session_owner w.sessions w.past (node_of w s) s (on_node starts says proper w kept s there))
 
   pub its_pair : (s : ℕ) → is_some (slice_get w.sessions s) ≡ true → (pin : Pin) → pin_of (memory_of w s) s ≡ Some pin → IsPair pin.base pin.sweep
   its_pair s there pin h = (kept.memories.pins (node_of w s) (its_node starts says proper w kept s there)).pairs s pin h
 
-  module _ (s : ℕ) (login : has_login w.past s ≡ true) (stays : has_left w.past s ≡ false) where
+  module _ (s : ℕ) (alive : is_recovered w.past (node_of w s) ≡ false) (login : has_login w.past s ≡ true) (stays : has_left w.past s ≡ false) where
     pinned_there : base_of_pin (pin_of (memory_of w s) s) ≡ pinned_at w.past s
     pinned_there =
         let v = some_base (pinned_at w.past s) (some_pinned w.past s login) in
-        its_base s (session_there starts says proper w kept s login) ∙ (session_based w.past s v.0 login stays v.1 ∙ sym v.1)
+        its_base s (session_there starts says proper w kept s login) alive ∙ (session_based w.past s v.0 login stays v.1 ∙ sym v.1)
 
     -- a session that is there has a pin
     pub some_pin : (pin : Pin) × (pin_of (memory_of w s) s ≡ Some pin)
@@ -80,7 +82,7 @@ module _ (starts : Starts) (says : Says) (proper : StartsProper starts) (w : Sta
 
     -- ---- a draw
 
-    module _ (detached : is_attached w.past s ≡ false) (none : w.running s ≡ None) (edit : Edit) (marks : List MarkAt) (lawful : starts (history_in w) s edit marks) (bounded : SeesBounded w.past (base_in w s)) where
+    module _ (on : is_stopped_under w.sessions w.past s ≡ false) (detached : is_attached w.past s ≡ false) (none : w.running s ≡ None) (edit : Edit) (marks : List MarkAt) (lawful : starts (history_in w) s edit marks) (bounded : SeesBounded w.past (base_in w s)) where
       abbrev d : Draw
       d = draw_in w s edit marks
 
@@ -95,23 +97,33 @@ module _ (starts : Starts) (says : Says) (proper : StartsProper starts) (w : Sta
 
       pub may_draw : MayDraw starts (history_in w) (draw_in w s edit marks)
       may_draw = record {
-        running = runs_on starts says w kept s;
+        running = on;
         login = login;
         detached = detached;
-        idle = kept.working.idle s none;
+        idle = kept.working.idle s none on;
         base = base_is detached;
         cluster = on_node starts says proper w kept s there ∙ ap (λ k. Some k) (sym same_node);
         next = next_is w.clusters w.past (node_of w s) (memory_of w s) (kept.memories.memory (node_of w s) node) ∙ ap (λ k. Rattle.oak_machine.specs.Heads.next_draw w.clusters None w.past k) (sym same_node);
         lawful = lawful;
       }
 
+      apart : (q : ℕ) → is_stopped_under w.sessions w.past q ≡ true → (q == s) ≡ false
+      apart q stopped = by (q == s) refl
+        where
+          by : (b : Bool) → (q == s) ≡ b → b ≡ false
+          by false e = refl
+          by true e = absurd (false≢true (sym on ∙ (ap (is_stopped_under w.sessions w.past) (sym (same_number q s e)) ∙ stopped)))
+
       run : IsRunOf starts says w.clusters w.sessions None (event.Draw d ∷ w.past)
       run = (may_draw, kept.run)
 
-      working : AreAtWork (event.Draw d ∷ w.past) (with_session w.running s (Some (beginning d)))
+      working : AreAtWork w.sessions (event.Draw d ∷ w.past) (with_session w.running s (Some (beginning d))) w.reading
       working = record {
-        idle = at_idle (λ q. is_drawing (event.Draw d ∷ w.past) q ≡ false) w.running s (beginning d) (λ q f h. drawn_idle d w.past q f (kept.working.idle q h));
+        idle = at_idle (λ q. is_stopped_under w.sessions w.past q ≡ false → is_drawing (event.Draw d ∷ w.past) q ≡ false) w.running s (beginning d) (λ q f h goes. drawn_idle d w.past q f (kept.working.idle q h goes));
         stays = at_session (λ q (z : Running). has_left w.past q ≡ false) w.running s (beginning d) stays (λ q z f h. kept.working.stays q z h);
+        goes = at_session (λ q (z : Running). is_stopped_under w.sessions w.past q ≡ false) w.running s (beginning d) on (λ q z f h. kept.working.goes q z h);
+        reads = kept.working.reads;
+        halted = λ q stopped drawing. kept.working.halted q stopped (was_drawn d w.past q (apart q stopped) drawing);
       }
 
       pub draw_keeps : (paths : List Path) → AreSessionsKept starts says (after_draw w s edit marks paths)
@@ -164,8 +176,11 @@ module _ (starts : Starts) (says : Says) (proper : StartsProper starts) (w : Sta
       run = run_ended;
       committing = finish_commits w.past w.table w.running kept.committing (told starts says proper w kept) s x here through;
       working = record {
-        idle = at_idle_now (λ q. is_drawing later q ≡ false) w.running s now_idle (λ q f h. still_idle (event.End r) w.past q refl (kept.working.idle q h));
+        idle = at_idle_now (λ q. is_stopped_under w.sessions w.past q ≡ false → is_drawing later q ≡ false) w.running s (λ goes. now_idle) (λ q f h goes. still_idle (event.End r) w.past q refl (kept.working.idle q h goes));
         stays = at_others (λ q (z : Running). has_left w.past q ≡ false) w.running s (λ q z f h. kept.working.stays q z h);
+        goes = at_others (λ q (z : Running). is_stopped_under w.sessions w.past q ≡ false) w.running s (λ q z f h. kept.working.goes q z h);
+        reads = kept.working.reads;
+        halted = λ q stopped drawing. kept.working.halted q stopped (was_drawing (event.End r) w.past q refl drawing);
       };
       memories = ended_memories;
       readers = reads_calm starts says proper w kept (event.End r) (λ q. refl) refl (λ q y h. refl);
@@ -174,16 +189,16 @@ module _ (starts : Starts) (says : Says) (proper : StartsProper starts) (w : Sta
 -- ---- the head moves
 
 -- an event of the head of cluster node k, as its memory has it
-module _ (starts : Starts) (says : Says) (proper : StartsProper starts) (w : State) (kept : AreSessionsKept starts says w) (k : ℕ) (node : IsNode w.clusters k) where
+module _ (starts : Starts) (says : Says) (proper : StartsProper starts) (w : State) (kept : AreSessionsKept starts says w) (k : ℕ) (node : IsNode w.clusters k) (goes : is_stopped w.past k ≡ false) where
   pub head_keeps : AreSessionsKept starts says (record w { past = event.Head k (memory_at w.memories k).head ∷ w.past })
   head_keeps =
       let e : Event = event.Head k (memory_at w.memories k).head in
-      let run : IsRunOf starts says w.clusters w.sessions None (e ∷ w.past) = ((kept.committing.unstopped k, (kept.memories.memory k node).head), kept.run) in
+      let run : IsRunOf starts says w.clusters w.sessions None (e ∷ w.past) = ((goes, (kept.memories.memory k node).head), kept.run) in
       record {
         nodes = kept.nodes;
         run = run;
         committing = quiet_commits w.past w.table w.running kept.committing (told starts says proper w kept) e refl (λ k. refl);
-        working = record { idle = λ q h. still_idle e w.past q refl (kept.working.idle q h); stays = kept.working.stays };
+        working = work_quiet w.sessions w.past w.running w.reading kept.working e refl (λ q. refl) (λ k. refl);
         memories = aside starts says w.clusters w.sessions kept.nodes w.past w.memories kept.memories e run (λ j. refl) (λ j. refl);
         readers = reads_calm starts says proper w kept e (λ q. refl) refl (λ q r h. refl);
       }
@@ -202,9 +217,13 @@ module _ (starts : Starts) (says : Says) (proper : StartsProper starts) (w : Sta
   set_is : memory_at (memories_with w s (finished (memory_of w s) x.draw.revision)) (node_of w s) ≡ finished (memory_of w s) x.draw.revision
   set_is = set_here w.memories (node_of w s) (finished (memory_of w s) x.draw.revision) the_node.0 (subst (λ (n : ℕ). node_of w s ≤ n) (sym kept.memories.counted) the_node.1)
 
+  -- its node wasn't stopped
+  going : is_stopped w.past (node_of w s) ≡ false
+  going = ap (is_stopped w.past) (ap (λ o. unwrap_or o 0) (on_its_node starts says proper w kept s x here)) ∙ kept.committing.unstopped s x here
+
   moved_kept : (b : Bool) → AreSessionsKept starts says (record ended { past = cond b (event.Head (node_of w s) (finished (memory_of w s) x.draw.revision).head ∷ ended.past) ended.past })
   moved_kept false = kept_ended
-  moved_kept true = subst (λ (m : NodeState). AreSessionsKept starts says (record ended { past = event.Head (node_of w s) m.head ∷ ended.past })) set_is (head_keeps starts says proper ended kept_ended (node_of w s) the_node)
+  moved_kept true = subst (λ (m : NodeState). AreSessionsKept starts says (record ended { past = event.Head (node_of w s) m.head ∷ ended.past })) set_is (head_keeps starts says proper ended kept_ended (node_of w s) the_node going)
 
   pub finish_keeps : AreSessionsKept starts says (after_finish w s x)
   finish_keeps = moved_kept (is_before (own_entry (memory_of w s)) (own_entry (finished (memory_of w s) x.draw.revision)))

@@ -87,7 +87,7 @@ module _ (past : Past) (t : Table) (running : ℕ → Option Running) (a : AreCo
       theirs = theirs;
       listed = at_others (λ q (y : Running). y.writer.paths ≡ paths_to_write y.draw.marks) running s (λ q y f h. a.listed q y h);
       kept = readable;
-      unstopped = a.unstopped;
+      unstopped = at_others (λ q (y : Running). is_stopped past y.draw.revision.cluster ≡ false) running s (λ q y f h. a.unstopped q y h);
     }
 
 -- ---- other events
@@ -114,5 +114,5 @@ quiet_commits past t running a told e quiet on =
       theirs = λ q y h. theirs_quiet e past a.writers q y quiet (a.theirs q y h);
       listed = a.listed;
       kept = readable;
-      unstopped = λ k. ap (λ b. b || is_stopped past k) (on k) ∙ a.unstopped k;
+      unstopped = λ q y h. ap (λ b. b || is_stopped past y.draw.revision.cluster) (on y.draw.revision.cluster) ∙ a.unstopped q y h;
     }

@@ -1,6 +1,6 @@
 -- The draws of a session that are in flight.
-use Rattle.std.proofs.Common.{◌≡◌, ℕ, Bool, true, false, cond, not, ◌&&◌, ◌||◌, Some, List, [], ◌∷◌, is_some, refl, sym, ap, subst, ◌∙◌, arith, None}
-use Rattle.std.specs.Prelude.{◌==◌}
+use Rattle.std.proofs.Common.{◌≡◌, ℕ, Bool, true, false, cond, not, ◌&&◌, ◌||◌, Option, Some, List, [], ◌∷◌, is_some, refl, sym, ap, subst, ◌∙◌, arith, None}
+use Rattle.std.specs.Prelude.{◌==◌, slice_get}
 use Rattle.std.proofs.lemmas.Bool.Decides.{nat_tests}
 use mathlib.Core.Bool.{false≢true}
 use Rattle.jr_rev.specs.declared.revision.Revision.{Revision}
@@ -12,7 +12,11 @@ use Rattle.oak_machine.specs.History.{Past}
 use Rattle.oak_machine.specs.Commits.{draw_of, is_ended}
 use Rattle.oak_machine.specs.Laws.{Says, Starts}
 use Rattle.oak_machine.specs.Runs.{IsRunOf}
-use Rattle.oak_machine.specs.Sessions.{is_drawing, is_drawing_among}
+use Rattle.oak_machine.specs.Sessions.{has_left, is_drawing, is_drawing_among, is_end_of_session, is_stop_of, is_stopped, is_stopped_under}
+use Rattle.oak_read.specs.declared.reader.Reader.{Reader}
+use Rattle.core_clash.specs.Sessions.{Running}
+use Rattle.core_world.specs.Kept.{AreAtWork}
+use Rattle.std.specs.Option.{option_map_or}
 use Rattle.core_clash.proofs.Basics.{is_same_self, or_left, or_right, same_revision, some_is}
 
 never : {A : Type 0} → false ≡ true → A
@@ -115,6 +119,33 @@ pub still_idle : (e : Event) (past : Past) (s : ℕ) → draws_nothing e ≡ tru
 still_idle (event.Draw d) past s n h = never n
 still_idle e past s n h = less_drawing past (e ∷ past) (ends_more e past) past s h
 
+-- who has a draw in flight behind such an event had it before
+pub was_drawing : (e : Event) (past : Past) (s : ℕ) → draws_nothing e ≡ true → is_drawing (e ∷ past) s ≡ true → is_drawing past s ≡ true
+was_drawing e past s n h = by (is_drawing past s) refl
+  where
+    by : (b : Bool) → is_drawing past s ≡ b → b ≡ true
+    by true k = refl
+    by false k = never (sym (still_idle e past s n k) ∙ h)
+
+-- whether a session's node was stopped is as it was behind an event that is no stop
+pub still_on : (sessions : List ℕ) (past : Past) (e : Event) → ((k : ℕ) → is_stop_of k e ≡ false) → (s : ℕ) → is_stopped_under sessions (e ∷ past) s ≡ is_stopped_under sessions past s
+still_on sessions past e on s = by (slice_get sessions s)
+  where
+    by : (o : Option ℕ) → option_map_or (is_stopped (e ∷ past)) o false ≡ option_map_or (is_stopped past) o false
+    by None = refl
+    by (Some k) = ap (λ b. b || is_stopped past k) (on k)
+
+-- an event that is no draw, no session's end and no stop leaves what is at work
+pub work_quiet : (sessions : List ℕ) (past : Past) (running : ℕ → Option Running) (reading : ℕ → Option Reader) → AreAtWork sessions past running reading → (e : Event) → draws_nothing e ≡ true → ((q : ℕ) → is_end_of_session q e ≡ false) → ((k : ℕ) → is_stop_of k e ≡ false)
+    → AreAtWork sessions (e ∷ past) running reading
+work_quiet sessions past running reading work e draws ends on = record {
+  idle = λ q h goes. still_idle e past q draws (work.idle q h (sym (still_on sessions past e on q) ∙ goes));
+  stays = λ q x h. ap (λ b. b || has_left past q) (ends q) ∙ work.stays q x h;
+  goes = λ q x h. still_on sessions past e on q ∙ work.goes q x h;
+  reads = λ q r h. still_on sessions past e on q ∙ work.reads q r h;
+  halted = λ q stopped drawing. ap (λ b. b || has_left past q) (ends q) ∙ work.halted q (sym (still_on sessions past e on q) ∙ stopped) (was_drawing e past q draws drawing);
+}
+
 -- a draw of another session too
 pub drawn_idle : (d : Draw) (past : Past) (q : ℕ) → (q == d.session) ≡ false → is_drawing past q ≡ false → is_drawing (event.Draw d ∷ past) q ≡ false
 drawn_idle d past q apart h = or_none ((d.session == q) && not (is_ended past d.revision)) _ (other (d.session == q) refl) (less_drawing past (event.Draw d ∷ past) (λ r k. k) past q h)
@@ -122,3 +153,11 @@ drawn_idle d past q apart h = or_none ((d.session == q) && not (is_ended past d.
     other : (b : Bool) → (d.session == q) ≡ b → (b && not (is_ended past d.revision)) ≡ false
     other false k = refl
     other true k = absurd (other_number q d.session apart (sym (same_number d.session q k)))
+
+-- whoever draws behind another session's draw drew before
+pub was_drawn : (d : Draw) (past : Past) (q : ℕ) → (q == d.session) ≡ false → is_drawing (event.Draw d ∷ past) q ≡ true → is_drawing past q ≡ true
+was_drawn d past q apart h = by (is_drawing past q) refl
+  where
+    by : (b : Bool) → is_drawing past q ≡ b → b ≡ true
+    by true k = refl
+    by false k = never (sym (drawn_idle d past q apart k) ∙ h)

@@ -1,10 +1,11 @@
 -- What a world holds rises with its steps: heads rise, pins are old ones or heads, and the settings keep what was kept or pinned.
+use Rattle.core_nodes.proofs.Pins.{pinned_alive}
 use Rattle.std.proofs.Common.{◌≡◌, ◌⊎◌, inl, inr, ℕ, ◌≤◌, Bool, true, false, cond, not, ◌&&◌, ◌||◌, Some, None, Option, List, [], ◌∷◌, ◌++◌, is_some, refl, sym, ap, subst, ◌∙◌, arith}
 use Rattle.std.specs.Prelude.{◌==◌, nat_le, slice_get}
 use Rattle.std.specs.BTreeMap.{insert_entry, is_at}
 use Rattle.std.specs.Map.{lookup, remove_entry, values_of}
 use Rattle.std.specs.Option.{option_map_or}
-use Rattle.std.specs.Ordering.{match_ordering, nat_cmp}
+use Rattle.std.specs.Ordering.{is_eq, match_ordering, nat_cmp}
 use Rattle.std.specs.declared.cmp.Ordering.{Ordering}
 use Rattle.std.specs.declared.cmp.Ordering.TheVariants.{Less, Equal, Greater}
 use Rattle.std.proofs.lemmas.Bool.Decides.{nat_tests}
@@ -27,7 +28,7 @@ use Rattle.oak_machine.specs.Heads.{head_of}
 use Rattle.oak_machine.specs.History.{Past}
 use Rattle.oak_machine.specs.Laws.{Says, Starts, StartsProper}
 use Rattle.oak_machine.specs.Runs.{IsNode, IsRunOf}
-use Rattle.oak_machine.specs.Sessions.{is_recovered, is_recovery_of, is_stopped}
+use Rattle.oak_machine.specs.Sessions.{is_recovered, is_recovery_of}
 use Rattle.oak_node.specs.Heads.{learned, with_draw}
 use Rattle.oak_node.specs.Memory.{NodeState}
 use Rattle.oak_node.specs.Pins.{pin_now, pin_of, with_pin}
@@ -148,7 +149,7 @@ swept_step m r pair = record { sweep = seen_below m.sweep (raised m.sweep r) pai
 
 -- ---- cluster nodes
 
-node_is : (clusters k : ℕ) → is_node_in clusters k ≡ true → IsNode clusters k
+pub node_is : (clusters k : ℕ) → is_node_in clusters k ≡ true → IsNode clusters k
 node_is clusters k h = (low clusters k h, high clusters k h)
   where
     low : (clusters k : ℕ) → (nat_le 1 k && nat_le k clusters) ≡ true → 1 ≤ k
@@ -163,20 +164,17 @@ node_in clusters k n = by n.0 n.1
     by : 1 ≤ k → k ≤ clusters → (nat_le 1 k && nat_le k clusters) ≡ true
     by l h = grind (arith, nat_tests)
 
--- a node that was recovered was stopped
-pub recovered_stopped : (starts : Starts) (says : Says) (clusters : ℕ) (sessions : List ℕ) (past : Past) → IsRunOf starts says clusters sessions None past → (k : ℕ) → is_recovered past k ≡ true → is_stopped past k ≡ true
-recovered_stopped starts says clusters sessions [] run k h = absurd (false≢true h)
-recovered_stopped starts says clusters sessions (event.Recover m ∷ past) run k h = by (recovered_stopped starts says clusters sessions past run.1 k) (m == k) refl h
-  where
-    by : (is_recovered past k ≡ true → is_stopped past k ≡ true) → (b : Bool) → (m == k) ≡ b → (b || is_recovered past k) ≡ true → is_stopped past k ≡ true
-    by rest true e i = subst (λ (n : ℕ). is_stopped past n ≡ true) (same_number m k e) run.0.0
-    by rest false e i = rest i
-recovered_stopped starts says clusters sessions (event.Stop m ∷ past) run k h = or_right (m == k) (is_stopped past k) (recovered_stopped starts says clusters sessions past run.1 k h)
-recovered_stopped starts says clusters sessions (e ∷ past) run k h = recovered_stopped starts says clusters sessions past run.1 k h
-
 still_recovered : (added past : Past) (k : ℕ) → is_recovered past k ≡ true → is_recovered (added ++ past) k ≡ true
 still_recovered [] past k h = h
 still_recovered (e ∷ added) past k h = or_right (is_recovery_of k e) (is_recovered (added ++ past) k) (still_recovered added past k h)
+
+-- whoever keeps a pin keeps one for some owner
+some_owner : (ps : List (ℕ × Pin)) (x : Pin) → IsIn x (values_of ps) → (o : ℕ) × (p : Pin) × (lookup (is_at (nat_cmp o)) ps ≡ Some p)
+some_owner [] x i = absurd i
+some_owner (e ∷ ps) x i = (e.0, e.1, ap (λ b. cond b (Some e.1) (lookup (is_at (nat_cmp e.0)) ps)) (itself e.0))
+  where
+    itself : (k : ℕ) → is_eq (nat_cmp k k) ≡ true
+    itself k = grind (arith, nat_tests)
 
 -- ---- what is held
 
@@ -189,17 +187,13 @@ still_holding h = record {
 }
 
 module _ (starts : Starts) (says : Says) (proper : StartsProper starts) (w : State) (kept : AreLayersKept starts says w) where
-  -- no cluster node was recovered
-  pub unrecovered : (k : ℕ) → is_recovered w.past k ≡ false
-  unrecovered k = by (is_recovered w.past k) refl
-    where
-      by : (b : Bool) → is_recovered w.past k ≡ b → b ≡ false
-      by false h = refl
-      by true h = absurd (false≢true (sym (kept.sessions.committing.unstopped k) ∙ recovered_stopped starts says w.clusters w.sessions w.past kept.sessions.run k h))
+  -- each cluster node that wasn't recovered takes part
+  pub takes_part : (k : ℕ) → IsNode w.clusters k → is_recovered w.past k ≡ false → (holding_in w).gone k ≡ false
+  takes_part k node alive = ap (λ b. not b || is_recovered w.past k) (node_in w.clusters k node) ∙ alive
 
-  -- each cluster node takes part
-  pub takes_part : (k : ℕ) → IsNode w.clusters k → (holding_in w).gone k ≡ false
-  takes_part k node = ap (λ b. not b || is_recovered w.past k) (node_in w.clusters k node) ∙ unrecovered k
+  -- whoever has a pin is of a node that wasn't recovered
+  pub pins_alive : (k : ℕ) → IsNode w.clusters k → (x : Pin) → IsIn x (values_of (memory_at w.memories k).pins) → is_recovered w.past k ≡ false
+  pins_alive k node x i = let o = some_owner (memory_at w.memories k).pins x i in pinned_alive w.sessions w.past k (memory_at w.memories k) (kept.sessions.memories.pins k node) o.0 o.1 o.2
 
   pub head_is : (k : ℕ) → IsNode w.clusters k → (holding_in w).heads k ≡ pin_now (memory_at w.memories k)
   head_is k node = ap (λ b. cond b (pin_now (memory_at w.memories k)) no_pin) (node_in w.clusters k node)
@@ -294,7 +288,7 @@ module _ (starts : Starts) (says : Says) (proper : StartsProper starts) (w : Sta
     holding memories keeps = record {
       heads = λ k. subst (λ (n : ℕ). IsPairBelow ((holding_in w).heads k) (cond (is_node_in n k) (pin_now (memory_at u.memories k)) no_pin)) (sym clusters) (rises k (is_node_in w.clusters k) refl);
       pins = λ k x g i. let node = taking k g in elim ((memories k node).pins x i) [ inl j ↦ inl j | inr e ↦ inr (e ∙ sym (head_is k node)) ];
-      kept = λ x i. elim (keeps x i) [ inl j ↦ inl j | inr j ↦ inr (j.0, takes_part j.0 j.1, j.2) ];
+      kept = λ x i. elim (keeps x i) [ inl j ↦ inl j | inr j ↦ inr (j.0, takes_part j.0 j.1 (pins_alive j.0 j.1 x j.2), j.2) ];
       gone = λ k g. goes k (is_node_in w.clusters k) refl g;
     }
       where

@@ -19,12 +19,11 @@ use Rattle.core_read.proofs.Told.{no_edit}
 use Rattle.core_heads.proofs.Locals.{some_of}
 use Rattle.core_heads.proofs.Orders.{and_both}
 use Rattle.core_heads.proofs.Runs.{fresh_run, told_past}
-use Rattle.core_keep.specs.Journal.{AreSeparate, IsKeptWorld, Separate, is_bounded, is_swept}
+use Rattle.core_keep.specs.Journal.{AreSeparate, IsKeptWorld, Separate}
 use Rattle.core_keep.proofs.Journal.{separate_commit}
-use Rattle.core_keep.proofs.Start.{holds_keeps, start_separate}
+use Rattle.core_keep.proofs.Start.{start_separate}
 use Rattle.core_world.specs.Kept.{AreSessionsKept, has_written}
 use Rattle.core_world.specs.States.{State}
-use Rattle.core_world.proofs.Lives.{told}
 
 -- what is committed was drawn
 committed_drawn : (starts : Starts) (says : Says) (clusters : ℕ) (sessions : List ℕ) (past : Past) → IsRunOf starts says clusters sessions None past → (r : Revision) → is_committed past r ≡ true → is_drawn past r ≡ true

@@ -13,6 +13,7 @@ use Rattle.oak_commit.specs.Writing.{last_op}
 use Rattle.oak_doc.specs.declared.document.Document.{Document}
 use Rattle.oak_doc.specs.declared.update.UpdateOp.{UpdateOp}
 use Rattle.oak_doc.specs.Updates.{after_changes}
+use Rattle.oak_machine.specs.Sessions.{is_stopped}
 use Rattle.oak_machine.specs.declared.event.Draw.{Draw}
 use Rattle.oak_machine.specs.declared.event.Event.TheVariants as event
 use Rattle.oak_machine.specs.History.{Past}
@@ -20,15 +21,15 @@ use Rattle.oak_machine.specs.Commits.{is_committed, marks_of}
 use Rattle.oak_machine.specs.Runs.{MayCommit}
 use Rattle.oak_read.specs.Meaning.{documents_in}
 use Rattle.oak_store.specs.Tables.{Table, next_number, with_document}
-use Rattle.jr_rev.specs.declared.vector.RevVec.{RevVec}
 use Rattle.core_read.specs.Holds.{is_at_path}
-use Rattle.core_read.specs.Told.{IsIn, IsInUse, IsTold}
+use Rattle.core_read.specs.Told.{IsIn, IsTold}
 use Rattle.core_read.proofs.Updates.{last_same}
 use Rattle.core_keep.specs.Journal.{IsKeptWorld}
 use Rattle.core_keep.specs.Steps.{IsMainAt}
 use Rattle.core_keep.proofs.Events.{kept_last}
 use Rattle.core_watch.proofs.GoingOn.{on_last}
-use Rattle.core_world.proofs.Letting.{LetsRead, lets_on, lists_main}
+use Rattle.core_watch.proofs.StayingOn.{formers_last}
+use Rattle.core_world.proofs.Letting.{LetsRead, lets_on}
 use Rattle.core_read.specs.Holds.{IsSameBut}
 use Rattle.core_clash.specs.Core.{Docs, MayLast, root_of}
 use Rattle.core_clash.specs.Sessions.{IsTheirs, Running}
@@ -133,11 +134,11 @@ module _ (past : Past) (t : Table) (running : ℕ → Option Running) (a : AreCo
       theirs = theirs;
       listed = at_session (λ q (y : Running). y.writer.paths ≡ paths_to_write y.draw.marks) running s _ (a.listed s x here) (λ q y f h. a.listed q y h);
       kept = readable;
-      unstopped = a.unstopped;
+      unstopped = at_session (λ q (y : Running). is_stopped past y.draw.revision.cluster ≡ false) running s _ (a.unstopped s x here) (λ q y f h. a.unstopped q y h);
     }
 
     -- readers read on
     pub commit_lets : LetsRead t now past later
     commit_lets = lets_on t now past later
-        (λ pin ever held. on_last pin ever (documents_in t.documents) (documents_in now.documents) past _ (world_of past t running a told) held r x.draw (op x.draw.marks) (next_number t) may_last.going.draw commit_follows refl refl main readable)
-        (lists_main (documents_in t.documents) (documents_in now.documents) (commit_root x.draw.marks) (doc x.draw.marks) main same_but.whole) (λ q. refl) (λ q. refl)
+        (λ pin held. on_last pin (documents_in t.documents) (documents_in now.documents) past _ (world_of past t running a told) held r x.draw (op x.draw.marks) (next_number t) may_last.going.draw commit_follows refl refl main readable)
+        (λ formers l. formers_last (documents_in t.documents) (documents_in now.documents) past _ (world_of past t running a told) r x.draw (op x.draw.marks) (next_number t) may_last.going.draw commit_follows refl refl main readable formers l) (λ q. refl) (λ q. refl)

@@ -13,7 +13,7 @@ use Rattle.oak_machine.specs.declared.event.StepKind.{StepKind}
 use Rattle.oak_machine.specs.declared.event.StepKind.TheVariants as kind
 use Rattle.oak_machine.specs.Laws.{Says, Starts, StartsProper}
 use Rattle.oak_machine.specs.Runs.{AreNodes}
-use Rattle.oak_machine.specs.Sessions.{has_left, has_login, is_attached, next_index}
+use Rattle.oak_machine.specs.Sessions.{has_left, has_login, is_attached, is_stopped_under, next_index}
 use Rattle.oak_machine.specs.Steps.{is_kind}
 use Rattle.oak_node.specs.Pins.{pin_of}
 use Rattle.oak_read.specs.declared.reader.Reader.{Reader}
@@ -30,39 +30,39 @@ use Rattle.core_world.proofs.Attaching.{actor_live, actor_pair}
 use Rattle.core_world.proofs.Begun.{start_kept}
 use Rattle.core_world.proofs.Commits.{last_keeps, mark_keeps, undo_keeps, want_keeps, write_in_want_keeps, write_keeps}
 use Rattle.core_world.proofs.Draws.{draw_keeps, finish_keeps}
-use Rattle.core_world.proofs.Lives.{leave_keeps, login_keeps, observe_keeps, refresh_keeps, said_keeps, went_keeps}
+use Rattle.core_world.proofs.Lives.{leave_keeps, login_keeps, node_alive, observe_keeps, refresh_keeps, said_keeps, session_there, went_keeps}
 use Rattle.core_world.proofs.Loads.{gone_keeps, list_keeps, load_keeps, read_keeps}
 use Rattle.core_world.proofs.Rooted.{finish_rooted, last_rooted, mark_rooted, start_rooted, undo_rooted, write_rooted}
 use Rattle.core_world.proofs.Roots.{root_quiet}
 use Rattle.core_world.proofs.Setting.{finish_set, last_set, mark_set, settings_quiet, start_set, undo_set, write_set}
 
 pub start_whole : (starts : Starts) (says : Says) (clusters : ℕ) (sessions : List ℕ) → AreNodes clusters sessions → AreLayersKept starts says (start_state clusters sessions)
-start_whole starts says clusters sessions nodes = record { sessions = start_kept starts says clusters sessions nodes; root = start_rooted clusters (length sessions) nodes.eight nodes.some; settings = start_set clusters (length sessions) }
+start_whole starts says clusters sessions nodes = record { sessions = start_kept starts says clusters sessions nodes; root = start_rooted clusters (length sessions) nodes.eight nodes.some; settings = start_set sessions clusters (length sessions) }
 
 module _ (starts : Starts) (says : Says) (proper : StartsProper starts) (w : State) (kept : AreLayersKept starts says w) where
-  pub login_whole : (s : ℕ) → IsTrue (is_some (slice_get w.sessions s)) → IsFalse (has_login w.past s) → AreLayersKept starts says (after_login w s)
-  login_whole s there first = record { sessions = login_keeps starts says proper w kept.sessions s there first; root = root_quiet w.clusters w.past w.table (event.Login s (memory_of w s).head) refl kept.root; settings = settings_quiet w.past w.table w.table (event.Login s (memory_of w s).head) refl refl kept.settings }
+  pub login_whole : (s : ℕ) → IsFalse (is_stopped_under w.sessions w.past s) → IsTrue (is_some (slice_get w.sessions s)) → IsFalse (has_login w.past s) → AreLayersKept starts says (after_login w s)
+  login_whole s on there first = record { sessions = login_keeps starts says proper w kept.sessions s on there first; root = root_quiet w.clusters w.past w.table (event.Login s (memory_of w s).head) refl kept.root; settings = settings_quiet w.sessions w.past w.table w.table (event.Login s (memory_of w s).head) refl refl kept.settings }
 
-  pub refresh_whole : (s : ℕ) → IsTrue (has_login w.past s) → IsFalse (has_left w.past s) → w.running s ≡ None → w.reading s ≡ None → AreLayersKept starts says (after_refresh w s)
-  refresh_whole s login stays none unread = record { sessions = refresh_keeps starts says proper w kept.sessions s login stays none unread; root = root_quiet w.clusters w.past w.table (event.Refresh s (memory_of w s).head) refl kept.root; settings = settings_quiet w.past w.table w.table (event.Refresh s (memory_of w s).head) refl refl kept.settings }
+  pub refresh_whole : (s : ℕ) → IsFalse (is_stopped_under w.sessions w.past s) → IsTrue (has_login w.past s) → IsFalse (has_left w.past s) → w.running s ≡ None → w.reading s ≡ None → AreLayersKept starts says (after_refresh w s)
+  refresh_whole s on login stays none unread = record { sessions = refresh_keeps starts says proper w kept.sessions s on login stays none unread; root = root_quiet w.clusters w.past w.table (event.Refresh s (memory_of w s).head) refl kept.root; settings = settings_quiet w.sessions w.past w.table w.table (event.Refresh s (memory_of w s).head) refl refl kept.settings }
 
-  pub leave_whole : (s : ℕ) → slice_get w.sessions (cursor_owner s) ≡ None → IsTrue (has_login w.past s) → IsFalse (has_left w.past s) → w.running s ≡ None → w.reading s ≡ None → AreLayersKept starts says (after_leave w s)
-  leave_whole s few login stays none unread = record { sessions = leave_keeps starts says proper w kept.sessions s few login stays none unread; root = root_quiet w.clusters w.past w.table (event.Went s kind.End) refl kept.root; settings = settings_quiet w.past w.table w.table (event.Went s kind.End) refl refl kept.settings }
+  pub leave_whole : (s : ℕ) → IsFalse (is_stopped_under w.sessions w.past s) → slice_get w.sessions (cursor_owner s) ≡ None → IsTrue (has_login w.past s) → IsFalse (has_left w.past s) → w.running s ≡ None → w.reading s ≡ None → AreLayersKept starts says (after_leave w s)
+  leave_whole s on few login stays none unread = record { sessions = leave_keeps starts says proper w kept.sessions s on few login stays none unread; root = root_quiet w.clusters w.past w.table (event.Went s kind.End) refl kept.root; settings = settings_quiet w.sessions w.past w.table w.table (event.Went s kind.End) refl refl kept.settings }
 
   pub observe_whole : (s : ℕ) (pin : Pin) → slice_get w.sessions (cursor_owner s) ≡ None → IsTrue (has_login w.past s) → IsFalse (has_left w.past s) → w.reading s ≡ None → pin_of (memory_of w s) s ≡ Some pin → AreLayersKept starts says (after_observe w s pin)
-  observe_whole s pin few login stays unread has = record { sessions = observe_keeps starts says proper w kept.sessions s few login stays unread pin has; root = root_quiet w.clusters w.past w.table (event.Went s kind.Pin) refl kept.root; settings = settings_quiet w.past w.table w.table (event.Went s kind.Pin) refl refl kept.settings }
+  observe_whole s pin few login stays unread has = record { sessions = observe_keeps starts says proper w kept.sessions s few login stays unread pin has; root = root_quiet w.clusters w.past w.table (event.Went s kind.Pin) refl kept.root; settings = settings_quiet w.sessions w.past w.table w.table (event.Went s kind.Pin) refl refl kept.settings }
 
   pub said_whole : (s i : ℕ) (text : Text) → i ≡ next_index w.past s → says (history_in w) s i text → AreLayersKept starts says (after_said w s i text)
-  said_whole s i text next lawful = record { sessions = said_keeps starts says proper w kept.sessions s i text next lawful; root = root_quiet w.clusters w.past w.table (event.Said s i text) refl kept.root; settings = settings_quiet w.past w.table w.table (event.Said s i text) refl refl kept.settings }
+  said_whole s i text next lawful = record { sessions = said_keeps starts says proper w kept.sessions s i text next lawful; root = root_quiet w.clusters w.past w.table (event.Said s i text) refl kept.root; settings = settings_quiet w.sessions w.past w.table w.table (event.Said s i text) refl refl kept.settings }
 
   pub went_whole : (s : ℕ) (k : StepKind) → IsFalse (is_kind k kind.End) → IsFalse (is_kind k kind.Pin) → IsTrue (has_login w.past s) → IsFalse (has_left w.past s) → AreLayersKept starts says (after_went w s k)
-  went_whole s k other apart login stays = record { sessions = went_keeps starts says proper w kept.sessions s k other apart login stays; root = root_quiet w.clusters w.past w.table (event.Went s k) refl kept.root; settings = settings_quiet w.past w.table w.table (event.Went s k) refl refl kept.settings }
+  went_whole s k other apart login stays = record { sessions = went_keeps starts says proper w kept.sessions s k other apart login stays; root = root_quiet w.clusters w.past w.table (event.Went s k) refl kept.root; settings = settings_quiet w.sessions w.past w.table w.table (event.Went s k) refl refl kept.settings }
 
-  pub load_whole : (s : ℕ) (a : Global) (pin : Pin) (p : Path) → IsTrue (has_login w.past s) → IsFalse (has_left w.past s) → actor_pin w s ≡ Some pin → IsAboveBounds w.past pin → AreLayersKept starts says (with_reader w s (Some (node_reader a pin p)))
-  load_whole s a pin p login stays has above = record { sessions = load_keeps starts says proper w kept.sessions s a pin p (actor_live starts says proper w kept s login stays pin has) (actor_pair starts says proper w kept s login stays pin has) above; root = kept.root; settings = kept.settings }
+  pub load_whole : (s : ℕ) (a : Global) (pin : Pin) (p : Path) → IsFalse (is_stopped_under w.sessions w.past s) → IsTrue (has_login w.past s) → IsFalse (has_left w.past s) → actor_pin w s ≡ Some pin → IsAboveBounds w.past pin → AreLayersKept starts says (with_reader w s (Some (node_reader a pin p)))
+  load_whole s a pin p on login stays has above = record { sessions = load_keeps starts says proper w kept.sessions s a pin p on (actor_live starts says proper w kept s login stays (node_alive starts says proper w kept.sessions s (session_there starts says proper w kept.sessions s login) on) pin has) (actor_pair starts says proper w kept s login stays pin has) above; root = kept.root; settings = kept.settings }
 
-  pub list_whole : (s : ℕ) (a : Global) (pin : Pin) (p : Path) → IsTrue (has_login w.past s) → IsFalse (has_left w.past s) → actor_pin w s ≡ Some pin → IsAboveBounds w.past pin → AreLayersKept starts says (with_reader w s (Some (children_reader a pin p)))
-  list_whole s a pin p login stays has above = record { sessions = list_keeps starts says proper w kept.sessions s a pin p (actor_live starts says proper w kept s login stays pin has) (actor_pair starts says proper w kept s login stays pin has) above; root = kept.root; settings = kept.settings }
+  pub list_whole : (s : ℕ) (a : Global) (pin : Pin) (p : Path) → IsFalse (is_stopped_under w.sessions w.past s) → IsTrue (has_login w.past s) → IsFalse (has_left w.past s) → actor_pin w s ≡ Some pin → IsAboveBounds w.past pin → AreLayersKept starts says (with_reader w s (Some (children_reader a pin p)))
+  list_whole s a pin p on login stays has above = record { sessions = list_keeps starts says proper w kept.sessions s a pin p on (actor_live starts says proper w kept s login stays (node_alive starts says proper w kept.sessions s (session_there starts says proper w kept.sessions s login) on) pin has) (actor_pair starts says proper w kept s login stays pin has) above; root = kept.root; settings = kept.settings }
 
   pub read_whole : (s : ℕ) (r : Reader) → w.reading s ≡ Some r → IsTable w.table.documents → AreLayersKept starts says (with_reader w s (Some (fed r (answer w.table.documents (due r)))))
   read_whole s r here table = record { sessions = read_keeps starts says proper w kept.sessions s r here table; root = kept.root; settings = kept.settings }
@@ -70,8 +70,8 @@ module _ (starts : Starts) (says : Says) (proper : StartsProper starts) (w : Sta
   pub gone_whole : (s : ℕ) → AreLayersKept starts says (with_reader w s None)
   gone_whole s = record { sessions = gone_keeps starts says proper w kept.sessions s; root = kept.root; settings = kept.settings }
 
-  pub draw_whole : (s : ℕ) (edit : Edit) (marks : List MarkAt) (paths : List Path) → IsTrue (has_login w.past s) → IsFalse (has_left w.past s) → IsFalse (is_attached w.past s) → w.running s ≡ None → starts (history_in w) s edit marks → SeesBounded w.past (base_in w s) → AreLayersKept starts says (after_draw w s edit marks paths)
-  draw_whole s edit marks paths login stays detached none lawful bounded = record { sessions = draw_keeps starts says proper w kept.sessions s login stays detached none edit marks lawful bounded paths; root = root_quiet w.clusters w.past w.table (event.Draw (draw_in w s edit marks)) refl kept.root; settings = settings_quiet w.past w.table w.table (event.Draw (draw_in w s edit marks)) refl refl kept.settings }
+  pub draw_whole : (s : ℕ) (edit : Edit) (marks : List MarkAt) (paths : List Path) → IsFalse (is_stopped_under w.sessions w.past s) → IsTrue (has_login w.past s) → IsFalse (has_left w.past s) → IsFalse (is_attached w.past s) → w.running s ≡ None → starts (history_in w) s edit marks → SeesBounded w.past (base_in w s) → AreLayersKept starts says (after_draw w s edit marks paths)
+  draw_whole s edit marks paths on login stays detached none lawful bounded = record { sessions = draw_keeps starts says proper w kept.sessions s (node_alive starts says proper w kept.sessions s (session_there starts says proper w kept.sessions s login) on) login stays on detached none edit marks lawful bounded paths; root = root_quiet w.clusters w.past w.table (event.Draw (draw_in w s edit marks)) refl kept.root; settings = settings_quiet w.sessions w.past w.table w.table (event.Draw (draw_in w s edit marks)) refl refl kept.settings }
 
   pub write_whole : (s : ℕ) (x : Running) (p : Path) (rest : List Path) → w.running s ≡ Some x → IsFalse x.committed → IsFalse x.writer.undoing → x.writer.due ≡ [] → x.writer.left ≡ p ∷ rest → AreLayersKept starts says (after_write w s x p rest)
   write_whole s x p rest here uncommitted going unmet next = record { sessions = write_keeps starts says proper w kept.sessions s x here uncommitted going p rest unmet next; root = write_rooted w kept.root s x p rest; settings = write_set w kept.settings s x p }

@@ -11,7 +11,7 @@ use Rattle.oak_machine.specs.declared.event.StepKind.TheVariants as kind
 use Rattle.oak_machine.specs.Heads.{head_of}
 use Rattle.oak_machine.specs.Laws.{Says, Starts, StartsProper}
 use Rattle.oak_machine.specs.Runs.{IsNode, IsRunOf}
-use Rattle.oak_machine.specs.Sessions.{has_left, has_login, is_end_of_session, is_stopped, is_stopped_under, next_index}
+use Rattle.oak_machine.specs.Sessions.{has_left, has_login, is_end_of_session, is_recovered, is_stopped, is_stopped_under, next_index}
 use Rattle.oak_machine.specs.Steps.{is_kind}
 use Rattle.oak_read.specs.declared.reader.Reader.{Reader}
 use Rattle.core_read.specs.Told.{IsTold}
@@ -29,7 +29,8 @@ use Rattle.core_world.specs.Steps.{after_leave, after_login, after_observe, afte
 use Rattle.core_world.specs.Kept.{AreReading, AreSessionsKept, has_written}
 use Rattle.core_world.proofs.Letting.{is_bound}
 use Rattle.core_world.proofs.Finishing.{quiet_commits}
-use Rattle.core_world.proofs.Flights.{same_number, still_idle}
+use Rattle.core_nodes.proofs.Pasts.{running_alive}
+use Rattle.core_world.proofs.Flights.{same_number, still_idle, was_drawing, work_quiet}
 use Rattle.core_world.proofs.Logged.{login_node, some_number}
 use Rattle.core_world.proofs.Memories.{aside, leave_memories, login_memories, observe_memories, refresh_memories}
 use Rattle.core_world.proofs.Readers.{pin_reads, live_is, moved_base, moves_base_of, pair_held, quiet_reads}
@@ -48,14 +49,6 @@ moves_no_pin s kind.End h i = absurd (false≢true (sym h))
 moves_no_pin s kind.Pin h i = absurd (false≢true (sym i))
 moves_no_pin s k h i = refl
 
--- the cluster node of a session wasn't stopped
-pub runs_on : (starts : Starts) (says : Says) (w : State) → AreSessionsKept starts says w → (s : ℕ) → is_stopped_under w.sessions w.past s ≡ false
-runs_on starts says w kept s = by (slice_get w.sessions s)
-  where
-    by : (o : Option ℕ) → option_map_or (is_stopped w.past) o false ≡ false
-    by None = refl
-    by (Some k) = kept.committing.unstopped k
-
 module _ (starts : Starts) (says : Says) (proper : StartsProper starts) (w : State) (kept : AreSessionsKept starts says w) where
   pub told : IsTold w.past
   told = told_past w.clusters w.sessions kept.nodes starts says proper w.past kept.run
@@ -67,6 +60,13 @@ module _ (starts : Starts) (says : Says) (proper : StartsProper starts) (w : Sta
 
     pub its_node : IsNode w.clusters (node_of w s)
     its_node = kept.nodes.node s (node_of w s) on_node
+
+    -- the node of a session that wasn't stopped wasn't, nor was it recovered
+    pub node_goes : is_stopped_under w.sessions w.past s ≡ false → is_stopped w.past (node_of w s) ≡ false
+    node_goes on = sym (ap (λ o. option_map_or (is_stopped w.past) o false) on_node) ∙ on
+
+    pub node_alive : is_stopped_under w.sessions w.past s ≡ false → is_recovered w.past (node_of w s) ≡ false
+    node_alive on = running_alive starts says w.clusters w.sessions w.past kept.run (node_of w s) (node_goes on)
 
     pub its_head : (memory_of w s).head ≡ head_of w.clusters None w.past (node_of w s)
     its_head = (kept.memories.memory (node_of w s) its_node).head
@@ -86,11 +86,11 @@ module _ (starts : Starts) (says : Says) (proper : StartsProper starts) (w : Sta
   reader_held s r h = pair_held w.past r.pin (reader_in_use s r h) (kept.readers.pairs s r h) (kept.readers.above s r h)
 
   -- readers after an event that is no Commit and no Bound, where no document is changed
-  pub reads_calm : (e : Event) → ((q : Revision) → is_commit_of q e ≡ false) → is_bound e ≡ false → ((s : ℕ) (r : Reader) → w.reading s ≡ Some r → moves_base_of s e ≡ false) → AreReading (e ∷ w.past) w.table w.reading
-  reads_calm = quiet_reads w.past w.table w.reading kept.readers reader_held (λ r. has_written (kept.committing.writers r)) kept.committing.kept
+  pub reads_calm : (e : Event) → ((q : Revision) → is_commit_of q e ≡ false) → is_bound e ≡ false → ((s : ℕ) (r : Reader) → w.reading s ≡ Some r → moves_base_of s e ≡ false) → AreReading (e ∷ w.past) w.table w.formers w.reading
+  reads_calm = quiet_reads w.past w.table w.formers w.reading kept.readers reader_held (λ r. has_written (kept.committing.writers r)) kept.committing.kept
 
-  pub reads_pinned : (e : Event) (s : ℕ) → ((q : Revision) → is_commit_of q e ≡ false) → is_bound e ≡ false → moved_base e ≡ Some s → w.reading s ≡ None → AreReading (e ∷ w.past) w.table w.reading
-  reads_pinned = pin_reads w.past w.table w.reading kept.readers reader_held (λ r. has_written (kept.committing.writers r)) kept.committing.kept
+  pub reads_pinned : (e : Event) (s : ℕ) → ((q : Revision) → is_commit_of q e ≡ false) → is_bound e ≡ false → moved_base e ≡ Some s → w.reading s ≡ None → AreReading (e ∷ w.past) w.table w.formers w.reading
+  reads_pinned = pin_reads w.past w.table w.formers w.reading kept.readers reader_held (λ r. has_written (kept.committing.writers r)) kept.committing.kept
 
   pub no_reader : (s : ℕ) → has_login w.past s ≡ false → w.reading s ≡ None
   no_reader s new = by (w.reading s) refl
@@ -101,29 +101,29 @@ module _ (starts : Starts) (says : Says) (proper : StartsProper starts) (w : Sta
 
   -- ---- login and refresh
 
-  pub login_keeps : (s : ℕ) → is_some (slice_get w.sessions s) ≡ true → has_login w.past s ≡ false → AreSessionsKept starts says (after_login w s)
-  login_keeps s there first =
+  pub login_keeps : (s : ℕ) → is_stopped_under w.sessions w.past s ≡ false → is_some (slice_get w.sessions s) ≡ true → has_login w.past s ≡ false → AreSessionsKept starts says (after_login w s)
+  login_keeps s on there first =
       let e : Event = event.Login s (memory_of w s).head in
-      let run : IsRunOf starts says w.clusters w.sessions None (e ∷ w.past) = (record { running = runs_on starts says w kept s; first = first; head = (node_of w s, on_node s there, its_head s there) }, kept.run) in
+      let run : IsRunOf starts says w.clusters w.sessions None (e ∷ w.past) = (record { running = on; first = first; head = (node_of w s, on_node s there, its_head s there) }, kept.run) in
       record {
         nodes = kept.nodes;
         run = run;
         committing = quiet_commits w.past w.table w.running kept.committing told e refl (λ k. refl);
-        working = record { idle = λ q h. still_idle e w.past q refl (kept.working.idle q h); stays = kept.working.stays };
+        working = work_quiet w.sessions w.past w.running w.reading kept.working e refl (λ q. refl) (λ k. refl);
         memories = login_memories starts says w.clusters w.sessions kept.nodes w.past w.memories kept.memories s (node_of w s) (on_node s there) (memory_of w s).head run;
         readers = reads_pinned e s (λ q. refl) refl refl (no_reader s first);
       }
 
-  pub refresh_keeps : (s : ℕ) → has_login w.past s ≡ true → has_left w.past s ≡ false → w.running s ≡ None → w.reading s ≡ None → AreSessionsKept starts says (after_refresh w s)
-  refresh_keeps s login stays none unread =
+  pub refresh_keeps : (s : ℕ) → is_stopped_under w.sessions w.past s ≡ false → has_login w.past s ≡ true → has_left w.past s ≡ false → w.running s ≡ None → w.reading s ≡ None → AreSessionsKept starts says (after_refresh w s)
+  refresh_keeps s on login stays none unread =
       let e : Event = event.Refresh s (memory_of w s).head in
       let there = session_there s login in
-      let run : IsRunOf starts says w.clusters w.sessions None (e ∷ w.past) = (record { running = runs_on starts says w kept s; login = login; idle = kept.working.idle s none; head = (node_of w s, on_node s there, its_head s there) }, kept.run) in
+      let run : IsRunOf starts says w.clusters w.sessions None (e ∷ w.past) = (record { running = on; login = login; idle = kept.working.idle s none on; head = (node_of w s, on_node s there, its_head s there) }, kept.run) in
       record {
         nodes = kept.nodes;
         run = run;
         committing = quiet_commits w.past w.table w.running kept.committing told e refl (λ k. refl);
-        working = record { idle = λ q h. still_idle e w.past q refl (kept.working.idle q h); stays = kept.working.stays };
+        working = work_quiet w.sessions w.past w.running w.reading kept.working e refl (λ q. refl) (λ k. refl);
         memories = refresh_memories starts says w.clusters w.sessions kept.nodes w.past w.memories kept.memories s (node_of w s) (on_node s there) (memory_of w s).head run stays;
         readers = reads_pinned e s (λ q. refl) refl refl unread;
       }
@@ -138,8 +138,16 @@ module _ (starts : Starts) (says : Says) (proper : StartsProper starts) (w : Sta
       by false e = refl
       by true e = absurd (false≢true (ap (λ (o : Option Running). is_some o) (sym none ∙ (ap w.running (same_number s q e) ∙ h))))
 
-  pub leave_keeps : (s : ℕ) → slice_get w.sessions (cursor_owner s) ≡ None → has_login w.past s ≡ true → has_left w.past s ≡ false → w.running s ≡ None → w.reading s ≡ None → AreSessionsKept starts says (after_leave w s)
-  leave_keeps s few login stays none unread =
+  -- a session of a stopped node is another than one that goes on
+  apart_stopped : (s : ℕ) → is_stopped_under w.sessions w.past s ≡ false → (q : ℕ) → is_stopped_under w.sessions w.past q ≡ true → (s == q) ≡ false
+  apart_stopped s on q stopped = by (s == q) refl
+    where
+      by : (b : Bool) → (s == q) ≡ b → b ≡ false
+      by false e = refl
+      by true e = absurd (false≢true (sym on ∙ (ap (is_stopped_under w.sessions w.past) (same_number s q e) ∙ stopped)))
+
+  pub leave_keeps : (s : ℕ) → is_stopped_under w.sessions w.past s ≡ false → slice_get w.sessions (cursor_owner s) ≡ None → has_login w.past s ≡ true → has_left w.past s ≡ false → w.running s ≡ None → w.reading s ≡ None → AreSessionsKept starts says (after_leave w s)
+  leave_keeps s on few login stays none unread =
       let e : Event = event.Went s kind.End in
       let there = session_there s login in
       let run : IsRunOf starts says w.clusters w.sessions None (e ∷ w.past) = ((login, stays), kept.run) in
@@ -147,7 +155,13 @@ module _ (starts : Starts) (says : Says) (proper : StartsProper starts) (w : Sta
         nodes = kept.nodes;
         run = run;
         committing = quiet_commits w.past w.table w.running kept.committing told e refl (λ k. refl);
-        working = record { idle = λ q h. still_idle e w.past q refl (kept.working.idle q h); stays = λ q x h. ap (λ b. b || has_left w.past q) (apart_working s none q x h) ∙ kept.working.stays q x h };
+        working = record {
+          idle = λ q h goes. still_idle e w.past q refl (kept.working.idle q h goes);
+          stays = λ q x h. ap (λ b. b || has_left w.past q) (apart_working s none q x h) ∙ kept.working.stays q x h;
+          goes = kept.working.goes;
+          reads = kept.working.reads;
+          halted = λ q stopped drawing. ap (λ b. b || has_left w.past q) (apart_stopped s on q stopped) ∙ kept.working.halted q stopped (was_drawing e w.past q refl drawing);
+        };
         memories = leave_memories starts says w.clusters w.sessions kept.nodes w.past w.memories kept.memories s (node_of w s) (on_node s there) few run;
         readers = reads_pinned e s (λ q. refl) refl refl unread;
       }
@@ -161,7 +175,7 @@ module _ (starts : Starts) (says : Says) (proper : StartsProper starts) (w : Sta
         nodes = kept.nodes;
         run = run;
         committing = quiet_commits w.past w.table w.running kept.committing told e refl (λ k. refl);
-        working = record { idle = λ q h. still_idle e w.past q refl (kept.working.idle q h); stays = kept.working.stays };
+        working = work_quiet w.sessions w.past w.running w.reading kept.working e refl (λ q. refl) (λ k. refl);
         memories = observe_memories starts says w.clusters w.sessions kept.nodes w.past w.memories kept.memories s (node_of w s) (on_node s there) few pin has run;
         readers = reads_pinned e s (λ q. refl) refl refl unread;
       }
@@ -174,7 +188,7 @@ module _ (starts : Starts) (says : Says) (proper : StartsProper starts) (w : Sta
         nodes = kept.nodes;
         run = run;
         committing = quiet_commits w.past w.table w.running kept.committing told e refl (λ k. refl);
-        working = record { idle = λ q h. still_idle e w.past q refl (kept.working.idle q h); stays = kept.working.stays };
+        working = work_quiet w.sessions w.past w.running w.reading kept.working e refl (λ q. refl) (λ k. refl);
         memories = aside starts says w.clusters w.sessions kept.nodes w.past w.memories kept.memories e run (λ j. refl) (λ j. refl);
         readers = reads_calm e (λ q. refl) refl (λ q r h. refl);
       }
@@ -187,7 +201,7 @@ module _ (starts : Starts) (says : Says) (proper : StartsProper starts) (w : Sta
         nodes = kept.nodes;
         run = run;
         committing = quiet_commits w.past w.table w.running kept.committing told e refl (λ k. refl);
-        working = record { idle = λ q h. still_idle e w.past q refl (kept.working.idle q h); stays = λ q x h. ap (λ b. b || has_left w.past q) (goes_not s k other q) ∙ kept.working.stays q x h };
+        working = work_quiet w.sessions w.past w.running w.reading kept.working e refl (goes_not s k other) (λ j. refl);
         memories = aside starts says w.clusters w.sessions kept.nodes w.past w.memories kept.memories e run (λ j. refl) (λ j. ap (λ o. option_map_or (λ n. not (Rattle.core_nodes.specs.Nodes.is_of_node w.sessions j n)) o true) (moves_no_pin s k other apart));
         readers = reads_calm e (λ q. refl) refl (λ q r h. ap (λ o. option_map_or (λ n. n == q) o false) (moves_no_pin s k other apart));
       }

@@ -1,22 +1,16 @@
 -- A reader is made, is fed, or is taken away; and what it gives.
-use Rattle.std.proofs.Common.{◌≡◌, ℕ, Bool, true, false, Some, None, Option, refl, sym, ap, subst, ◌∙◌}
+use Rattle.std.proofs.Common.{◌≡◌, ℕ, Some, None, Option, sym, ap, subst, ◌∙◌, false}
 use Rattle.std.specs.declared.alloc.Global.{Global}
-use mathlib.Core.Bool.{false≢true}
 use Rattle.jr_path.specs.declared.path.Path.{Path}
-use Rattle.jr_rev.specs.declared.revision.Revision.{Revision}
 use Rattle.jr_rev.specs.declared.vector.Pin.{Pin}
-use Rattle.jr_rev.specs.declared.vector.RevVec.{RevVec}
-use Rattle.jr_rev.specs.Vectors.{sees}
-use Rattle.oak_machine.specs.History.{Past}
-use Rattle.oak_machine.specs.Commits.{is_in_flight, tree_at}
+use Rattle.oak_machine.specs.Commits.{tree_at}
 use Rattle.oak_machine.specs.Laws.{Says, Starts, StartsProper}
+use Rattle.oak_machine.specs.Sessions.{is_stopped_under}
 use Rattle.oak_read.specs.declared.reader.Reader.{Reader}
 use Rattle.oak_read.specs.declared.reader.ReadOut.{ReadOut}
 use Rattle.oak_read.specs.declared.reader.Step.TheVariants as step
 use Rattle.oak_read.specs.Meaning.{documents_in}
 use Rattle.oak_read.specs.Reading.{IsTable, answer, children_reader, due, fed, node_reader}
-use Rattle.core_read.specs.Holds.{IsSwept}
-use Rattle.core_read.specs.Told.{IsInUse}
 use Rattle.core_nodes.specs.Nodes.{IsPair}
 use Rattle.core_watch.specs.Standing.{AreChildrenOf, IsNodeOf, path_read}
 use Rattle.core_watch.specs.Reading.{IsReading}
@@ -32,36 +26,34 @@ use Rattle.core_world.proofs.Lives.{reader_held}
 module _ (starts : Starts) (says : Says) (proper : StartsProper starts) (w : State) (kept : AreSessionsKept starts says w) where
   -- ---- a reader is made
 
-  with_reads : (reading : ℕ → Option Reader) → AreReading w.past w.table reading → AreSessionsKept starts says (record w { reading = reading })
-  with_reads reading are = record { nodes = kept.nodes; run = kept.run; committing = kept.committing; working = kept.working; memories = kept.memories; readers = are }
+  with_reads : (reading : ℕ → Option Reader) → AreReading w.past w.table w.formers reading → ((q : ℕ) (r : Reader) → reading q ≡ Some r → is_stopped_under w.sessions w.past q ≡ false) → AreSessionsKept starts says (record w { reading = reading })
+  with_reads reading are on = record { nodes = kept.nodes; run = kept.run; committing = kept.committing; working = record { idle = kept.working.idle; stays = kept.working.stays; goes = kept.working.goes; reads = on; halted = kept.working.halted }; memories = kept.memories; readers = are }
 
-  made : (s : ℕ) (r : Reader) → live_base w.past s ≡ Some r.pin.base → IsPair r.pin.base r.pin.sweep → IsAboveBounds w.past r.pin → IsReading (documents_in w.table.documents) w.past kept.readers.ever r → AreSessionsKept starts says (with_reader w s (Some r))
-  made s r base pair above reads = with_reads (with_session w.reading s (Some r)) (record {
-    ever = kept.readers.ever;
-    listed = kept.readers.listed;
-    reads = at_session (λ q y. IsReading (documents_in w.table.documents) w.past kept.readers.ever y) w.reading s r reads (λ q y f h. kept.readers.reads q y h);
+  made : (s : ℕ) (r : Reader) → is_stopped_under w.sessions w.past s ≡ false → live_base w.past s ≡ Some r.pin.base → IsPair r.pin.base r.pin.sweep → IsAboveBounds w.past r.pin → IsReading (documents_in w.table.documents) w.past w.formers r → AreSessionsKept starts says (with_reader w s (Some r))
+  made s r on base pair above reads = with_reads (with_session w.reading s (Some r)) (record {
+    told = kept.readers.told;
+    reads = at_session (λ q y. IsReading (documents_in w.table.documents) w.past w.formers y) w.reading s r reads (λ q y f h. kept.readers.reads q y h);
     above = at_session (λ q (y : Reader). IsAboveBounds w.past y.pin) w.reading s r above (λ q y f h. kept.readers.above q y h);
     at_base = at_session (λ q (y : Reader). live_base w.past q ≡ Some y.pin.base) w.reading s r base (λ q y f h. kept.readers.at_base q y h);
     pairs = at_session (λ q (y : Reader). IsPair y.pin.base y.pin.sweep) w.reading s r pair (λ q y f h. kept.readers.pairs q y h);
-  })
+  }) (at_session (λ q (y : Reader). is_stopped_under w.sessions w.past q ≡ false) w.reading s r on (λ q y f h. kept.working.reads q y h))
 
-  pub load_keeps : (s : ℕ) (a : Global) (pin : Pin) (p : Path) → live_base w.past s ≡ Some pin.base → IsPair pin.base pin.sweep → IsAboveBounds w.past pin → AreSessionsKept starts says (with_reader w s (Some (node_reader a pin p)))
-  load_keeps s a pin p base pair above = made s (node_reader a pin p) base pair above (begins_node (documents_in w.table.documents) w.past kept.readers.ever a pin p)
+  pub load_keeps : (s : ℕ) (a : Global) (pin : Pin) (p : Path) → is_stopped_under w.sessions w.past s ≡ false → live_base w.past s ≡ Some pin.base → IsPair pin.base pin.sweep → IsAboveBounds w.past pin → AreSessionsKept starts says (with_reader w s (Some (node_reader a pin p)))
+  load_keeps s a pin p on base pair above = made s (node_reader a pin p) on base pair above (begins_node (documents_in w.table.documents) w.past w.formers a pin p)
 
-  pub list_keeps : (s : ℕ) (a : Global) (pin : Pin) (p : Path) → live_base w.past s ≡ Some pin.base → IsPair pin.base pin.sweep → IsAboveBounds w.past pin → AreSessionsKept starts says (with_reader w s (Some (children_reader a pin p)))
-  list_keeps s a pin p base pair above = made s (children_reader a pin p) base pair above (begins_children (documents_in w.table.documents) w.past kept.readers.ever a pin p)
+  pub list_keeps : (s : ℕ) (a : Global) (pin : Pin) (p : Path) → is_stopped_under w.sessions w.past s ≡ false → live_base w.past s ≡ Some pin.base → IsPair pin.base pin.sweep → IsAboveBounds w.past pin → AreSessionsKept starts says (with_reader w s (Some (children_reader a pin p)))
+  list_keeps s a pin p on base pair above = made s (children_reader a pin p) on base pair above (begins_children (documents_in w.table.documents) w.past w.formers a pin p)
 
   -- ---- it is taken away
 
   pub gone_keeps : (s : ℕ) → AreSessionsKept starts says (with_reader w s None)
   gone_keeps s = with_reads (with_session w.reading s None) (record {
-    ever = kept.readers.ever;
-    listed = kept.readers.listed;
-    reads = at_others (λ q y. IsReading (documents_in w.table.documents) w.past kept.readers.ever y) w.reading s (λ q y f h. kept.readers.reads q y h);
+    told = kept.readers.told;
+    reads = at_others (λ q y. IsReading (documents_in w.table.documents) w.past w.formers y) w.reading s (λ q y f h. kept.readers.reads q y h);
     above = at_others (λ q (y : Reader). IsAboveBounds w.past y.pin) w.reading s (λ q y f h. kept.readers.above q y h);
     at_base = at_others (λ q (y : Reader). live_base w.past q ≡ Some y.pin.base) w.reading s (λ q y f h. kept.readers.at_base q y h);
     pairs = at_others (λ q (y : Reader). IsPair y.pin.base y.pin.sweep) w.reading s (λ q y f h. kept.readers.pairs q y h);
-  })
+  }) (at_others (λ q (y : Reader). is_stopped_under w.sessions w.past q ≡ false) w.reading s (λ q y f h. kept.working.reads q y h))
 
   -- ---- it is fed, and gives what the tree has
 
@@ -70,18 +62,17 @@ module _ (starts : Starts) (says : Says) (proper : StartsProper starts) (w : Sta
     read_keeps table =
         let x = answer w.table.documents (due r) in
         with_reads (with_session w.reading s (Some (fed r x))) (record {
-          ever = kept.readers.ever;
-          listed = kept.readers.listed;
-          reads = at_session (λ q y. IsReading (documents_in w.table.documents) w.past kept.readers.ever y) w.reading s (fed r x)
-              (reading_feeds w.table.documents w.past kept.readers.ever (λ r. has_written (kept.committing.writers r)) r table kept.committing.kept (reader_held starts says proper w kept s r here) kept.readers.listed (kept.readers.reads s r here))
+          told = kept.readers.told;
+          reads = at_session (λ q y. IsReading (documents_in w.table.documents) w.past w.formers y) w.reading s (fed r x)
+              (reading_feeds w.table.documents w.past w.formers (λ r. has_written (kept.committing.writers r)) r table kept.committing.kept (reader_held starts says proper w kept s r here) kept.readers.told (kept.readers.reads s r here))
               (λ q y f h. kept.readers.reads q y h);
           above = at_session (λ q (y : Reader). IsAboveBounds w.past y.pin) w.reading s (fed r x) (subst (λ (p : Pin). IsAboveBounds w.past p) (sym (fed_keeps r x).same_pin) (kept.readers.above s r here)) (λ q y f h. kept.readers.above q y h);
           at_base = at_session (λ q (y : Reader). live_base w.past q ≡ Some y.pin.base) w.reading s (fed r x) (kept.readers.at_base s r here ∙ ap (λ (p : Pin). Some p.base) (sym (fed_keeps r x).same_pin)) (λ q y f h. kept.readers.at_base q y h);
           pairs = at_session (λ q (y : Reader). IsPair y.pin.base y.pin.sweep) w.reading s (fed r x) (subst (λ (p : Pin). IsPair p.base p.sweep) (sym (fed_keeps r x).same_pin) (kept.readers.pairs s r here)) (λ q y f h. kept.readers.pairs q y h);
-        })
+        }) (at_session (λ q (y : Reader). is_stopped_under w.sessions w.past q ≡ false) w.reading s (fed r x) (kept.working.reads s r here) (λ q y f h. kept.working.reads q y h))
 
     pub node_given : (o : ReadOut) → r.parent ≡ None → r.step ≡ step.Done o → IsNodeOf (tree_at None w.past r.pin.base) (path_read r) o
-    node_given o kind ends = gives_node (documents_in w.table.documents) w.past kept.readers.ever r o (kept.readers.reads s r here) kind ends
+    node_given o kind ends = gives_node (documents_in w.table.documents) w.past w.formers r o (kept.readers.reads s r here) kind ends
 
     pub children_given : (p : Path) (o : ReadOut) → r.parent ≡ Some p → r.step ≡ step.Done o → AreChildrenOf (tree_at None w.past r.pin.base) p o
-    children_given p o kind ends = gives_children (documents_in w.table.documents) w.past kept.readers.ever r p o (kept.readers.reads s r here) kind ends
+    children_given p o kind ends = gives_children (documents_in w.table.documents) w.past w.formers r p o (kept.readers.reads s r here) kind ends

@@ -1,5 +1,5 @@
 -- A committer marks a collision on the commit root of another.
-use Rattle.std.proofs.Common.{◌≡◌, inl, ℕ, false, Some, Option, List, ◌∷◌, refl, sym, ap, subst, ◌∙◌, []}
+use Rattle.std.proofs.Common.{◌≡◌, inl, ℕ, false, Some, Option, List, ◌∷◌, refl, sym, ap, subst, ◌∙◌}
 use Rattle.jr_path.specs.declared.path.Path.{Path}
 use Rattle.jr_path.specs.declared.path.DocId.TheVariants as id
 use Rattle.jr_rev.specs.declared.revision.Revision.{Revision}
@@ -7,12 +7,12 @@ use Rattle.oak_commit.specs.Clashing.{Met, Writer, mark_op, noted}
 use Rattle.oak_doc.specs.declared.document.Document.{Document}
 use Rattle.oak_doc.specs.declared.update.UpdateOp.{UpdateOp}
 use Rattle.oak_doc.specs.Updates.{after_changes}
+use Rattle.oak_machine.specs.Sessions.{is_stopped}
 use Rattle.oak_machine.specs.declared.event.Event.TheVariants as event
 use Rattle.oak_machine.specs.declared.event.StepKind.TheVariants as kind
 use Rattle.oak_machine.specs.History.{Past}
 use Rattle.oak_read.specs.Meaning.{documents_in}
 use Rattle.oak_store.specs.Tables.{Table, next_number, with_document}
-use Rattle.jr_rev.specs.declared.vector.RevVec.{RevVec}
 use Rattle.core_read.specs.Told.{IsTold}
 use Rattle.core_read.proofs.Committing.{markings_all}
 use Rattle.core_read.proofs.Updates.{update_same}
@@ -20,7 +20,8 @@ use Rattle.core_keep.specs.Journal.{IsKeptWorld}
 use Rattle.core_keep.proofs.Events.{kept_idle}
 use Rattle.core_keep.proofs.World.{kept_mark_op}
 use Rattle.core_watch.proofs.GoingOn.{on_mark}
-use Rattle.core_world.proofs.Letting.{LetsRead, lets_event, lets_on, lets_then, lists_main}
+use Rattle.core_watch.proofs.StayingOn.{formers_mark}
+use Rattle.core_world.proofs.Letting.{LetsRead, lets_event, lets_on, lets_then}
 use Rattle.core_read.specs.Holds.{IsSameBut}
 use Rattle.core_clash.specs.Core.{Docs, MayMark, root_of, with_writer}
 use Rattle.core_clash.specs.Sessions.{Running}
@@ -92,12 +93,12 @@ module _ (past : Past) (t : Table) (running : ℕ → Option Running) (a : AreCo
       theirs = theirs_step past a.writers running a.theirs s x here (noticing (a.writers r)) (noticing x.writer) (ap noticing (mine past t running a told s x here).writer) x.committed later (λ q. refl) (λ q. refl) (λ q k. refl) (mine past t running a told s x here).committed;
       listed = at_session (λ q (y : Running). y.writer.paths ≡ paths_to_write y.draw.marks) running s _ (a.listed s x here) (λ q y f h. a.listed q y h);
       kept = world_by (documents_in now.documents) later _ (λ q. is_among (with_writer a.writers r (noticing (a.writers r)) q).written) (same_progress a.writers r (noticing (a.writers r)) refl) readable;
-      unstopped = a.unstopped;
+      unstopped = at_session (λ q (y : Running). is_stopped past y.draw.revision.cluster ≡ false) running s _ (a.unstopped s x here) (λ q y f h. a.unstopped q y h);
     }
 
     -- readers read on
     pub mark_lets : LetsRead t now past later
     mark_lets = lets_then t now now past past later (λ pin held. held)
-        (lets_on t now past past (λ pin ever held. on_mark pin ever (documents_in t.documents) (documents_in now.documents) past _ (world_of past t running a told) held root op n refl refl (put_main t root doc n))
-        (lists_main (documents_in t.documents) (documents_in now.documents) root doc (put_main t root doc n) same_but.whole) (λ q. refl) (λ q. refl))
+        (lets_on t now past past (λ pin held. on_mark pin (documents_in t.documents) (documents_in now.documents) past _ (world_of past t running a told) held root op n refl refl (put_main t root doc n))
+        (λ formers l. formers_mark (documents_in t.documents) (documents_in now.documents) past _ (world_of past t running a told) root op n refl refl (put_main t root doc n) formers l) (λ q. refl) (λ q. refl))
         (lets_event now past _ marked_world (event.Went x.draw.session kind.Mark) (λ q. refl) (λ q. refl) (λ q. refl))

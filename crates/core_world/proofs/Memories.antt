@@ -66,7 +66,7 @@ at_memory P ms k m j lk hk lj here there = by (j == k) refl
 
 module _ (starts : Starts) (says : Says) (clusters : ℕ) (sessions : List ℕ) (nodes : AreNodes clusters sessions) (past : Past) (ms : List NodeState) (are : AreMemories clusters sessions past ms) where
   -- a step on the memory of cluster node k
-  step_on : (k : ℕ) → IsNode clusters k → (m : NodeState) (later : Past) → IsMemoryOf clusters later k m → ArePinsOf sessions later k m
+  pub step_on : (k : ℕ) → IsNode clusters k → (m : NodeState) (later : Past) → IsMemoryOf clusters later k m → ArePinsOf sessions later k m
       → ((j : ℕ) → IsNode clusters j → (j == k) ≡ false → IsMemoryOf clusters later j (memory_at ms j))
       → ((j : ℕ) → IsNode clusters j → (j == k) ≡ false → ArePinsOf sessions later j (memory_at ms j))
       → AreMemories clusters sessions later (with_memory ms k m)

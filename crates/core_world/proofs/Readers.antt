@@ -28,6 +28,7 @@ use Rattle.core_nodes.specs.Nodes.{IsPair}
 use Rattle.jr_rev.specs.declared.vector.Pin.{Pin}
 use Rattle.jr_rev.specs.Vectors.{sees}
 use Rattle.oak_machine.specs.Commits.{is_in_flight}
+use Rattle.core_keep.specs.Formers.{Formers}
 use Rattle.core_world.specs.Kept.{AreReading, IsAboveBounds, live_base}
 use Rattle.core_world.proofs.Letting.{is_bound, LetsRead, lets_calm}
 use Rattle.core_world.proofs.Flights.{same_number}
@@ -124,20 +125,19 @@ pair_swept past v t used pair = record { begun = pair.begun; quiet = λ r seen n
 pub pair_held : (past : Past) (x : Pin) → IsInUse past x.base → IsPair x.base x.sweep → IsAboveBounds past x → IsHeldPair past x.base x.sweep
 pair_held past x used pair above = record { base = used; sweep = pair_swept past x.base x.sweep used pair; above = above.base; swept = above.sweep }
 
-module _ (past : Past) (t : Table) (reading : ℕ → Option Reader) (are : AreReading past t reading) (held : (s : ℕ) (r : Reader) → reading s ≡ Some r → IsHeldPair past r.pin.base r.pin.sweep) where
+module _ (past : Past) (t : Table) (formers : Formers) (reading : ℕ → Option Reader) (are : AreReading past t formers reading) (held : (s : ℕ) (r : Reader) → reading s ≡ Some r → IsHeldPair past r.pin.base r.pin.sweep) where
   -- an event, with documents by which each reader reads on
-  pub event_reads : (e : Event) (u : Table) → LetsRead t u past (e ∷ past) → ((s : ℕ) (r : Reader) → reading s ≡ Some r → moves_base_of s e ≡ false) → AreReading (e ∷ past) u reading
+  pub event_reads : (e : Event) (u : Table) → LetsRead t u past (e ∷ past) → ((s : ℕ) (r : Reader) → reading s ≡ Some r → moves_base_of s e ≡ false) → AreReading (e ∷ past) u formers reading
   event_reads e u lets apart = record {
-    ever = are.ever;
-    listed = lets.lists are.ever are.listed;
-    reads = λ s r h. lets.reads are.ever r (held s r h) (are.reads s r h);
+    told = lets.tells formers are.told;
+    reads = λ s r h. lets.reads formers r (held s r h) (are.reads s r h);
     above = λ s r h. record { base = λ q b. (are.above s r h).base q (sym (lets.bounds q) ∙ b); sweep = λ q b. (are.above s r h).sweep q (sym (lets.sweeps q) ∙ b) };
     at_base = λ s r h. live_left past e s (apart s r h) ∙ are.at_base s r h;
     pairs = are.pairs;
   }
 
   -- an event that is no Commit and no Bound, where no document is changed
-  pub quiet_reads : (done : Progress) → IsKeptWorld (documents_in t.documents) past done → (e : Event) → ((q : Revision) → is_commit_of q e ≡ false) → is_bound e ≡ false → ((s : ℕ) (r : Reader) → reading s ≡ Some r → moves_base_of s e ≡ false) → AreReading (e ∷ past) t reading
+  pub quiet_reads : (done : Progress) → IsKeptWorld (documents_in t.documents) past done → (e : Event) → ((q : Revision) → is_commit_of q e ≡ false) → is_bound e ≡ false → ((s : ℕ) (r : Reader) → reading s ≡ Some r → moves_base_of s e ≡ false) → AreReading (e ∷ past) t formers reading
   quiet_reads done world e h calm apart = event_reads e t (lets_calm t past done world e h calm) apart
 
   -- an event that moves the pin of one session, which reads nothing
@@ -148,7 +148,7 @@ module _ (past : Past) (t : Table) (reading : ℕ → Option Reader) (are : AreR
       by false e = refl
       by true e = absurd (false≢true (ap (λ (o : Option Reader). is_some o) (sym none ∙ (ap reading (same_number s q e) ∙ h))))
 
-  pub pin_reads : (done : Progress) → IsKeptWorld (documents_in t.documents) past done → (e : Event) (s : ℕ) → ((q : Revision) → is_commit_of q e ≡ false) → is_bound e ≡ false → moved_base e ≡ Some s → reading s ≡ None → AreReading (e ∷ past) t reading
+  pub pin_reads : (done : Progress) → IsKeptWorld (documents_in t.documents) past done → (e : Event) (s : ℕ) → ((q : Revision) → is_commit_of q e ≡ false) → is_bound e ≡ false → moved_base e ≡ Some s → reading s ≡ None → AreReading (e ∷ past) t formers reading
   pin_reads done world e s h calm moved none = quiet_reads done world e h calm (λ q r k. ap (λ o. option_map_or (λ n. n == q) o false) moved ∙ apart_from s none q r k)
 
 -- ---- pins of memories

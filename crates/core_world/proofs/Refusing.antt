@@ -4,6 +4,7 @@ use Rattle.jr_path.specs.declared.path.Path.{Path}
 use Rattle.jr_path.specs.declared.path.Item.{Item}
 use Rattle.jr_rev.specs.declared.revision.Revision.{Revision}
 use Rattle.oak_commit.specs.Clashing.{Writer}
+use Rattle.oak_machine.specs.Sessions.{is_stopped}
 use Rattle.oak_machine.specs.declared.event.Event.TheVariants as event
 use Rattle.oak_machine.specs.History.{Past}
 use Rattle.oak_read.specs.Meaning.{documents_in}
@@ -49,7 +50,7 @@ module _ (past : Past) (t : Table) (running : ℕ → Option Running) (a : AreCo
       theirs = theirs_step past a.writers running a.theirs s x here (turned (a.writers r)) (turned x.writer) (ap turned (mine past t running a told s x here).writer) x.committed later (λ q. refl) (λ q. refl) (λ q k. refl) (mine past t running a told s x here).committed;
       listed = at_session (λ q (y : Running). y.writer.paths ≡ paths_to_write y.draw.marks) running s _ (a.listed s x here) (λ q y f h. a.listed q y h);
       kept = world_by (documents_in t.documents) later _ (λ q. is_among (with_writer a.writers r (turned (a.writers r)) q).written) (same_progress a.writers r (turned (a.writers r)) refl) readable;
-      unstopped = a.unstopped;
+      unstopped = at_session (λ q (y : Running). is_stopped past y.draw.revision.cluster ≡ false) running s _ (a.unstopped s x here) (λ q y f h. a.unstopped q y h);
     }
 
   abbrev wanting : Writer → Writer
@@ -62,5 +63,5 @@ module _ (past : Past) (t : Table) (running : ℕ → Option Running) (a : AreCo
     theirs = theirs_step past a.writers running a.theirs s x here (wanting (a.writers r)) (wanting x.writer) (ap wanting (mine past t running a told s x here).writer) x.committed past (λ q. refl) (λ q. refl) (λ q k. refl) (mine past t running a told s x here).committed;
     listed = at_session (λ q (y : Running). y.writer.paths ≡ paths_to_write y.draw.marks) running s _ (a.listed s x here) (λ q y f h. a.listed q y h);
     kept = world_by (documents_in t.documents) past _ (λ q. is_among (with_writer a.writers r (wanting (a.writers r)) q).written) (same_progress a.writers r (wanting (a.writers r)) refl) (world_of past t running a told);
-    unstopped = a.unstopped;
+    unstopped = at_session (λ q (y : Running). is_stopped past y.draw.revision.cluster ≡ false) running s _ (a.unstopped s x here) (λ q y f h. a.unstopped q y h);
   }

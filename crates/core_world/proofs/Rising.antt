@@ -6,6 +6,7 @@ use Rattle.core_keep.specs.Holding.{IsPairBelow}
 use Rattle.core_clash.proofs.Basics.{or_cases}
 use Rattle.core_watch.proofs.GoingOn.{on_event}
 use Rattle.core_watch.proofs.Lasting.{reading_lasts}
+use Rattle.core_watch.proofs.StayingOn.{formers_event}
 use Rattle.core_world.specs.Held.{MayTakeBound}
 use Rattle.core_world.specs.Kept.{has_written, IsAboveBounds}
 use Rattle.core_heads.proofs.Below.{below_seen}
@@ -45,7 +46,7 @@ use Rattle.oak_machine.specs.Heads.{head_of, local, published}
 use Rattle.oak_machine.specs.History.{Past}
 use Rattle.oak_machine.specs.Laws.{Says, Starts, StartsProper}
 use Rattle.oak_machine.specs.Runs.{IsNode, MayBound}
-use Rattle.oak_machine.specs.Sessions.{has_left, has_login, has_reader, is_attached, kept_checkpoint, next_index}
+use Rattle.oak_machine.specs.Sessions.{has_left, has_login, has_reader, is_attached, is_recovered, is_stopped_under, kept_checkpoint, next_index}
 use Rattle.oak_machine.specs.Steps.{is_kind}
 use Rattle.oak_node.specs.Heads.{finished, learned}
 use Rattle.oak_node.specs.Memory.{own_entry}
@@ -55,20 +56,20 @@ use Rattle.oak_read.specs.declared.reader.Reader.{Reader}
 use Rattle.oak_store.specs.Tables.{next_number}
 use Rattle.core_clash.specs.Core.{root_of}
 use Rattle.core_clash.specs.Sessions.{Running}
-use Rattle.core_keep.specs.Holding.{IsBelowAll, IsHoldingStep}
+use Rattle.core_keep.specs.Holding.{IsHoldingStep}
 use Rattle.core_nodes.specs.Nodes.{base_of_pin, cursor_owner, without_session}
 use Rattle.core_clash.specs.Collecting.{SeesBounded}
 use Rattle.core_world.specs.Held.{after_bound, holding_in}
 use Rattle.core_world.specs.States.{base_in}
 use Rattle.core_world.proofs.Bounded.{bound_commits, may_bound_core}
-use Rattle.core_world.proofs.Flights.{still_idle}
+use Rattle.core_world.proofs.Flights.{work_quiet, still_idle}
 use Rattle.core_world.proofs.Lives.{told}
 use Rattle.core_world.proofs.Memories.{aside}
 use Rattle.core_world.specs.Kept.{AreLayersKept, WereOnRoot}
 use Rattle.core_world.specs.States.{State, history_in, memory_of, node_of, nodes_in}
 use Rattle.core_world.specs.Steps.{IsThrough, after_attach, after_back, after_checkpoint, after_detach, after_draw, after_finish, after_last, after_learn, after_learn_swept, after_leave, after_login, after_mark, after_notes, after_observe, after_out, after_pending, after_refresh, after_release, after_said, after_sweep, after_undoing, after_unfound, after_want, after_went, after_write, after_write_in_want, back_op, draw_in, lasted_by, marked_by, pinned, sweep_op, swept_to, with_reader, with_result}
 use Rattle.core_world.proofs.Attaching.{attach_keeps, attach_unfound_keeps, detach_keeps, release_unfound_keeps}
-use Rattle.core_world.proofs.Backs.{back_keeps, learn_keeps, learn_swept_keeps, out_keeps, pending_keeps, sweep_keeps, with_table}
+use Rattle.core_world.proofs.Backs.{back_keeps, learn_keeps, learn_swept_keeps, out_keeps, pending_keeps, sweep_keeps}
 use Rattle.core_world.proofs.Checkpoints.{checkpoint_keeps, release_keeps}
 use Rattle.core_world.proofs.Held.{all_still, attach_kept, checkpoint_kept, cursor_step, detach_kept, draw_step, found_in, head_is, holding, in_front, kept_now, learn_step, leave_step, memory_still, on_session, pin_step, release_kept, same_kept, still_holding, swept_step, takes_part}
 use Rattle.core_world.proofs.Lives.{its_node, session_there}
@@ -94,20 +95,20 @@ module _ (starts : Starts) (says : Says) (proper : StartsProper starts) (w : Sta
 
   -- ---- sessions
 
-  pub login_rises : (s : ℕ) → is_some (slice_get w.sessions s) ≡ true → has_login w.past s ≡ false → Rises (after_login w s)
-  login_rises s there first = on_memory s there (after_login w s) (login_whole starts says proper w kept s there first) (event.Login s (memory_of w s).head ∷ []) refl refl refl
+  pub login_rises : (s : ℕ) → is_stopped_under w.sessions w.past s ≡ false → is_some (slice_get w.sessions s) ≡ true → has_login w.past s ≡ false → Rises (after_login w s)
+  login_rises s on there first = on_memory s there (after_login w s) (login_whole starts says proper w kept s on there first) (event.Login s (memory_of w s).head ∷ []) refl refl refl
       (on_session starts says proper w kept s there (pinned (memory_of w s) s) (pin_step (memory_of w s) s)) refl
 
   module _ (s : ℕ) (login : has_login w.past s ≡ true) where
     there : is_some (slice_get w.sessions s) ≡ true
     there = session_there starts says proper w kept.sessions s login
 
-    pub refresh_rises : has_left w.past s ≡ false → w.running s ≡ None → w.reading s ≡ None → Rises (after_refresh w s)
-    refresh_rises stays none unread = on_memory s there (after_refresh w s) (refresh_whole starts says proper w kept s login stays none unread) (event.Refresh s (memory_of w s).head ∷ []) refl refl refl
+    pub refresh_rises : is_stopped_under w.sessions w.past s ≡ false → has_left w.past s ≡ false → w.running s ≡ None → w.reading s ≡ None → Rises (after_refresh w s)
+    refresh_rises on stays none unread = on_memory s there (after_refresh w s) (refresh_whole starts says proper w kept s on login stays none unread) (event.Refresh s (memory_of w s).head ∷ []) refl refl refl
         (on_session starts says proper w kept s there (pinned (memory_of w s) s) (pin_step (memory_of w s) s)) refl
 
-    pub leave_rises : slice_get w.sessions (cursor_owner s) ≡ None → has_left w.past s ≡ false → w.running s ≡ None → w.reading s ≡ None → Rises (after_leave w s)
-    leave_rises few stays none unread = on_memory s there (after_leave w s) (leave_whole starts says proper w kept s few login stays none unread) (event.Went s kind.End ∷ []) refl refl refl
+    pub leave_rises : is_stopped_under w.sessions w.past s ≡ false → slice_get w.sessions (cursor_owner s) ≡ None → has_left w.past s ≡ false → w.running s ≡ None → w.reading s ≡ None → Rises (after_leave w s)
+    leave_rises on few stays none unread = on_memory s there (after_leave w s) (leave_whole starts says proper w kept s on few login stays none unread) (event.Went s kind.End ∷ []) refl refl refl
         (on_session starts says proper w kept s there (without_session (memory_of w s) s) (leave_step (memory_of w s) s)) refl
 
     pub observe_rises : (pin : Pin) → slice_get w.sessions (cursor_owner s) ≡ None → has_left w.past s ≡ false → w.reading s ≡ None → pin_of (memory_of w s) s ≡ Some pin → Rises (after_observe w s pin)
@@ -125,11 +126,11 @@ module _ (starts : Starts) (says : Says) (proper : StartsProper starts) (w : Sta
 
   -- ---- commits
 
-  pub draw_rises : (s : ℕ) (edit : Edit) (marks : List MarkAt) (paths : List Path) → has_login w.past s ≡ true → has_left w.past s ≡ false → is_attached w.past s ≡ false → w.running s ≡ None → starts (history_in w) s edit marks → SeesBounded w.past (base_in w s) → Rises (after_draw w s edit marks paths)
-  draw_rises s edit marks paths login stays detached none lawful bounded =
+  pub draw_rises : (s : ℕ) (edit : Edit) (marks : List MarkAt) (paths : List Path) → is_stopped_under w.sessions w.past s ≡ false → has_login w.past s ≡ true → has_left w.past s ≡ false → is_attached w.past s ≡ false → w.running s ≡ None → starts (history_in w) s edit marks → SeesBounded w.past (base_in w s) → Rises (after_draw w s edit marks paths)
+  draw_rises s edit marks paths on login stays detached none lawful bounded =
       let here = session_there starts says proper w kept.sessions s login in
       let r : Revision = (draw_in w s edit marks).revision in
-      on_memory s here (after_draw w s edit marks paths) (draw_whole starts says proper w kept s edit marks paths login stays detached none lawful bounded) (event.Draw (draw_in w s edit marks) ∷ []) refl refl refl
+      on_memory s here (after_draw w s edit marks paths) (draw_whole starts says proper w kept s edit marks paths on login stays detached none lawful bounded) (event.Draw (draw_in w s edit marks) ∷ []) refl refl refl
       (on_session starts says proper w kept s here (after_notes r (Rattle.oak_node.specs.Heads.with_draw (memory_of w s) r) paths) (draw_step (memory_of w s) r paths)) refl
 
   module _ (s : ℕ) (x : Running) (here : w.running s ≡ Some x) where
@@ -215,8 +216,8 @@ module _ (starts : Starts) (says : Says) (proper : StartsProper starts) (w : Sta
     pub sweep_rises : (r : Revision) → r.cluster ≡ node_of w s → is_at_most r (published None w.past (node_of w s)) ≡ true → Rises (after_sweep w s r)
     sweep_rises r of low = on_memory s at_node (after_sweep w s r) (sweep_keeps starts says proper w kept s login r of low) (event.Sweep (node_of w s) r ∷ []) refl refl refl (all_still starts says proper w kept) (update_apart w.table [] (sweep_op r) refl)
 
-    pub learn_rises : (last sweep : RevVec) → WereOnRoot w.clusters w.past last sweep → Rises (after_learn w s last sweep)
-    learn_rises last sweep were = on_memory s at_node (after_learn w s last sweep) (learn_keeps starts says proper w kept s login last sweep were) (event.In (node_of w s) (learned (memory_of w s) last sweep).head ∷ []) refl refl refl
+    pub learn_rises : is_stopped_under w.sessions w.past s ≡ false → (last sweep : RevVec) → WereOnRoot w.clusters w.past last sweep → Rises (after_learn w s last sweep)
+    learn_rises on last sweep were = on_memory s at_node (after_learn w s last sweep) (learn_keeps starts says proper w kept s login on last sweep were) (event.In (node_of w s) (learned (memory_of w s) last sweep).head ∷ []) refl refl refl
         (on_session starts says proper w kept s at_node (learned (memory_of w s) last sweep) (learn_step (memory_of w s) last sweep)) refl
 
     pub learn_swept_rises : (r : Revision) → has_left w.past s ≡ false → r.cluster ≡ node_of w s → is_at_most r (local None w.past (node_of w s)) ≡ true → Rises (after_learn_swept w s r)
@@ -225,11 +226,11 @@ module _ (starts : Starts) (says : Says) (proper : StartsProper starts) (w : Sta
 
     -- ---- checkpoints
 
-    pub checkpoint_rises : (i : Text) (pin : Pin) → has_left w.past s ≡ false → is_attached w.past s ≡ false → pin_of (memory_of w s) s ≡ Some pin → Rises (after_checkpoint w s i pin)
-    checkpoint_rises i pin stays detached has = holding starts says proper w kept (after_checkpoint w s i pin) (checkpoint_keeps starts says proper w kept s i pin login stays detached has) (event.Checkpoint i pin.base ∷ []) refl refl refl (all_still starts says proper w kept) (checkpoint_kept starts says proper w kept i pin s at_node has)
+    pub checkpoint_rises : (i : Text) (pin : Pin) → is_stopped_under w.sessions w.past s ≡ false → has_left w.past s ≡ false → is_attached w.past s ≡ false → pin_of (memory_of w s) s ≡ Some pin → Rises (after_checkpoint w s i pin)
+    checkpoint_rises i pin on stays detached has = holding starts says proper w kept (after_checkpoint w s i pin) (checkpoint_keeps starts says proper w kept s i pin on login stays detached has) (event.Checkpoint i pin.base ∷ []) refl refl refl (all_still starts says proper w kept) (checkpoint_kept starts says proper w kept i pin s at_node has)
 
-    pub attach_rises : (i : Text) (v : RevVec) → has_left w.past s ≡ false → is_attached w.past s ≡ false → w.reading s ≡ None → kept_checkpoint w.past i ≡ Some v → Rises (after_attach w s i)
-    attach_rises i v stays detached unread has = holding starts says proper w kept (after_attach w s i) (attach_keeps starts says proper w kept s login stays i v detached unread has) (event.Attach s i ∷ []) refl refl refl (all_still starts says proper w kept) (attach_kept starts says proper w kept s i)
+    pub attach_rises : (i : Text) (v : RevVec) → is_stopped_under w.sessions w.past s ≡ false → has_left w.past s ≡ false → is_attached w.past s ≡ false → w.reading s ≡ None → kept_checkpoint w.past i ≡ Some v → Rises (after_attach w s i)
+    attach_rises i v on stays detached unread has = holding starts says proper w kept (after_attach w s i) (attach_keeps starts says proper w kept s login stays on i v detached unread has) (event.Attach s i ∷ []) refl refl refl (all_still starts says proper w kept) (attach_kept starts says proper w kept s i)
 
     pub detach_rises : has_left w.past s ≡ false → is_attached w.past s ≡ false → has_reader w.past s ≡ true → Rises (after_detach w s)
     detach_rises stays detached reads = holding starts says proper w kept (after_detach w s) (detach_keeps starts says proper w kept s login stays detached reads) (event.Detach s ∷ []) refl refl refl (all_still starts says proper w kept) (detach_kept starts says proper w kept s)
@@ -246,8 +247,8 @@ module _ (starts : Starts) (says : Says) (proper : StartsProper starts) (w : Sta
   -- ---- a bound
 
   module _ (m t : RevVec) (takes : MayTakeBound w m t) (reading : (s : ℕ) (r : Reader) → w.reading s ≡ Some r → IsPairBelow (record { base = m; sweep = t }) r.pin) where
-    below_head : (k : ℕ) → IsNode w.clusters k → is_below m (head_of w.clusters None w.past k) ≡ true
-    below_head k node = subst (λ (v : RevVec). is_below m v ≡ true) (ap (λ (p : Pin). p.base) (head_is starts says proper w kept k node) ∙ (kept.sessions.memories.memory k node).head) (takes.below.head k (takes_part starts says proper w kept k node)).0
+    below_head : (k : ℕ) → IsNode w.clusters k → is_recovered w.past k ≡ false → is_below m (head_of w.clusters None w.past k) ≡ true
+    below_head k node alive = subst (λ (v : RevVec). is_below m v ≡ true) (ap (λ (p : Pin). p.base) (head_is starts says proper w kept k node) ∙ (kept.sessions.memories.memory k node).head) (takes.below.head k (takes_part starts says proper w kept k node alive)).0
 
     below_kept : (i : Text) (v : RevVec) → kept_checkpoint w.past i ≡ Some v → is_below m v ≡ true
     below_kept i v has = by (lookup (is_at (name_cmp i)) kept.settings.document.checkpoints) refl (kept.settings.checkpoints i ∙ has)
@@ -258,7 +259,7 @@ module _ (starts : Starts) (says : Says) (proper : StartsProper starts) (w : Sta
             (takes.below.kept pin (kept_now starts says proper w kept pin (in_front pin (values_of kept.settings.document.checkpoints) (values_of kept.settings.document.readers) (found_in (is_at (name_cmp i)) kept.settings.document.checkpoints pin e)))).0
 
     may_bound : MayBound (history_in w) m t
-    may_bound = record { heads = λ k low high unrecovered. below_head k (low, high); checkpoints = below_kept; sweep = takes.swept }
+    may_bound = record { heads = λ k low high alive. below_head k (low, high) alive; checkpoints = below_kept; sweep = takes.swept }
 
     core_may : MayBoundBases w.past m t
     core_may = may_bound_core starts says proper w kept m t takes.below takes.swept may_bound
@@ -269,20 +270,19 @@ module _ (starts : Starts) (says : Says) (proper : StartsProper starts) (w : Sta
         nodes = kept.sessions.nodes;
         run = (may_bound, kept.sessions.run);
         committing = bound_commits w.past w.table w.running kept.sessions.committing m t core_may (record { settled = core_may.settled; closed = takes.closed });
-        working = record { idle = λ q h. still_idle (event.Bound m t) w.past q refl (kept.sessions.working.idle q h); stays = kept.sessions.working.stays };
+        working = work_quiet w.sessions w.past w.running w.reading kept.sessions.working (event.Bound m t) refl (λ q. refl) (λ k. refl);
         memories = aside starts says w.clusters w.sessions kept.sessions.nodes w.past w.memories kept.sessions.memories (event.Bound m t) (may_bound, kept.sessions.run) (λ j. refl) (λ j. refl);
         readers = record {
-          ever = kept.sessions.readers.ever;
-          listed = kept.sessions.readers.listed;
-          reads = λ s r h. reading_lasts kept.sessions.readers.ever kept.sessions.readers.ever (documents_in w.table.documents) (documents_in w.table.documents) w.past (event.Bound m t ∷ w.past) r
-              (on_event r.pin kept.sessions.readers.ever (documents_in w.table.documents) w.past (λ q. has_written (kept.sessions.committing.writers q)) kept.sessions.committing.kept (event.Bound m t) (λ q. refl)) (λ p k i. i) (kept.sessions.readers.reads s r h);
+          told = formers_event (documents_in w.table.documents) w.past (λ q. has_written (kept.sessions.committing.writers q)) kept.sessions.committing.kept (event.Bound m t) (λ q. refl) w.formers kept.sessions.readers.told;
+          reads = λ s r h. reading_lasts w.formers w.formers (documents_in w.table.documents) (documents_in w.table.documents) w.past (event.Bound m t ∷ w.past) r
+              (on_event r.pin (documents_in w.table.documents) w.past (λ q. has_written (kept.sessions.committing.writers q)) kept.sessions.committing.kept (event.Bound m t) (λ q. refl)) (λ p k f i. i) (kept.sessions.readers.reads s r h);
           above = λ s r h. above_one w.past m t r.pin (reading s r h) (kept.sessions.readers.above s r h);
           at_base = kept.sessions.readers.at_base;
           pairs = kept.sessions.readers.pairs;
         };
       };
       root = root_quiet w.clusters w.past w.table (event.Bound m t) refl kept.root;
-      settings = settings_quiet w.past w.table w.table (event.Bound m t) refl refl kept.settings;
+      settings = settings_quiet w.sessions w.past w.table w.table (event.Bound m t) refl refl kept.settings;
     }
 
   pub bound_rises : (m t : RevVec) → Rises (after_bound w m t)

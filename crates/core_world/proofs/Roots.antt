@@ -142,6 +142,10 @@ module _ (clusters : ℕ) (eight : clusters ≤ 8) (past : Past) (last sweep : R
     pair = record { vector = root.pair.vector; begun = root.pair.begun; below = λ x h. raised_sees last r x (root.pair.below x h) };
   }
 
+  -- r is public then
+  pub out_now : is_at_most r (published None (event.Out k r ∷ past) k) ≡ true
+  out_now = subst (λ (y : Revision). is_at_most r y ≡ true) (sym out_is) (fold_each (start_of k) (r ∷ outs_of past k) r (inl refl))
+
   -- r is public, and is swept now
   pub root_swept : is_at_most r (published None past k) ≡ true → IsOnRoot clusters past last (raised sweep r)
   root_swept low = record {

@@ -1,5 +1,5 @@
 -- Two sessions on two cluster nodes write one property: steps computed from the start.
-use Rattle.std.proofs.Common.{◌≡◌, ℕ, Bool, true, false, Some, None, List, [], ◌∷◌, refl, pos}
+use Rattle.std.proofs.Common.{◌∙◌, ap, ◌≡◌, ℕ, Bool, true, false, Some, None, List, [], ◌∷◌, refl, pos}
 use Rattle.std.specs.Option.{option_map_or}
 use Rattle.std.specs.Prelude.{codes}
 use Rattle.jr_path.specs.declared.name.Name.{Name}
@@ -33,17 +33,24 @@ marks = record { path = []; mark = Prop p } ∷ []
 abbrev pub at : ℕ → ℕ → Revision
 at t k = record { time = t; counter = 0; cluster = k }
 
+-- what a session's committer does next
+abbrev pub goes_by : State → ℕ → Running → Bool → List Path → List Met → List Path → Bool → State
+goes_by w s x true [] due left committed = after_finish w s x
+goes_by w s x true (q ∷ rest) due left committed = after_undoing w s x q rest
+goes_by w s x false written (f ∷ rest) left committed = after_mark w s x f rest
+goes_by w s x false written [] (q ∷ rest) committed = after_write w s x q rest
+goes_by w s x false written [] [] true = after_finish w s x
+goes_by w s x false written [] [] false = after_last w s x
+
 -- the next step of a session's committer
 abbrev pub next : State → ℕ → State
-next w s = option_map_or (λ x. undoes x x.writer.undoing x.writer.written x.writer.due x.writer.left x.committed) (w.running s) w
-  where
-    undoes : Running → Bool → List Path → List Met → List Path → Bool → State
-    undoes x true [] due left committed = after_finish w s x
-    undoes x true (q ∷ rest) due left committed = after_undoing w s x q rest
-    undoes x false written (f ∷ rest) left committed = after_mark w s x f rest
-    undoes x false written [] (q ∷ rest) committed = after_write w s x q rest
-    undoes x false written [] [] true = after_finish w s x
-    undoes x false written [] [] false = after_last w s x
+next w s = option_map_or (λ x. goes_by w s x x.writer.undoing x.writer.written x.writer.due x.writer.left x.committed) (w.running s) w
+
+-- one that has undone all ends
+pub next_ends : (w : State) (s : ℕ) (x : Running) → w.running s ≡ Some x → x.writer.undoing ≡ true → x.writer.written ≡ [] → next w s ≡ after_finish w s x
+next_ends w s x here undoing none =
+    ap (λ o. option_map_or (λ x. goes_by w s x x.writer.undoing x.writer.written x.writer.due x.writer.left x.committed) o w) here
+    ∙ (ap (λ b. goes_by w s x b x.writer.written x.writer.due x.writer.left x.committed) undoing ∙ ap (λ ps. goes_by w s x true ps x.writer.due x.writer.left x.committed) none)
 
 -- both log in, on two cluster nodes, and draw; the second writes first
 abbrev pub begins : State

@@ -1,11 +1,10 @@
 -- Each reader reads at the pin of its session, after each step.
-use Rattle.std.proofs.Common.{◌≡◌, ℕ, Bool, true, false, cond, not, ◌&&◌, Some, None, Option, List, [], ◌∷◌, ◌⊎◌, is_none, is_some, refl, sym, ap, ◌∙◌, subst}
+use Rattle.std.proofs.Common.{◌≡◌, ℕ, Bool, true, false, cond, Some, None, Option, List, ◌∷◌, is_some, refl, sym, ap, ◌∙◌, subst}
 use Rattle.std.specs.Prelude.{◌≤◌, Err, Ok, Result, slice_get, ◌==◌}
 use Rattle.std.specs.BTreeMap.{insert_entry, is_at}
 use Rattle.std.specs.Map.{lookup, remove_entry}
 use Rattle.std.specs.Option.{option_and_then, option_map_or, unwrap_or}
 use Rattle.std.specs.Ordering.{nat_cmp}
-use Rattle.std.specs.declared.alloc.Global.{Global}
 use mathlib.Core.Bool.{false≢true}
 use Rattle.jr_path.specs.Names.{name_cmp}
 use Rattle.jr_path.specs.declared.path.DocId.TheVariants as id
@@ -24,14 +23,13 @@ use Rattle.oak_machine.specs.declared.event.Event.TheVariants as event
 use Rattle.oak_machine.specs.declared.event.StepKind.TheVariants as kind
 use Rattle.oak_machine.specs.History.{Past}
 use Rattle.oak_machine.specs.Laws.{Says, Starts, StartsProper}
-use Rattle.oak_machine.specs.Sessions.{has_left, has_login, is_attached, kept_checkpoint}
+use Rattle.oak_machine.specs.Sessions.{is_attached, kept_checkpoint}
 use Rattle.oak_commit.specs.Clashing.{Met, mark_op}
-use Rattle.oak_commit.specs.Writing.{last_op, write_op}
-use Rattle.oak_node.specs.Heads.{finished, learned, with_draw}
+use Rattle.oak_commit.specs.Writing.{last_op}
+use Rattle.oak_node.specs.Heads.{finished, with_draw}
 use Rattle.oak_node.specs.Memory.{NodeState, own_entry}
 use Rattle.oak_node.specs.Pins.{pin_now, pin_of, with_pin}
 use Rattle.oak_read.specs.declared.reader.Reader.{Reader}
-use Rattle.oak_read.specs.Meaning.{documents_in}
 use Rattle.oak_read.specs.Reading.{answer, due, fed}
 use Rattle.oak_store.specs.Tables.{Table, next_number}
 use Rattle.core_clash.specs.Core.{root_of}
@@ -40,7 +38,7 @@ use Rattle.core_nodes.specs.Nodes.{base_of_pin, cursor_owner, without_session}
 use Rattle.core_nodes.proofs.Pins.{lookup_beside, lookup_left}
 use Rattle.core_watch.proofs.Moments.{fed_keeps}
 use Rattle.core_world.specs.Kept.{AreLayersKept, IsPinned}
-use Rattle.core_world.specs.States.{State, actor_pin, memory_at, memory_of, node_of, nodes_in, reader_pin, with_session}
+use Rattle.core_world.specs.States.{State, actor_pin, memory_at, memory_of, node_of, nodes_in, reader_pin}
 use Rattle.core_world.specs.Steps.{after_attach, after_checkpoint, after_detach, after_finish, after_last, after_mark, after_notes, after_release, after_unfound, after_update, lasted_by, marked_by, memories_with, pinned as pinned_now, settings_op, with_reader, with_result}
 use Rattle.core_world.proofs.Checkpoints.{settings_there}
 use Rattle.core_world.proofs.Committers.{at_others, at_session}
@@ -53,10 +51,10 @@ use Rattle.core_world.proofs.Setting.{settings_of, update_apart}
 
 module _ (starts : Starts) (says : Says) (proper : StartsProper starts) (w : State) (kept : AreLayersKept starts says w) (pinned : IsPinned w) where
   -- where the pins of sessions that read are the same
-  same_pinned : (u : State) → u.reading ≡ w.reading → ((q : ℕ) (r : Reader) → w.reading q ≡ Some r → actor_pin u q ≡ actor_pin w q) → IsPinned u
+  pub same_pinned : (u : State) → u.reading ≡ w.reading → ((q : ℕ) (r : Reader) → w.reading q ≡ Some r → actor_pin u q ≡ actor_pin w q) → IsPinned u
   same_pinned u reading same q r h = let here : w.reading q ≡ Some r = sym (ap (λ (f : ℕ → Option Reader). f q) reading) ∙ h in same q r here ∙ pinned q r here
 
-  alike : (u : State) (q : ℕ) → is_attached u.past q ≡ is_attached w.past q → reader_pin u.table q ≡ reader_pin w.table q → pin_of (memory_of u q) q ≡ pin_of (memory_of w q) q → actor_pin u q ≡ actor_pin w q
+  pub alike : (u : State) (q : ℕ) → is_attached u.past q ≡ is_attached w.past q → reader_pin u.table q ≡ reader_pin w.table q → pin_of (memory_of u q) q ≡ pin_of (memory_of w q) q → actor_pin u q ≡ actor_pin w q
   alike u q attached set pins =
       ap (λ b. cond b (reader_pin u.table q) (pin_of (memory_of u q) q)) attached
       ∙ (ap (λ (o : Option Pin). cond (is_attached w.past q) o (pin_of (memory_of u q) q)) set
@@ -74,7 +72,7 @@ module _ (starts : Starts) (says : Says) (proper : StartsProper starts) (w : Sta
   there_is q r h = session_there starts says proper w kept.sessions q (reader_login starts says proper w kept.sessions q r h)
 
   apart : (s : ℕ) → w.reading s ≡ None → (q : ℕ) (r : Reader) → w.reading q ≡ Some r → (s == q) ≡ false
-  apart s none = apart_from w.past w.table w.reading kept.sessions.readers (reader_held starts says proper w kept.sessions) s none
+  apart s none = apart_from w.past w.table w.formers w.reading kept.sessions.readers (reader_held starts says proper w kept.sessions) s none
 
   -- the memory of a session's node is another
   pub memory_pinned : (s : ℕ) → is_some (slice_get w.sessions s) ≡ true → (m : NodeState) (past : Past) (running : ℕ → Option Running) → ((q : ℕ) (r : Reader) → w.reading q ≡ Some r → is_attached past q ≡ is_attached w.past q)

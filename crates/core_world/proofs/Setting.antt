@@ -1,6 +1,7 @@
 -- The settings' document, after a step.
-use Rattle.std.proofs.Common.{◌≡◌, ℕ, Bool, true, false, cond, not, ◌&&◌, Option, Some, None, List, [], ◌∷◌, is_some, is_none, refl, sym, ap, ◌∙◌}
-use Rattle.std.specs.Prelude.{Result, Ok, Err}
+use Rattle.std.proofs.Common.{◌≡◌, ℕ, Bool, true, false, cond, not, ◌&&◌, ◌||◌, Option, Some, None, List, [], ◌∷◌, is_some, is_none, refl, sym, ap, ◌∙◌}
+use Rattle.std.specs.Prelude.{◌==◌, Result, Ok, Err, slice_get}
+use Rattle.std.specs.Option.{option_map_or}
 use Rattle.std.specs.Ordering.{eq_by_cmp}
 use mathlib.Core.Bool.{false≢true}
 use Rattle.jr_path.specs.Ids.{id_cmp}
@@ -22,7 +23,7 @@ use Rattle.oak_machine.specs.declared.event.Event.{Event}
 use Rattle.oak_machine.specs.declared.event.Event.TheVariants as event
 use Rattle.oak_machine.specs.declared.event.StepKind.TheVariants as kind
 use Rattle.oak_machine.specs.History.{Past}
-use Rattle.oak_machine.specs.Sessions.{kept_checkpoint}
+use Rattle.oak_machine.specs.Sessions.{is_stopped, is_stopped_under, kept_checkpoint}
 use Rattle.oak_node.specs.Heads.{finished}
 use Rattle.oak_node.specs.Memory.{NodeState, own_entry}
 use Rattle.oak_read.specs.Meaning.{documents_in}
@@ -55,16 +56,33 @@ readers_quiet (event.Attach t id) past s h = absurd (false≢true (sym h))
 readers_quiet (event.Detach t) past s h = absurd (false≢true (sym h))
 readers_quiet e past s h = refl
 
+-- what goes on behind an event went on before
+was_going : (e : Event) (past : Past) (k : ℕ) → is_stopped (e ∷ past) k ≡ false → is_stopped past k ≡ false
+was_going (event.Stop m) past k h = by (m == k) h
+  where
+    by : (b : Bool) → (b || is_stopped past k) ≡ false → is_stopped past k ≡ false
+    by true i = absurd (false≢true (sym i))
+    by false i = i
+was_going e past k h = h
+
+was_on : (sessions : List ℕ) (e : Event) (past : Past) (s : ℕ) → is_stopped_under sessions (e ∷ past) s ≡ false → is_stopped_under sessions past s ≡ false
+was_on sessions e past s h = by (slice_get sessions s) h
+  where
+    by : (o : Option ℕ) → option_map_or (is_stopped (e ∷ past)) o false ≡ false → option_map_or (is_stopped past) o false ≡ false
+    by None i = refl
+    by (Some k) i = was_going e past k i
+
 -- an event that sets nothing, with the same settings
-pub settings_quiet : (past : Past) (t u : Table) (e : Event) → sets e ≡ false → documents_in u.documents id.Settings ≡ documents_in t.documents id.Settings → AreSettingsKept past t → AreSettingsKept (e ∷ past) u
-settings_quiet past t u e h same settings = record {
+pub settings_quiet : (sessions : List ℕ) (past : Past) (t u : Table) (e : Event) → sets e ≡ false → documents_in u.documents id.Settings ≡ documents_in t.documents id.Settings → AreSettingsKept sessions past t → AreSettingsKept sessions (e ∷ past) u
+settings_quiet sessions past t u e h same settings = record {
   document = settings.document;
   there = same ∙ settings.there;
   ordered = settings.ordered;
   numbered = settings.numbered;
   checkpoints = λ i. settings.checkpoints i ∙ sym (kept_quiet e past i h);
   checkpoint_pairs = settings.checkpoint_pairs;
-  readers = λ s. settings.readers s ∙ sym (readers_quiet e past s h);
+  readers = λ s on. settings.readers s (was_on sessions e past s on) ∙ sym (readers_quiet e past s h);
+  only = λ s pin k. readers_quiet e past s h ∙ settings.only s pin k;
   reader_pairs = settings.reader_pairs;
 }
 
@@ -94,32 +112,33 @@ undo_apart t p r = by (found t (id.Node p)) refl
 
 -- ---- the start
 
-pub start_set : (clusters sessions : ℕ) → AreSettingsKept [] (start_table clusters sessions)
-start_set clusters sessions = record {
+pub start_set : (all : List ℕ) (clusters sessions : ℕ) → AreSettingsKept all [] (start_table clusters sessions)
+start_set all clusters sessions = record {
   document = start_settings sessions;
   there = refl;
   ordered = refl;
   numbered = refl;
   checkpoints = λ i. refl;
   checkpoint_pairs = λ i pin h. absurd (false≢true (ap is_some h));
-  readers = λ s. refl;
+  readers = λ s on. refl;
+  only = λ s pin h. absurd (false≢true (ap is_some h));
   reader_pairs = λ s pin h. absurd (false≢true (ap is_some h));
 }
 
 -- ---- the steps of commits
 
 abbrev pub AreSet : State → Type 0
-AreSet w = AreSettingsKept w.past w.table
+AreSet w = AreSettingsKept w.sessions w.past w.table
 
-module _ (w : State) (set : AreSettingsKept w.past w.table) (s : ℕ) (x : Running) where
-  pub write_set : (p : Path) → AreSettingsKept (event.Went s kind.Write ∷ w.past) (after_update w.table (write_op x.draw.revision x.draw.edit.writes x.draw.marks p))
+module _ (w : State) (set : AreSettingsKept w.sessions w.past w.table) (s : ℕ) (x : Running) where
+  pub write_set : (p : Path) → AreSettingsKept w.sessions (event.Went s kind.Write ∷ w.past) (after_update w.table (write_op x.draw.revision x.draw.edit.writes x.draw.marks p))
   write_set p =
       let op = write_op x.draw.revision x.draw.edit.writes x.draw.marks p in
-      settings_quiet w.past w.table (after_update w.table op) (event.Went s kind.Write) refl (update_apart w.table p op refl) set
+      settings_quiet w.sessions w.past w.table (after_update w.table op) (event.Went s kind.Write) refl (update_apart w.table p op refl) set
 
   marked : (f : Met) (rest : List Met) (o : Result Document OpFault) → settings_of (with_result w.table (id.Node (root_of w.past f.other)) o) ≡ settings_of w.table → AreSet (marked_by w s x f rest o)
-  marked f rest (Ok d) h = settings_quiet w.past w.table (with_result w.table (id.Node (root_of w.past f.other)) (Ok d)) (event.Went s kind.Mark) refl h set
-  marked f rest (Err g) h = settings_quiet w.past w.table w.table (event.Refuse x.draw.revision f.mine f.other) refl refl set
+  marked f rest (Ok d) h = settings_quiet w.sessions w.past w.table (with_result w.table (id.Node (root_of w.past f.other)) (Ok d)) (event.Went s kind.Mark) refl h set
+  marked f rest (Err g) h = settings_quiet w.sessions w.past w.table w.table (event.Refuse x.draw.revision f.mine f.other) refl refl set
 
   pub mark_set : (f : Met) (rest : List Met) → AreSet (after_mark w s x f rest)
   mark_set f rest =
@@ -127,8 +146,8 @@ module _ (w : State) (set : AreSettingsKept w.past w.table) (s : ℕ) (x : Runni
       marked f rest (updated (nodes_in w.table (root_of w.past f.other)) op (next_number w.table)) (update_apart w.table (root_of w.past f.other) op refl)
 
   lasted : (o : Result Document OpFault) → settings_of (with_result w.table (id.Node (commit_root x.draw.marks)) o) ≡ settings_of w.table → AreSet (lasted_by w s x o)
-  lasted (Ok d) h = settings_quiet w.past w.table (with_result w.table (id.Node (commit_root x.draw.marks)) (Ok d)) (event.Commit x.draw.revision) refl h set
-  lasted (Err (fault.Unmet c (kept.Entry o item))) h = settings_quiet w.past w.table w.table (event.Refuse x.draw.revision item o) refl refl set
+  lasted (Ok d) h = settings_quiet w.sessions w.past w.table (with_result w.table (id.Node (commit_root x.draw.marks)) (Ok d)) (event.Commit x.draw.revision) refl h set
+  lasted (Err (fault.Unmet c (kept.Entry o item))) h = settings_quiet w.sessions w.past w.table w.table (event.Refuse x.draw.revision item o) refl refl set
   lasted (Err (fault.Unmet c (kept.Number n))) h = set
   lasted (Err (fault.Unmet c kept.Nothing)) h = set
   lasted (Err fault.Absent) h = set
@@ -140,7 +159,7 @@ module _ (w : State) (set : AreSettingsKept w.past w.table) (s : ℕ) (x : Runni
       lasted (updated (nodes_in w.table (commit_root x.draw.marks)) op (next_number w.table)) (update_apart w.table (commit_root x.draw.marks) op refl)
 
   pub undo_set : (p : Path) (rest : List Path) → AreSet (after_undoing w s x p rest)
-  undo_set p rest = settings_quiet w.past w.table (after_undo w.table (id.Node p) x.draw.revision) (event.Went s kind.Undo) refl (undo_apart w.table p x.draw.revision) set
+  undo_set p rest = settings_quiet w.sessions w.past w.table (after_undo w.table (id.Node p) x.draw.revision) (event.Went s kind.Undo) refl (undo_apart w.table p x.draw.revision) set
 
   pub finish_set : AreSet (after_finish w s x)
   finish_set = by (is_before (own_entry (memory_of w s)) (own_entry done))
@@ -148,9 +167,9 @@ module _ (w : State) (set : AreSettingsKept w.past w.table) (s : ℕ) (x : Runni
       done : NodeState
       done = finished (memory_of w s) x.draw.revision
 
-      ended : AreSettingsKept (event.End x.draw.revision ∷ w.past) w.table
-      ended = settings_quiet w.past w.table w.table (event.End x.draw.revision) refl refl set
+      ended : AreSettingsKept w.sessions (event.End x.draw.revision ∷ w.past) w.table
+      ended = settings_quiet w.sessions w.past w.table w.table (event.End x.draw.revision) refl refl set
 
-      by : (b : Bool) → AreSettingsKept (cond b (event.Head (node_of w s) done.head ∷ (event.End x.draw.revision ∷ w.past)) (event.End x.draw.revision ∷ w.past)) w.table
-      by true = settings_quiet (event.End x.draw.revision ∷ w.past) w.table w.table (event.Head (node_of w s) done.head) refl refl ended
+      by : (b : Bool) → AreSettingsKept w.sessions (cond b (event.Head (node_of w s) done.head ∷ (event.End x.draw.revision ∷ w.past)) (event.End x.draw.revision ∷ w.past)) w.table
+      by true = settings_quiet w.sessions (event.End x.draw.revision ∷ w.past) w.table w.table (event.Head (node_of w s) done.head) refl refl ended
       by false = ended

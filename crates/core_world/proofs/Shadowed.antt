@@ -1,25 +1,21 @@
 -- Whom a committer would meet in a previous document, there is a later one in the document itself whom it meets in the same property.
-use Rattle.std.proofs.Common.{◌≡◌, ◌⊎◌, inl, inr, ℕ, Bool, true, false, cond, ◌||◌, Some, None, Option, List, [], ◌∷◌, filter_map, is_some, refl, sym, ap, ◌∙◌, subst}
+use Rattle.std.proofs.Common.{◌≡◌, ◌⊎◌, ℕ, Bool, true, false, Some, None, Option, List, [], filter_map, is_some, refl, sym, ap, ◌∙◌, subst}
 use Rattle.std.specs.List.{list_any}
 use Rattle.std.specs.Option.{option_map_or, option_or, unwrap_or}
-use Rattle.std.specs.Ordering.{eq_by_cmp}
 use mathlib.Core.Bool.{false≢true}
 use Rattle.jr_path.specs.declared.name.Name.{Name}
 use Rattle.jr_path.specs.declared.path.DocId.TheVariants as id
 use Rattle.jr_path.specs.declared.path.Path.{Path}
 use Rattle.jr_rev.specs.declared.revision.Revision.{Revision}
-use Rattle.jr_rev.specs.Revisions.{is_before, revision_cmp}
+use Rattle.jr_rev.specs.Revisions.{is_before}
 use Rattle.jr_rev.specs.Vectors.{sees, start_of}
-use Rattle.jr_tree.specs.declared.edit.Write.{Write}
 use Rattle.jr_tree.specs.Items.{put_of, written}
 use Rattle.jr_value.specs.declared.value.Property.{Property}
-use Rattle.oak_clash.specs.declared.mark.Mark.{Mark}
 use Rattle.oak_clash.specs.declared.mark.Mark.TheVariants.{Prop}
 use Rattle.oak_commit.specs.Clashing.{marked}
 use Rattle.oak_doc.specs.declared.document.Document.{Document}
 use Rattle.oak_doc.specs.declared.document.PrevEntry.{PrevEntry}
 use Rattle.oak_doc.specs.Updates.{of_revision, values_of_property}
-use Rattle.oak_machine.specs.History.{Past}
 use Rattle.oak_machine.specs.Commits.{is_committed}
 use Rattle.oak_machine.specs.Laws.{Says, Starts, StartsProper}
 use Rattle.oak_read.specs.Meaning.{documents_in}
@@ -28,8 +24,6 @@ use Rattle.core_read.specs.Told.{IsIn, IsInUse}
 use Rattle.core_heads.proofs.Runs.{held_in_use}
 use Rattle.core_clash.specs.Sessions.{IsTheirs, Running}
 use Rattle.core_clash.specs.Sound.{has_moved}
-use Rattle.core_keep.specs.Journal.{course_of}
-use Rattle.core_keep.specs.Keeps.{edit_in, is_done, IsPrevious}
 use Rattle.core_keep.specs.Standing.{all_at, values_in}
 use Rattle.core_keep.proofs.AtPath.{listed, value_split}
 use Rattle.core_keep.proofs.Item.{some_of}

@@ -11,7 +11,7 @@ use Rattle.core_keep.proofs.Journal.{downward}
 use Rattle.oak_read.specs.Shown.{with_previous}
 use Rattle.std.specs.Option.{option_or}
 use Rattle.jr_value.specs.declared.value.Property.{Property}
-use Rattle.std.proofs.Common.{◌≡◌, ◌⊎◌, inl, inr, ℕ, Bool, true, false, cond, not, ◌||◌, ◌&&◌, Some, None, Option, List, [], ◌∷◌, filter_map, map, is_some, refl, sym, ap, ◌∙◌, subst}
+use Rattle.std.proofs.Common.{◌≡◌, ◌⊎◌, inl, inr, ℕ, Bool, true, false, cond, not, ◌||◌, Some, None, Option, List, [], ◌∷◌, filter_map, is_some, refl, sym, ap, ◌∙◌, subst}
 use Rattle.std.proofs.Math.Path.{fun_ext}
 use Rattle.std.specs.Prelude.{◌==◌}
 use Rattle.std.specs.List.{cons_option, filter, list_any}
@@ -28,7 +28,7 @@ use Rattle.jr_rev.specs.declared.revision.Revision.{Revision}
 use Rattle.jr_rev.specs.declared.vector.Pin.{Pin}
 use Rattle.jr_rev.specs.declared.vector.RevVec.{RevVec}
 use Rattle.jr_rev.specs.Revisions.{revision_cmp}
-use Rattle.jr_rev.specs.Vectors.{sees, start_of}
+use Rattle.jr_rev.specs.Vectors.{start_of}
 use Rattle.jr_tree.proofs.Pointwise.{same_path}
 use Rattle.oak_clash.specs.declared.mark.Mark.{Mark}
 use Rattle.oak_clash.specs.declared.mark.Mark.TheVariants.{Exists, Guard, Touch, Prop}
@@ -37,7 +37,6 @@ use Rattle.oak_doc.specs.declared.document.Document.{Document}
 use Rattle.oak_doc.specs.declared.document.PrevEntry.{PrevEntry}
 use Rattle.oak_doc.specs.declared.update.UpdateOp.{UpdateOp}
 use Rattle.oak_doc.specs.Updates.{after_changes, of_revision, values_of_property}
-use Rattle.oak_machine.specs.declared.event.Event.TheVariants as event
 use Rattle.oak_machine.specs.declared.event.StepKind.TheVariants as kind
 use Rattle.oak_machine.specs.History.{Past}
 use Rattle.oak_machine.specs.Commits.{is_committed}
@@ -48,35 +47,37 @@ use Rattle.oak_store.specs.Tables.{Table, next_number, with_document}
 use Rattle.core_read.specs.Holds.{edit_of, the_start}
 use Rattle.core_read.specs.Told.{IsIn}
 use Rattle.core_read.proofs.Told.{edit_committed}
-use Rattle.core_clash.specs.Collecting.{IsBoundOf, MaySplit as MaySplitCore, MayPrune as MayPruneCore, MayRemove as MayRemoveCore, no_documents}
+use Rattle.core_clash.specs.Collecting.{MaySplit as MaySplitCore, MayPrune as MayPruneCore}
 use Rattle.core_clash.specs.Views.{In}
 use Rattle.core_clash.specs.Sound.{Sound, has_moved}
 use Rattle.core_clash.proofs.Basics.{same_revision}
 use Rattle.core_clash.proofs.Dropped.{prune_drops, remove_drops, split_drops}
-use Rattle.core_keep.specs.Dropping.{DropsGarbage, is_number_of}
+use Rattle.core_keep.specs.Dropping.{is_number_of}
 use Rattle.core_keep.specs.Garbage.{is_garbage_previous}
 use Rattle.core_keep.specs.Holding.{IsHoldingStep}
 use Rattle.core_keep.specs.Journal.{course_of, is_bounded, IsHeld, IsKeptWorld}
-use Rattle.core_keep.specs.Splits.{main_write, moved_keys, previous_write}
+use Rattle.core_keep.specs.Splits.{moved_keys, previous_write}
 use Rattle.core_keep.specs.Steps.{IsMainAt, IsMoved, IsPreviousAt, IsPruned, IsUnlisted}
-use Rattle.core_keep.proofs.Collecting.{garbage_keeps, missing_unlisted, removed_garbage_keeps, split_lists, split_writes}
+use Rattle.core_keep.proofs.Collecting.{garbage_keeps, missing_unlisted, removed_garbage_keeps, split_lists}
 use Rattle.core_keep.proofs.Garbage.{garbage_pruned, garbage_unwanted}
 use Rattle.core_keep.proofs.Journal.{edit_is}
 use Rattle.core_keep.proofs.Splits.{split_moved}
 use Rattle.core_keep.proofs.World.{kept_previous}
-use Rattle.core_watch.specs.Instants.{AreListed}
-use Rattle.core_watch.specs.Reading.{Ever, ReadsOn}
+use Rattle.core_keep.specs.Formers.{AreFormers, Former, former_now, Formers, IsCopyOf, with_former}
+use Rattle.core_keep.proofs.Staying.{grows_by}
+use Rattle.core_watch.specs.Reading.{ReadsOn}
+use Rattle.core_watch.proofs.StayingOn.{formers_listed, formers_previous, formers_pruned, formers_removed}
 use Rattle.core_watch.proofs.GoingOn.{on_moved, on_previous, on_pruned, on_removed}
 use Rattle.core_world.specs.Collecting.{MayPrune, MayRemove, MayRemovePrevious, MaySplit, after_change, after_copied, after_pruned, after_removed, after_split, split_now, without}
 use Rattle.core_world.specs.Held.{holding_in}
 use Rattle.core_world.specs.Kept.{AreLayersKept, has_written}
 use Rattle.core_world.specs.States.{State, core_in, moved_in, nodes_in}
 use Rattle.core_world.proofs.Changing.{changed_keeps, changed_rises}
-use Rattle.core_world.proofs.Collects.{filter_listed, in_listed, listed_by, moved_main, pruned_last, pruned_prev, pruned_sweep, root_changed, same_vectors, sound_put, taken_is}
+use Rattle.core_world.proofs.Collects.{filter_listed, in_listed, listed_by, pruned_last, pruned_prev, pruned_sweep, root_changed, same_vectors, sound_put, taken_is}
 use Rattle.core_world.proofs.Telling.{numbered_sound}
 use Rattle.core_keep.proofs.AtPath.{same_listed}
 use Rattle.std.specs.FinMap.{is_sorted}
-use Rattle.core_world.proofs.Tables.{id_itself, one_id, path_itself, put_is, put_main, put_node}
+use Rattle.core_world.proofs.Tables.{id_itself, one_id, path_itself, put_is, put_main}
 
 -- what has an edit is the start or was committed
 pub edit_done : (past : Past) (r : Revision) → is_some (edit_of past r) ≡ true → (r ≡ start_of 1) ⊎ (is_committed past r ≡ true)
@@ -103,17 +104,6 @@ edit_there past q d = by (edit_in (course_of past) q) refl d
     by None e h = absurd (false≢true h)
     by (Some us) e h = (us, e)
 
--- the numbers with one more
-abbrev pub and_number : Ever → Path → ℕ → Ever
-and_number ever p k q n = (eq_by_cmp path_cmp q p && (n == k)) || ever q n
-
-more_numbers : (ever : Ever) (p : Path) (k : ℕ) (q : Path) (n : ℕ) → ever q n ≡ true → and_number ever p k q n ≡ true
-more_numbers ever p k q n h = by (eq_by_cmp path_cmp q p && (n == k))
-  where
-    by : (b : Bool) → (b || ever q n) ≡ true
-    by true = refl
-    by false = h
-
 or_then : (a : Bool) {b : Bool} → b ≡ true → (a || b) ≡ true
 or_then true h = refl
 or_then false h = h
@@ -139,7 +129,7 @@ in_filter {X} pass (x ∷ es) e i = by (pass x) i (in_filter pass es e)
     by true (inr j) rest = inr (rest j)
 
 -- one previous document is this now, or none
-previous_from : (ds now : Documents) (p : Path) (k : ℕ) (o : Option Document) → ((j : DocId) → now j ≡ cond (eq_by_cmp id_cmp j (id.Prev k p)) o (ds j)) → IsPreviousAt ds now p k
+pub previous_from : (ds now : Documents) (p : Path) (k : ℕ) (o : Option Document) → ((j : DocId) → now j ≡ cond (eq_by_cmp id_cmp j (id.Prev k p)) o (ds j)) → IsPreviousAt ds now p k
 previous_from ds now p k o put = record {
   node = λ q. put (id.Node q) ∙ ap (λ b. cond b o (ds (id.Node q))) (apart (id.Node q) (λ h. cc));
   elsewhere = λ j q h. put (id.Prev j q) ∙ ap (λ b. cond b o (ds (id.Prev j q))) (apart (id.Prev j q) (λ e. other_path q h (ap (λ i. path_of_id i) e)));
@@ -180,8 +170,8 @@ module _ (starts : Starts) (says : Says) (proper : StartsProper starts) (w : Sta
   abbrev sound : Sound (core_in w.past w.table kept.sessions.committing.writers)
   sound = kept.sessions.committing.sound
 
-  abbrev ever : Ever
-  ever = kept.sessions.readers.ever
+  abbrev formers : Formers
+  formers = w.formers
 
   abbrev n : ℕ
   n = next_number w.table
@@ -224,43 +214,22 @@ module _ (starts : Starts) (says : Says) (proper : StartsProper starts) (w : Sta
     world_then : IsKeptWorld (documents_in u.documents) w.past (λ r. has_written (kept.sessions.committing.writers r))
     world_then = split_lists read (documents_in w.table.documents) (documents_in u.documents) w.past done p pin old e may.first n world may.there may.order may.number may.counted may.copied main
 
-    listed_then : AreListed (documents_in u.documents) (and_number ever p e.number)
-    listed_then q c is f i = by (eq_by_cmp path_cmp q p) refl
-      where
-        value : (a b : Document) → Some a ≡ Some b → a ≡ b
-        value a b h = ap (λ o. unwrap_or o a) h
+    abbrev more : Formers
+    more = with_former formers p e.number (former_now (course_of w.past) old)
 
-        itself : (m : ℕ) → (m == m) ≡ true
-        itself m = Rattle.core_world.proofs.Flights.number_itself m
+    module _ (new : formers p e.number ≡ None) where
+      formers_then : AreFormers (documents_in u.documents) (course_of w.past) more
+      formers_then = formers_listed (documents_in w.table.documents) (documents_in u.documents) w.past done world p old d e x may.there may.copied main moves formers new kept.sessions.readers.told
 
-        here : (e ≡ f) ⊎ IsIn f old.prev → (b : Bool) → b ≡ true → q ≡ p → ((b && (f.number == e.number)) || ever q f.number) ≡ true
-        here (inl one) false k at = absurd (false≢true k)
-        here (inl one) true k at = ap (λ c. c || ever q f.number) (subst (λ (g : PrevEntry). (g.number == e.number) ≡ true) one (itself e.number))
-        here (inr j) b k at = last b (subst (λ (z : Path). ever z f.number ≡ true) (sym at) (kept.sessions.readers.listed p old may.there f j))
-          where
-            last : (b : Bool) → ever q f.number ≡ true → ((b && (f.number == e.number)) || ever q f.number) ≡ true
-            last b h = either (b && (f.number == e.number)) h
-              where
-                either : (a : Bool) → ever q f.number ≡ true → (a || ever q f.number) ≡ true
-                either true h = refl
-                either false h = h
+    on : (y : Pin) → IsHeld w.past y.base y.sweep → ReadsOn y (documents_in w.table.documents) (documents_in u.documents) w.past w.past
+    on y held = on_moved y (documents_in w.table.documents) (documents_in u.documents) w.past done world held p old d e x may.there may.copied main moves
 
-        by : (b : Bool) → eq_by_cmp path_cmp q p ≡ b → and_number ever p e.number q f.number ≡ true
-        by false h = more_numbers ever p e.number q f.number (kept.sessions.readers.listed q c (sym (main.elsewhere.node q h) ∙ is) f i)
-        by true h =
-            let at : q ≡ p = same_path q p h in
-            let its : c ≡ d = value c d (sym is ∙ (ap (λ (z : Path). documents_in u.documents (id.Node z)) at ∙ main.at)) in
-            here (subst (λ l. IsIn f l) (ap (λ (y : Document). y.prev) its ∙ moves.prev) i) (eq_by_cmp path_cmp q p) h at
-
-    on : (y : Pin) → IsHeld w.past y.base y.sweep → ReadsOn y ever (documents_in w.table.documents) (documents_in u.documents) w.past w.past
-    on y held = on_moved y ever (documents_in w.table.documents) (documents_in u.documents) w.past done world held p old d e x may.there may.copied main moves
-
-    pub split_keeps : AreLayersKept starts says (after_split w s read pin p old e)
-    split_keeps = changed_keeps starts says proper w kept s login stays kind.Split refl refl u sound_then world_then (and_number ever p e.number) (more_numbers ever p e.number) listed_then on
+    pub split_keeps : formers p e.number ≡ None → AreLayersKept starts says (after_split w s read pin p old e)
+    split_keeps new = changed_keeps starts says proper w kept s login stays kind.Split refl refl u sound_then world_then more (grows_by formers p e.number (former_now (course_of w.past) old) new) (formers_then new) on
         (root_changed w.clusters w.past w.table u p old d main may.there (same_vectors (moved_keys read pin old) old).0 (same_vectors (moved_keys read pin old) old).1 kept.root) (put_is w.table (id.Node p) d n id.Settings)
 
-    pub split_rises : IsHoldingStep (holding_in w) (holding_in (after_split w s read pin p old e))
-    split_rises = changed_rises starts says proper w kept s login stays kind.Split refl refl u sound_then world_then (and_number ever p e.number) (more_numbers ever p e.number) listed_then on
+    pub split_rises : formers p e.number ≡ None → IsHoldingStep (holding_in w) (holding_in (after_split w s read pin p old e))
+    split_rises new = changed_rises starts says proper w kept s login stays kind.Split refl refl u sound_then world_then more (grows_by formers p e.number (former_now (course_of w.past) old) new) (formers_then new) on
         (root_changed w.clusters w.past w.table u p old d main may.there (same_vectors (moved_keys read pin old) old).0 (same_vectors (moved_keys read pin old) old).1 kept.root) (put_is w.table (id.Node p) d n id.Settings)
 
   -- ---- a split writes a previous document that isn't there
@@ -299,20 +268,20 @@ module _ (starts : Starts) (says : Says) (proper : StartsProper starts) (w : Sta
     previous_world : IsKeptWorld (documents_in u.documents) w.past (λ r. has_written (kept.sessions.committing.writers r))
     previous_world = kept_previous (documents_in w.table.documents) (documents_in u.documents) w.past done world p k change unlisted
 
-    module _ (way : (documents_in u.documents (id.Prev k p) ≡ None) ⊎ (ever p k ≡ false)) (set : documents_in u.documents id.Settings ≡ documents_in w.table.documents id.Settings) (step : Rattle.oak_machine.specs.declared.event.StepKind.StepKind)
+    module _ (copied : (f : Former) (x : Document) → formers p k ≡ Some f → documents_in u.documents (id.Prev k p) ≡ Some x → IsCopyOf p k f x) (set : documents_in u.documents id.Settings ≡ documents_in w.table.documents id.Settings) (step : Rattle.oak_machine.specs.declared.event.StepKind.StepKind)
         (other : Rattle.oak_machine.specs.Steps.is_kind step kind.End ≡ false) (apart : Rattle.oak_machine.specs.Steps.is_kind step kind.Pin ≡ false) where
-      previous_on : (y : Pin) → IsHeld w.past y.base y.sweep → ReadsOn y ever (documents_in w.table.documents) (documents_in u.documents) w.past w.past
-      previous_on y held = on_previous y ever (documents_in w.table.documents) (documents_in u.documents) w.past done world held p k change unlisted way
+      previous_on : (y : Pin) → IsHeld w.past y.base y.sweep → ReadsOn y (documents_in w.table.documents) (documents_in u.documents) w.past w.past
+      previous_on y held = on_previous y (documents_in w.table.documents) (documents_in u.documents) w.past done world held p k change unlisted
 
-      previous_listed : AreListed (documents_in u.documents) ever
-      previous_listed q c is f i = kept.sessions.readers.listed q c (sym (change.node q) ∙ is) f i
+      previous_formers : AreFormers (documents_in u.documents) (course_of w.past) formers
+      previous_formers = formers_previous (documents_in w.table.documents) (documents_in u.documents) w.past done world p k change unlisted formers copied kept.sessions.readers.told
 
       pub previous_keeps : AreLayersKept starts says (after_change w s step u)
-      previous_keeps = changed_keeps starts says proper w kept s login stays step other apart u previous_sound previous_world ever (λ q j h. h) previous_listed previous_on
+      previous_keeps = changed_keeps starts says proper w kept s login stays step other apart u previous_sound previous_world formers (λ q j f h. h) previous_formers previous_on
           (record { document = kept.root.document; there = change.node [] ∙ kept.root.there; tells = kept.root.tells }) set
 
       pub previous_rises : IsHoldingStep (holding_in w) (holding_in (after_change w s step u))
-      previous_rises = changed_rises starts says proper w kept s login stays step other apart u previous_sound previous_world ever (λ q j h. h) previous_listed previous_on
+      previous_rises = changed_rises starts says proper w kept s login stays step other apart u previous_sound previous_world formers (λ q j f h. h) previous_formers previous_on
           (record { document = kept.root.document; there = change.node [] ∙ kept.root.there; tells = kept.root.tells }) set
 
   module _ (p : Path) (k : ℕ) where
@@ -322,21 +291,25 @@ module _ (starts : Starts) (says : Says) (proper : StartsProper starts) (w : Sta
     take_previous : is_sorted id_cmp w.table.documents ≡ true → IsPreviousAt (documents_in w.table.documents) (documents_in (without w.table (id.Prev k p)).documents) p k
     take_previous sorted = previous_from (documents_in w.table.documents) (documents_in (without w.table (id.Prev k p)).documents) p k None (λ j. taken_is w.table (id.Prev k p) j sorted)
 
-    pub copied_keeps : (x : Document) → documents_in w.table.documents (id.Prev k p) ≡ None → kept.sessions.readers.ever p k ≡ false → AreLayersKept starts says (after_copied w s p k x)
-    copied_keeps x none new = previous_keeps (with_document w.table (id.Prev k p) x n) p k (put_previous x) (missing_unlisted (documents_in w.table.documents) w.past done world p k none) (inr new) (put_is w.table (id.Prev k p) x n id.Settings) kind.Split refl refl
+    -- what a split writes is a copy of what a former document of its number had
+    put_copied : (x : Document) → ((f : Former) → formers p k ≡ Some f → IsCopyOf p k f x) → (f : Former) (y : Document) → formers p k ≡ Some f → documents_in (with_document w.table (id.Prev k p) x n).documents (id.Prev k p) ≡ Some y → IsCopyOf p k f y
+    put_copied x copied f y h there = subst (λ (z : Document). IsCopyOf p k f z) (ap (λ o. unwrap_or o x) (sym (put_is w.table (id.Prev k p) x n (id.Prev k p) ∙ ap (λ b. cond b (Some x) (documents_in w.table.documents (id.Prev k p))) (id_itself (id.Prev k p))) ∙ there)) (copied f h)
 
-    pub copied_rises : (x : Document) → documents_in w.table.documents (id.Prev k p) ≡ None → kept.sessions.readers.ever p k ≡ false → IsHoldingStep (holding_in w) (holding_in (after_copied w s p k x))
-    copied_rises x none new = previous_rises (with_document w.table (id.Prev k p) x n) p k (put_previous x) (missing_unlisted (documents_in w.table.documents) w.past done world p k none) (inr new) (put_is w.table (id.Prev k p) x n id.Settings) kind.Split refl refl
+    pub copied_keeps : (x : Document) → documents_in w.table.documents (id.Prev k p) ≡ None → ((f : Former) → formers p k ≡ Some f → IsCopyOf p k f x) → AreLayersKept starts says (after_copied w s p k x)
+    copied_keeps x none new = previous_keeps (with_document w.table (id.Prev k p) x n) p k (put_previous x) (missing_unlisted (documents_in w.table.documents) w.past done world p k none) (put_copied x new) (put_is w.table (id.Prev k p) x n id.Settings) kind.Split refl refl
+
+    pub copied_rises : (x : Document) → documents_in w.table.documents (id.Prev k p) ≡ None → ((f : Former) → formers p k ≡ Some f → IsCopyOf p k f x) → IsHoldingStep (holding_in w) (holding_in (after_copied w s p k x))
+    copied_rises x none new = previous_rises (with_document w.table (id.Prev k p) x n) p k (put_previous x) (missing_unlisted (documents_in w.table.documents) w.past done world p k none) (put_copied x new) (put_is w.table (id.Prev k p) x n id.Settings) kind.Split refl refl
 
     module _ (may : MayRemovePrevious w p k) where
       gone : documents_in (without w.table (id.Prev k p)).documents (id.Prev k p) ≡ None
       gone = taken_is w.table (id.Prev k p) (id.Prev k p) may.sorted ∙ ap (λ b. cond b None (documents_in w.table.documents (id.Prev k p))) (id_itself (id.Prev k p))
 
       pub unlisted_goes : AreLayersKept starts says (after_removed w s (id.Prev k p))
-      unlisted_goes = previous_keeps (without w.table (id.Prev k p)) p k (take_previous may.sorted) may.unlisted (inl gone) (taken_is w.table (id.Prev k p) id.Settings may.sorted) kind.Collect refl refl
+      unlisted_goes = previous_keeps (without w.table (id.Prev k p)) p k (take_previous may.sorted) may.unlisted (λ f x h there. absurd (false≢true (ap is_some (sym gone ∙ there)))) (taken_is w.table (id.Prev k p) id.Settings may.sorted) kind.Collect refl refl
 
       pub unlisted_rises : IsHoldingStep (holding_in w) (holding_in (after_removed w s (id.Prev k p)))
-      unlisted_rises = previous_rises (without w.table (id.Prev k p)) p k (take_previous may.sorted) may.unlisted (inl gone) (taken_is w.table (id.Prev k p) id.Settings may.sorted) kind.Collect refl refl
+      unlisted_rises = previous_rises (without w.table (id.Prev k p)) p k (take_previous may.sorted) may.unlisted (λ f x h there. absurd (false≢true (ap is_some (sym gone ∙ there)))) (taken_is w.table (id.Prev k p) id.Settings may.sorted) kind.Collect refl refl
 
   -- ---- a collection prunes a document
 
@@ -393,32 +366,24 @@ module _ (starts : Starts) (says : Says) (proper : StartsProper starts) (w : Sta
     pruned_world : IsKeptWorld (documents_in pruned_table.documents) w.past (λ r. has_written (kept.sessions.committing.writers r))
     pruned_world = garbage_keeps (documents_in w.table.documents) (documents_in pruned_table.documents) w.past done m t p old op n may.keys may.numbers world may.bound.bounded may.bound.swept may.there may.order may.garbage pruned_main
 
-    pruned_listed : AreListed (documents_in pruned_table.documents) ever
-    pruned_listed q c is f i = by (eq_by_cmp path_cmp q p) refl
-      where
-        value : (a b : Document) → Some a ≡ Some b → a ≡ b
-        value a b h = ap (λ o. unwrap_or o a) h
+    pruned_is : Rattle.core_keep.specs.Steps.IsPruned (documents_in w.table.documents) (course_of w.past) p old then
+    pruned_is = garbage_pruned (documents_in w.table.documents) (course_of w.past) p m t may.bound.bounded (λ r h. or_then (eq_by_cmp revision_cmp r the_start) (may.bound.swept r h)) old op n may.keys may.numbers ((world.keeps p).named old may.there) may.order may.garbage
 
-        by : (b : Bool) → eq_by_cmp path_cmp q p ≡ b → ever q f.number ≡ true
-        by false h = kept.sessions.readers.listed q c (sym (pruned_main.elsewhere.node q h) ∙ is) f i
-        by true h =
-            let at : q ≡ p = same_path q p h in
-            let its : c ≡ then = value c then (sym is ∙ (ap (λ (z : Path). documents_in pruned_table.documents (id.Node z)) at ∙ pruned_main.at)) in
-            subst (λ (z : Path). ever z f.number ≡ true) (sym at) (kept.sessions.readers.listed p old may.there f
-            (in_filter (λ f. not (is_number_of may.numbers f)) old.prev f (subst (λ l. IsIn f l) (ap (λ (y : Document). y.prev) its ∙ pruned_prev (documents_in w.table.documents) m t p old op n may.keys may.numbers may.garbage) i)))
+    pruned_formers : AreFormers (documents_in pruned_table.documents) (course_of w.past) formers
+    pruned_formers = formers_pruned (documents_in w.table.documents) (documents_in pruned_table.documents) w.past done world p old then may.there pruned_main pruned_is formers kept.sessions.readers.told
 
-    pruned_on : (y : Pin) → IsHeld w.past y.base y.sweep → ReadsOn y ever (documents_in w.table.documents) (documents_in pruned_table.documents) w.past w.past
-    pruned_on y held = on_pruned y ever (documents_in w.table.documents) (documents_in pruned_table.documents) w.past done world held p old then may.there pruned_main
-        (garbage_pruned (documents_in w.table.documents) (course_of w.past) p m t may.bound.bounded (λ r h. or_then (eq_by_cmp revision_cmp r the_start) (may.bound.swept r h)) old op n may.keys may.numbers ((world.keeps p).named old may.there) may.order may.garbage)
+    pruned_on : (y : Pin) → IsHeld w.past y.base y.sweep → ReadsOn y (documents_in w.table.documents) (documents_in pruned_table.documents) w.past w.past
+    pruned_on y held = on_pruned y (documents_in w.table.documents) (documents_in pruned_table.documents) w.past done world held p old then may.there pruned_main
+        pruned_is
 
     pruned_root : Rattle.core_world.specs.Kept.IsRootKept w.clusters w.past pruned_table
     pruned_root = root_changed w.clusters w.past w.table pruned_table p old then pruned_main may.there (pruned_last (documents_in w.table.documents) m t p old op n may.keys may.numbers may.garbage) (pruned_sweep (documents_in w.table.documents) m t p old op n may.keys may.numbers may.garbage) kept.root
 
     pub pruned_keeps : AreLayersKept starts says (after_pruned w s p old op)
-    pruned_keeps = changed_keeps starts says proper w kept s login stays kind.Collect refl refl pruned_table pruned_sound pruned_world ever (λ q j h. h) pruned_listed pruned_on pruned_root (put_is w.table (id.Node p) then n id.Settings)
+    pruned_keeps = changed_keeps starts says proper w kept s login stays kind.Collect refl refl pruned_table pruned_sound pruned_world formers (λ q j f h. h) pruned_formers pruned_on pruned_root (put_is w.table (id.Node p) then n id.Settings)
 
     pub pruned_rises : IsHoldingStep (holding_in w) (holding_in (after_pruned w s p old op))
-    pruned_rises = changed_rises starts says proper w kept s login stays kind.Collect refl refl pruned_table pruned_sound pruned_world ever (λ q j h. h) pruned_listed pruned_on pruned_root (put_is w.table (id.Node p) then n id.Settings)
+    pruned_rises = changed_rises starts says proper w kept s login stays kind.Collect refl refl pruned_table pruned_sound pruned_world formers (λ q j f h. h) pruned_formers pruned_on pruned_root (put_is w.table (id.Node p) then n id.Settings)
 
   -- ---- a document of an absent node goes
 
@@ -517,21 +482,17 @@ module _ (starts : Starts) (says : Says) (proper : StartsProper starts) (w : Sta
     removed_world : IsKeptWorld (documents_in left.documents) w.past (λ r. has_written (kept.sessions.committing.writers r))
     removed_world = removed_garbage_keeps (documents_in w.table.documents) (documents_in left.documents) w.past done m t p old world may.bound.bounded may.bound.swept may.there may.garbage elsewhere left_gone
 
-    removed_listed : AreListed (documents_in left.documents) ever
-    removed_listed q c is f i = by (eq_by_cmp path_cmp q p) refl
-      where
-        by : (b : Bool) → eq_by_cmp path_cmp q p ≡ b → ever q f.number ≡ true
-        by false h = kept.sessions.readers.listed q c (sym (left_nodes q h) ∙ is) f i
-        by true h = absurd (false≢true (ap is_some (sym left_gone ∙ (ap (nodes_in left) (sym (same_path q p h)) ∙ is))))
+    removed_formers : AreFormers (documents_in left.documents) (course_of w.past) formers
+    removed_formers = formers_removed (documents_in w.table.documents) (documents_in left.documents) w.past done world p old may.there elsewhere left_gone left_previous unwanted formers kept.sessions.readers.told
 
-    removed_on : (y : Pin) → IsHeld w.past y.base y.sweep → ReadsOn y ever (documents_in w.table.documents) (documents_in left.documents) w.past w.past
-    removed_on y held = on_removed y ever (documents_in w.table.documents) (documents_in left.documents) w.past done world held p old may.there elsewhere left_gone (λ k. left_previous k p) unwanted
+    removed_on : (y : Pin) → IsHeld w.past y.base y.sweep → ReadsOn y (documents_in w.table.documents) (documents_in left.documents) w.past w.past
+    removed_on y held = on_removed y (documents_in w.table.documents) (documents_in left.documents) w.past done world held p old may.there elsewhere left_gone (λ k. left_previous k p) unwanted
 
     removed_root : Rattle.core_world.specs.Kept.IsRootKept w.clusters w.past left
     removed_root = record { document = kept.root.document; there = left_nodes [] may.below ∙ kept.root.there; tells = kept.root.tells }
 
     pub removed_keeps : AreLayersKept starts says (after_removed w s (id.Node p))
-    removed_keeps = changed_keeps starts says proper w kept s login stays kind.Collect refl refl left removed_sound removed_world ever (λ q j h. h) removed_listed removed_on removed_root (left_other id.Settings (λ h. cc))
+    removed_keeps = changed_keeps starts says proper w kept s login stays kind.Collect refl refl left removed_sound removed_world formers (λ q j f h. h) removed_formers removed_on removed_root (left_other id.Settings (λ h. cc))
 
     pub removed_rises : IsHoldingStep (holding_in w) (holding_in (after_removed w s (id.Node p)))
-    removed_rises = changed_rises starts says proper w kept s login stays kind.Collect refl refl left removed_sound removed_world ever (λ q j h. h) removed_listed removed_on removed_root (left_other id.Settings (λ h. cc))
+    removed_rises = changed_rises starts says proper w kept s login stays kind.Collect refl refl left removed_sound removed_world formers (λ q j f h. h) removed_formers removed_on removed_root (left_other id.Settings (λ h. cc))

@@ -1,4 +1,5 @@
 -- What is true of each world that is kept.
+use Rattle.core_nodes.proofs.Pins.{pinned_alive}
 use Rattle.oak_clash.specs.declared.mark.Mark.{Mark}
 use Rattle.core_clash.specs.Sound.{marked_in}
 use Rattle.oak_commit.specs.Looking.{whole}
@@ -28,7 +29,7 @@ use Rattle.oak_machine.specs.History.{Past}
 use Rattle.oak_machine.specs.Commits.{IsClosed, IsSettled, are_clashing, draw_of, is_committed, is_drawn, is_ended, is_in_base, is_in_flight, is_refused, refusal_of, tree_at}
 use Rattle.oak_machine.specs.Laws.{Says, Starts, StartsProper}
 use Rattle.oak_machine.specs.Runs.{AreNodes, IsNode, IsRunOf}
-use Rattle.oak_machine.specs.Sessions.{base_of, has_left, has_login, is_attached}
+use Rattle.oak_machine.specs.Sessions.{base_of, has_left, has_login, is_attached, is_stopped, is_stopped_under}
 use Rattle.oak_node.specs.Heads.{IsInFlight, known_time}
 use Rattle.oak_node.specs.Pins.{pin_of}
 use Rattle.oak_read.specs.Meaning.{documents_in, found_node}
@@ -51,10 +52,10 @@ use Rattle.core_nodes.specs.Nodes.{IsPair, base_of_pin}
 use Rattle.core_nodes.proofs.Times.{known_events}
 use Rattle.core_nodes.proofs.Waits.{flying_is}
 use Rattle.core_world.specs.Kept.{IsFreeOf, AreSessionsKept}
-use Rattle.core_world.specs.States.{State, base_in, core_in, memory_at, memory_of, nodes_in}
+use Rattle.core_world.specs.States.{State, base_in, core_in, memory_at, memory_of, node_of, nodes_in}
 use Rattle.core_world.proofs.Commits.{on_its_node}
 use Rattle.core_world.proofs.Draws.{base_is, its_base, its_pair, some_pin}
-use Rattle.core_world.proofs.Lives.{session_there, told}
+use Rattle.core_world.proofs.Lives.{its_node, node_alive, session_there, told}
 use Rattle.core_world.proofs.Readers.{HasBase, based_is, pinned_held}
 
 -- the commit root of a drawn revision stays, whatever follows
@@ -74,31 +75,32 @@ module _ (starts : Starts) (says : Says) (proper : StartsProper starts) (w : Sta
 
   module _ (s : ℕ) (there : is_some (slice_get w.sessions s) ≡ true) (pin : Pin) (has_pin : pin_of (memory_of w s) s ≡ Some pin) where
     based : HasBase w.past s pin.base
-    based = based_is w.past s pin.base (sym (its_base starts says proper w kept s there) ∙ ap base_of_pin has_pin)
+    based = based_is w.past s pin.base (sym (its_base starts says proper w kept s there (pinned_alive w.sessions w.past (node_of w s) (memory_of w s) (kept.memories.pins (node_of w s) (its_node starts says proper w kept s there)) s pin has_pin)) ∙ ap base_of_pin has_pin)
 
-    held : IsHeld None w.past pin.base
-    held = pinned_held starts says w.clusters w.sessions kept.nodes w.past kept.run s pin.base based.base
+    pub pin_held : IsHeld None w.past pin.base
+    pin_held = pinned_held starts says w.clusters w.sessions kept.nodes w.past kept.run s pin.base based.base
 
     pub pin_settled : IsSettled w.past pin.base
-    pin_settled = held_settled None w.past pin.base held
+    pin_settled = held_settled None w.past pin.base pin_held
 
     pub pin_closed : IsClosed w.past pin.base
-    pin_closed = closed_run w.clusters w.sessions kept.nodes None starts says w.past kept.run pin.base held
+    pin_closed = closed_run w.clusters w.sessions kept.nodes None starts says w.past kept.run pin.base pin_held
 
     pub pin_shows : IsAboveBounds w.past pin → (p : Path) → found_node (documents_in w.table.documents) pin.sweep pin.base p ≡ node_at (tree_at None w.past pin.base) p
     pin_shows above p =
         let world = kept.committing.kept in
         reading (documents_in w.table.documents) w.past pin.base pin.sweep world.keeps world.told world.separate world.bounded world.swept
-        (pair_held w.past pin (held_in_use None w.past pin.base held) (its_pair starts says proper w kept s there pin has_pin) above) p
+        (pair_held w.past pin (held_in_use None w.past pin.base pin_held) (its_pair starts says proper w kept s there pin has_pin) above) p
 
   -- a session that is there has a pin, at its base
-  pub pin_there : (s : ℕ) → has_login w.past s ≡ true → has_left w.past s ≡ false → (pin : Pin) × (pin_of (memory_of w s) s ≡ Some pin) × (pin.base ≡ base_in w s) × (is_attached w.past s ≡ false → base_of w.past s ≡ Some (base_in w s)) × IsPair pin.base pin.sweep
-  pin_there s login stays =
-      let p = some_pin starts says proper w kept s login stays in (
+  pub pin_there : (s : ℕ) → is_stopped_under w.sessions w.past s ≡ false → has_login w.past s ≡ true → has_left w.past s ≡ false → (pin : Pin) × (pin_of (memory_of w s) s ≡ Some pin) × (pin.base ≡ base_in w s) × (is_attached w.past s ≡ false → base_of w.past s ≡ Some (base_in w s)) × IsPair pin.base pin.sweep
+  pin_there s on login stays =
+      let alive = node_alive starts says proper w kept s (session_there starts says proper w kept s login) on in
+      let p = some_pin starts says proper w kept s alive login stays in (
         p.0,
         p.1,
         sym (ap (λ (o : Option Pin). option_map_or (λ (pin : Pin). pin.base) o (memory_of w s).head) p.1),
-        base_is starts says proper w kept s login stays,
+        base_is starts says proper w kept s alive login stays,
         its_pair starts says proper w kept s (session_there starts says proper w kept s login) p.0 p.1,
       )
 
@@ -158,7 +160,7 @@ module _ (starts : Starts) (says : Says) (proper : StartsProper starts) (w : Sta
   pub has_cause : (r : Revision) (item : Item) (o : Revision) → refusal_of w.past r ≡ Some (item, o) → Cause w.past r item o
   has_cause r item o h = kept.committing.sound.refusal r item o h
 
-  pub comes_through : (r : Revision) → is_ended w.past r ≡ true → ((o : Revision) → (r ≡ o → ⊥) → is_drawn w.past o ≡ true → is_in_base w.past r o ≡ false → are_clashing w.past r o ≡ false) → (is_committed w.past r ≡ true) ⊎ (((kept.committing.writers r).wants ≡ true) × (is_refused w.past r ≡ false))
+  pub comes_through : (r : Revision) → is_ended w.past r ≡ true → ((o : Revision) → (r ≡ o → ⊥) → is_drawn w.past o ≡ true → is_in_base w.past r o ≡ false → are_clashing w.past r o ≡ false) → (is_committed w.past r ≡ true) ⊎ (((kept.committing.writers r).wants ≡ true) × (is_refused w.past r ≡ false)) ⊎ (is_stopped w.past r.cluster ≡ true)
   comes_through r ended apart = by (test (kept.committing.writers r).wants)
     where
       no_cause : (item : Item) (o : Revision) → Cause w.past r item o → ⊥
@@ -168,9 +170,13 @@ module _ (starts : Starts) (says : Says) (proper : StartsProper starts) (w : Sta
       unrefused false h = refl
       unrefused true h = let c = refused_for w.past r h in absurd (no_cause c.0.0 c.0.1 (has_cause r c.0.0 c.0.1 c.1))
 
-      by : ((kept.committing.writers r).wants ≡ true) ⊎ ((kept.committing.writers r).wants ≡ false) → (is_committed w.past r ≡ true) ⊎ (((kept.committing.writers r).wants ≡ true) × (is_refused w.past r ≡ false))
-      by (inl h) = inr (h, unrefused (is_refused w.past r) refl)
-      by (inr h) = inl (complete (core_in w.past w.table kept.committing.writers) r kept.committing.sound ended h apart)
+      going : (kept.committing.writers r).wants ≡ false → (b : Bool) → is_stopped w.past r.cluster ≡ b → (is_committed w.past r ≡ true) ⊎ (((kept.committing.writers r).wants ≡ true) × (is_refused w.past r ≡ false)) ⊎ (is_stopped w.past r.cluster ≡ true)
+      going h true e = inr (inr e)
+      going h false e = inl (complete (core_in w.past w.table kept.committing.writers) r kept.committing.sound ended e h apart)
+
+      by : ((kept.committing.writers r).wants ≡ true) ⊎ ((kept.committing.writers r).wants ≡ false) → (is_committed w.past r ≡ true) ⊎ (((kept.committing.writers r).wants ≡ true) × (is_refused w.past r ≡ false)) ⊎ (is_stopped w.past r.cluster ≡ true)
+      by (inl h) = inr (inl (h, unrefused (is_refused w.past r) refl))
+      by (inr h) = going h (is_stopped w.past r.cluster) refl
 
   -- what ended without a commit has left nothing
   module _ (r : Revision) (ended : is_ended w.past r ≡ true) (uncommitted : is_committed w.past r ≡ false) where

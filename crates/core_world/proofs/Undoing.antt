@@ -1,5 +1,5 @@
--- A committer undoes a document.
-use Rattle.std.proofs.Common.{◌≡◌, ℕ, Bool, true, false, cond, not, ◌&&◌, Some, None, Option, List, ◌∷◌, ◌++◌, refl, sym, ap, subst, ◌∙◌, []}
+-- A revision is undone in a document: by its committer, or by a recovery of its cluster node.
+use Rattle.std.proofs.Common.{◌≡◌, ℕ, Bool, true, false, cond, not, ◌&&◌, ◌||◌, ◌⊎◌, inl, inr, Some, None, Option, List, ◌∷◌, ◌++◌, refl, sym, ap, subst, ◌∙◌, []}
 use Rattle.std.specs.Ordering.{eq_by_cmp}
 use mathlib.Core.Bool.{false≢true}
 use Rattle.jr_path.specs.Names.{path_cmp}
@@ -13,34 +13,39 @@ use Rattle.oak_clash.specs.Clashes.{commit_root}
 use Rattle.oak_commit.specs.Clashing.{Writer, undo_op}
 use Rattle.oak_doc.specs.declared.document.Document.{Document}
 use Rattle.oak_doc.specs.Updates.{updated, undone}
+use Rattle.oak_machine.specs.Sessions.{is_stopped}
 use Rattle.oak_machine.specs.declared.event.Draw.{Draw}
 use Rattle.oak_machine.specs.declared.event.Event.TheVariants as event
 use Rattle.oak_machine.specs.declared.event.StepKind.TheVariants as kind
 use Rattle.oak_machine.specs.History.{Past}
-use Rattle.oak_machine.specs.Commits.{draw_of, is_in_flight}
+use Rattle.oak_machine.specs.Commits.{draw_of, is_ended, is_in_flight}
 use Rattle.oak_read.specs.Meaning.{Documents, documents_in}
 use Rattle.oak_store.specs.Tables.{Table, after_undo, next_number}
 use Rattle.core_read.specs.Committing.{IsPartly, IsUnwritten}
-use Rattle.jr_rev.specs.declared.vector.RevVec.{RevVec}
 use Rattle.core_read.specs.Holds.{IsSameBut, edit_of}
 use Rattle.core_read.specs.Told.{IsTold}
 use Rattle.core_read.proofs.Updates.{undo_same}
-use Rattle.core_keep.specs.Journal.{with_progress, IsKeptWorld}
+use Rattle.core_keep.specs.Journal.{course_of, with_progress, IsKeptWorld}
 use Rattle.core_keep.proofs.Events.{kept_idle}
 use Rattle.core_keep.proofs.World.{kept_undo_op}
-use Rattle.core_watch.specs.Instants.{AreListed}
+use Rattle.core_keep.specs.Formers.{AreFormers}
 use Rattle.core_watch.specs.Reading.{IsReading}
 use Rattle.core_watch.proofs.GoingOn.{on_undo}
-use Rattle.core_world.proofs.Letting.{LetsRead, lets_event, lets_on, lets_then, lists_main}
+use Rattle.core_watch.proofs.StayingOn.{formers_undo}
+use Rattle.core_world.proofs.Letting.{LetsRead, lets_event, lets_on, lets_then}
 use Rattle.std.specs.List.{filter_map}
 use Rattle.std.specs.Option.{option_map_or}
-use Rattle.core_clash.specs.Core.{Docs, MayUndo, docs_after, with_writer}
-use Rattle.core_clash.specs.Sessions.{Running}
+use Rattle.core_clash.specs.Core.{Docs, IsDead, MayUndo, cleared, docs_after, with_writer, without_path}
+use Rattle.core_clash.specs.Sessions.{IsTheirs, Running}
 use Rattle.core_clash.specs.Sound.{Sound}
 use Rattle.core_clash.specs.Views.{AreOrdered, In, Once}
-use Rattle.core_clash.proofs.Basics.{In-left}
+use Rattle.core_clash.proofs.Basics.{In-left, decide, same_path, writer_other}
+use Rattle.core_clash.proofs.Effects.{Undoes}
+use Rattle.core_clash.proofs.Finished.{event_keeps}
+use Rattle.core_clash.proofs.Pasts.{in_flight}
+use Rattle.core_read.proofs.Told.{no_edit}
 use Rattle.core_clash.proofs.Undoing.{undoes}
-use Rattle.core_clash.proofs.Undone.{undo_keeps}
+use Rattle.core_clash.proofs.Undone.{clear_keeps, undo_keeps}
 use Rattle.core_world.specs.States.{core_in, moved_in, nodes_in, with_session}
 use Rattle.core_world.specs.Steps.{paths_to_write}
 use Rattle.core_world.specs.Kept.{AreCommitting}
@@ -53,7 +58,7 @@ once_first : (p : Path) (rest left : List Path) → Once ((p ∷ rest) ++ left) 
 once_first p rest left once h = once.0 (In-left p rest left h)
 
 -- a document that isn't there has nothing written
-none_unwritten : (r : Revision) → IsUnwritten None r
+pub none_unwritten : (r : Revision) → IsUnwritten None r
 none_unwritten r = record { node = refl; prop = λ n. refl; root = refl }
 
 module _ (ds : Documents) (r : Revision) (ws : List Write) (root p : Path) (done : Path → Bool) (none : ds (id.Node p) ≡ None) where
@@ -68,52 +73,36 @@ module _ (ds : Documents) (r : Revision) (ws : List Write) (root p : Path) (done
       by q true k h = subst (λ (o : Option Document). IsUnwritten o r) (sym (ap (λ (y : Path). ds (id.Node y)) (Rattle.core_clash.proofs.Basics.same_path q p k) ∙ none)) (none_unwritten r)
       by q false k h = part.left q h
 
-module _ (past : Past) (t : Table) (running : ℕ → Option Running) (a : AreCommitting past t running) (told : IsTold past) (s : ℕ) (x : Running) (here : running s ≡ Some x) (uncommitted : x.committed ≡ false) (undoing : x.writer.undoing ≡ true)
-    (p : Path) (rest : List Path) (next : x.writer.written ≡ p ∷ rest) where
+-- a revision in flight that isn't committed is undone in a document
+module _ (past : Past) (t : Table) (running : ℕ → Option Running) (a : AreCommitting past t running) (told : IsTold past) (d : Draw) (drawn : draw_of past d.revision ≡ Some d) (flying : is_in_flight past d.revision ≡ true) (open_ : edit_of past d.revision ≡ None) (p : Path) where
   abbrev r : Revision
-  r = x.draw.revision
+  r = d.revision
 
   abbrev n : ℕ
   n = next_number t
 
   abbrev now : Table
-  now = after_undo t (id.Node p) x.draw.revision
+  now = after_undo t (id.Node p) d.revision
 
-  abbrev less_done : Writer → Writer
-  less_done w = record w { written = rest }
+  abbrev docs_now : Docs
+  docs_now = docs_after (nodes_in t) p (updated (nodes_in t p) (undo_op r p) n)
 
-  abbrev later : Past
-  later = event.Went x.draw.session kind.Undo ∷ past
-
-  may : MayUndo (core_in past t a.writers) x.draw p rest
-  may =
-      let m = mine past t running a told s x here in
-      record { draw = m.draw; unended = m.unended; undoing = ap (λ (w : Writer). w.undoing) m.writer ∙ undoing; next = ap (λ (w : Writer). w.written) m.writer ∙ next }
-
-  -- p stands once
-  gone : In p rest → ⊥
-  gone = once_first p rest (a.writers r).left (subst (λ (ps : List Path). Once (ps ++ (a.writers r).left)) may.next (a.sound.once r))
-
-  nodes_now : nodes_in now ≡ docs_after (nodes_in t) p (updated (nodes_in t p) (undo_op r p) n)
+  nodes_now : nodes_in now ≡ docs_now
   nodes_now = by (nodes_in t p) refl
     where
       by : (o : Option Document) → nodes_in t p ≡ o → nodes_in now ≡ docs_after (nodes_in t) p (updated o (undo_op r p) n)
       by None is = ap (λ (es : List (DocId × Document)). λ (q : Path). documents_in es (id.Node q)) (undo_none t p r is)
-      by (Some d) is = undo_node t p r d is
-
-  -- what is written then
-  shrinks : (q : Path) → (not (eq_by_cmp path_cmp q p) && is_among (a.writers r).written q) ≡ is_among rest q
-  shrinks q = ap (λ (ps : List Path). not (eq_by_cmp path_cmp q p) && is_among ps q) may.next ∙ among_less rest p q gone
+      by (Some f) is = undo_node t p r f is
 
   -- the document is in order, where it is there
-  sorted_at : (d : Document) → nodes_in t p ≡ Some d → AreOrdered p (Some d)
-  sorted_at d is = subst (λ (o : Option Document). AreOrdered p o) is (a.sound.ordered p)
+  sorted_at : (f : Document) → nodes_in t p ≡ Some f → AreOrdered p (Some f)
+  sorted_at f is = subst (λ (o : Option Document). AreOrdered p o) is (a.sound.ordered p)
 
-  same_but : (d : Document) → nodes_in t p ≡ Some d → IsSameBut r p (nodes_in t p) (undone d r n)
-  same_but d is =
-      let o = sorted_at d is in
-      let same = undo_same r p d o.0 o.1 in
-      subst (λ (before : Option Document). IsSameBut r p before (undone d r n)) (sym is) (record { at = λ q k. record { here = (same.at q k).here; prop = (same.at q k).prop; root = (same.at q k).root }; said = same.said; whole = same.whole; named = same.named })
+  same_but : (f : Document) → nodes_in t p ≡ Some f → IsSameBut r p (nodes_in t p) (undone f r n)
+  same_but f is =
+      let o = sorted_at f is in
+      let same = undo_same r p f o.0 o.1 in
+      subst (λ (before : Option Document). IsSameBut r p before (undone f r n)) (sym is) (record { at = λ q k. record { here = (same.at q k).here; prop = (same.at q k).prop; root = (same.at q k).root }; said = same.said; whole = same.whole; named = same.named })
 
   -- what documents list stays
   moved_now : moved_in now ≡ moved_in t
@@ -121,39 +110,32 @@ module _ (past : Past) (t : Table) (running : ℕ → Option Running) (a : AreCo
     where
       by : (o : Option Document) → nodes_in t p ≡ o → moved_in now ≡ moved_in t
       by None is = ap (λ (es : List (DocId × Document)). λ (q : Path). option_map_or (λ d. filter_map (λ e. documents_in es (id.Prev e.number q)) d.prev) (documents_in es (id.Node q)) []) (undo_none t p r is)
-      by (Some d) is = moved_stays t now p (undone d r n) (undo_main t p r d is) (same_but d is).whole
+      by (Some f) is = moved_stays t now p (undone f r n) (undo_main t p r f is) (same_but f is).whole
 
-  sound : Sound (core_in later now (with_writer a.writers r (less_done (a.writers r))))
-  sound = subst (λ (docs : Docs). Sound (record { number = n; docs = docs; moved = moved_in now; past = later; writers = with_writer a.writers r (less_done (a.writers r)) })) (sym nodes_now)
-      (subst (λ (moved : Path → List Document). Sound (record { number = n; docs = docs_after (nodes_in t) p (updated (nodes_in t p) (undo_op r p) n); moved = moved; past = later; writers = with_writer a.writers r (less_done (a.writers r)) })) (sym moved_now)
-      (undo_keeps (core_in past t a.writers) x.draw p rest n (docs_after (nodes_in t) p (updated (nodes_in t p) (undo_op r p) n)) a.sound may (undoes (nodes_in t) p r n (a.sound.ordered p))))
+  -- the core of the table then
+  pub sound_now : (later : Past) (writers : Revision → Writer) → Sound (record { number = n; docs = docs_now; moved = moved_in t; past = later; writers = writers }) → Sound (core_in later now writers)
+  sound_now later writers sound = subst (λ (docs : Docs). Sound (record { number = n; docs = docs; moved = moved_in now; past = later; writers = writers })) (sym nodes_now)
+      (subst (λ (moved : Path → List Document). Sound (record { number = n; docs = docs_now; moved = moved; past = later; writers = writers })) (sym moved_now) sound)
 
-  undone_world : IsKeptWorld (documents_in now.documents) past (with_progress (λ q. is_among (a.writers q).written) r (λ q. not (eq_by_cmp path_cmp q p) && is_among (a.writers r).written q))
+  pub undoes_now : Undoes (nodes_in t) docs_now p r
+  undoes_now = undoes (nodes_in t) p r n (a.sound.ordered p)
+
+  abbrev pub less_at : Path → Bool
+  less_at q = not (eq_by_cmp path_cmp q p) && is_among (a.writers r).written q
+
+  pub undone_world : IsKeptWorld (documents_in now.documents) past (with_progress (λ q. is_among (a.writers q).written) r less_at)
   undone_world = by (nodes_in t p) refl
     where
-      by : (o : Option Document) → nodes_in t p ≡ o → IsKeptWorld (documents_in now.documents) past (with_progress (λ q. is_among (a.writers q).written) r (λ q. not (eq_by_cmp path_cmp q p) && is_among (a.writers r).written q))
-      by None is = subst (λ (es : List (DocId × Document)). IsKeptWorld (documents_in es) past (with_progress (λ q. is_among (a.writers q).written) r (λ q. not (eq_by_cmp path_cmp q p) && is_among (a.writers r).written q))) (sym (undo_none t p r is))
-          (record { keeps = a.kept.keeps; told = told; separate = a.kept.separate; bounded = a.kept.bounded; swept = a.kept.swept; partly = λ q d drawn flying none. each q d drawn flying none (is_same q r) refl })
+      by : (o : Option Document) → nodes_in t p ≡ o → IsKeptWorld (documents_in now.documents) past (with_progress (λ q. is_among (a.writers q).written) r less_at)
+      by None is = subst (λ (es : List (DocId × Document)). IsKeptWorld (documents_in es) past (with_progress (λ q. is_among (a.writers q).written) r less_at)) (sym (undo_none t p r is))
+          (record { keeps = a.kept.keeps; told = told; separate = a.kept.separate; bounded = a.kept.bounded; swept = a.kept.swept; partly = λ q f at flying none. each q f at flying none (is_same q r) refl })
         where
-          each : (q : Revision) (d : Draw) → draw_of past q ≡ Some d → is_in_flight past q ≡ true → edit_of past q ≡ None → (b : Bool) → is_same q r ≡ b → IsPartly (documents_in t.documents) q d.edit.writes (commit_root d.marks) (λ y. cond b (not (eq_by_cmp path_cmp y p) && is_among (a.writers r).written y) (is_among (a.writers q).written y))
-          each q d drawn flying none false k = a.kept.partly q d drawn flying none
-          each q d drawn flying none true k = subst (λ (v : Revision). IsPartly (documents_in t.documents) q d.edit.writes (commit_root d.marks) (λ y. not (eq_by_cmp path_cmp y p) && is_among (a.writers v).written y)) (Rattle.core_clash.proofs.Basics.same_revision q r k)
-              (less (documents_in t.documents) q d.edit.writes (commit_root d.marks) p (is_among (a.writers q).written) is (a.kept.partly q d drawn flying none))
-      by (Some d) is = kept_undo_op (documents_in t.documents) (documents_in now.documents) past _ (world_of past t running a told) r x.draw may.draw (flies past t running a told s x here) (pending past t running a told s x here uncommitted) p (undo_op r p) n
-          d is (sorted_at d is).1 refl (undo_main t p r d is)
-
-  readable : IsKeptWorld (documents_in now.documents) later (with_progress (λ q. is_among (a.writers q).written) r (λ q. not (eq_by_cmp path_cmp q p) && is_among (a.writers r).written q))
-  readable = kept_idle (documents_in now.documents) past _ (event.Went x.draw.session kind.Undo) refl undone_world
-
-  pub undo_commits : AreCommitting later now (with_session running s (Some (record { draw = x.draw; writer = less_done x.writer; committed = x.committed })))
-  undo_commits = record {
-    writers = with_writer a.writers r (less_done (a.writers r));
-    sound = sound;
-    theirs = theirs_step past a.writers running a.theirs s x here (less_done (a.writers r)) (less_done x.writer) (ap less_done (mine past t running a told s x here).writer) x.committed later (λ q. refl) (λ q. refl) (λ q k. refl) (mine past t running a told s x here).committed;
-    listed = at_session (λ q (y : Running). y.writer.paths ≡ paths_to_write y.draw.marks) running s _ (a.listed s x here) (λ q y f h. a.listed q y h);
-    kept = world_by (documents_in now.documents) later _ (λ q. is_among (with_writer a.writers r (less_done (a.writers r)) q).written) (progress_with a.writers r (less_done (a.writers r)) _ shrinks) readable;
-    unstopped = a.unstopped;
-  }
+          each : (q : Revision) (f : Draw) → draw_of past q ≡ Some f → is_in_flight past q ≡ true → edit_of past q ≡ None → (b : Bool) → is_same q r ≡ b → IsPartly (documents_in t.documents) q f.edit.writes (commit_root f.marks) (λ y. cond b (less_at y) (is_among (a.writers q).written y))
+          each q f at flying none false k = a.kept.partly q f at flying none
+          each q f at flying none true k = subst (λ (v : Revision). IsPartly (documents_in t.documents) q f.edit.writes (commit_root f.marks) (λ y. not (eq_by_cmp path_cmp y p) && is_among (a.writers v).written y)) (Rattle.core_clash.proofs.Basics.same_revision q r k)
+              (less (documents_in t.documents) q f.edit.writes (commit_root f.marks) p (is_among (a.writers q).written) is (a.kept.partly q f at flying none))
+      by (Some f) is = kept_undo_op (documents_in t.documents) (documents_in now.documents) past _ (world_of past t running a told) r d drawn flying open_ p (undo_op r p) n
+          f is (sorted_at f is).1 refl (undo_main t p r f is)
 
   -- readers read on
   undone_lets : LetsRead t now past past
@@ -161,14 +143,134 @@ module _ (past : Past) (t : Table) (running : ℕ → Option Running) (a : AreCo
     where
       by : (o : Option Document) → nodes_in t p ≡ o → LetsRead t now past past
       by None is = record {
-        reads = λ ever y held reading. subst (λ (es : List (DocId × Document)). IsReading (documents_in es) past ever y) (sym (undo_none t p r is)) reading;
-        lists = λ ever l. subst (λ (es : List (DocId × Document)). AreListed (documents_in es) ever) (sym (undo_none t p r is)) l;
+        reads = λ formers y held reading. subst (λ (es : List (DocId × Document)). IsReading (documents_in es) past formers y) (sym (undo_none t p r is)) reading;
+        tells = λ formers l. subst (λ (es : List (DocId × Document)). AreFormers (documents_in es) (course_of past) formers) (sym (undo_none t p r is)) l;
         bounds = λ q. refl;
         sweeps = λ q. refl;
       }
-      by (Some d) is =
-          lets_on t now past past (λ pin ever held. on_undo pin ever (documents_in t.documents) (documents_in now.documents) past _ (world_of past t running a told) held r x.draw may.draw (flies past t running a told s x here) (pending past t running a told s x here uncommitted) p d (undo_op r p) n is (sorted_at d is).1 refl (undo_main t p r d is))
-          (lists_main (documents_in t.documents) (documents_in now.documents) p (undone d r n) (undo_main t p r d is) (same_but d is).whole) (λ q. refl) (λ q. refl)
+      by (Some f) is =
+          lets_on t now past past (λ pin held. on_undo pin (documents_in t.documents) (documents_in now.documents) past _ (world_of past t running a told) held r d drawn flying open_ p f (undo_op r p) n is (sorted_at f is).1 refl (undo_main t p r f is))
+          (λ formers l. formers_undo (documents_in t.documents) (documents_in now.documents) past _ (world_of past t running a told) r d drawn flying open_ p f (undo_op r p) n is (sorted_at f is).1 refl (undo_main t p r f is) formers l) (λ q. refl) (λ q. refl)
 
-  pub undo_lets : LetsRead t now past later
-  undo_lets = lets_then t now now past past later (λ pin held. held) undone_lets (lets_event now past _ undone_world (event.Went x.draw.session kind.Undo) (λ q. refl) (λ q. refl) (λ q. refl))
+  -- whichever session's event it is
+  pub lets_undone : (s : ℕ) → LetsRead t now past (event.Went s kind.Undo ∷ past)
+  lets_undone s = lets_then t now now past past (event.Went s kind.Undo ∷ past) (λ pin held. held) undone_lets (lets_event now past _ undone_world (event.Went s kind.Undo) (λ q. refl) (λ q. refl) (λ q. refl))
+
+  pub world_undone : (s : ℕ) → IsKeptWorld (documents_in now.documents) (event.Went s kind.Undo ∷ past) (with_progress (λ q. is_among (a.writers q).written) r less_at)
+  world_undone s = kept_idle (documents_in now.documents) past _ (event.Went s kind.Undo) refl undone_world
+
+-- ---- by its committer
+
+module _ (past : Past) (t : Table) (running : ℕ → Option Running) (a : AreCommitting past t running) (told : IsTold past) (s : ℕ) (x : Running) (here : running s ≡ Some x) (uncommitted : x.committed ≡ false) (undoing : x.writer.undoing ≡ true)
+    (p : Path) (rest : List Path) (next : x.writer.written ≡ p ∷ rest) where
+  abbrev o : Revision
+  o = x.draw.revision
+
+  abbrev less_done : Writer → Writer
+  less_done w = record w { written = rest }
+
+  abbrev later : Past
+  later = event.Went x.draw.session kind.Undo ∷ past
+
+  abbrev left_table : Table
+  left_table = after_undo t (id.Node p) x.draw.revision
+
+  its : IsTheirs past a.writers s x
+  its = mine past t running a told s x here
+
+  open_draw : edit_of past o ≡ None
+  open_draw = pending past t running a told s x here uncommitted
+
+  in_air : is_in_flight past o ≡ true
+  in_air = flies past t running a told s x here
+
+  may : MayUndo (core_in past t a.writers) x.draw p rest
+  may = record { draw = its.draw; unended = its.unended; undoing = ap (λ (w : Writer). w.undoing) its.writer ∙ undoing; next = ap (λ (w : Writer). w.written) its.writer ∙ next }
+
+  -- p stands once
+  gone : In p rest → ⊥
+  gone = once_first p rest (a.writers o).left (subst (λ (ps : List Path). Once (ps ++ (a.writers o).left)) may.next (a.sound.once o))
+
+  -- what is written then
+  shrinks : (q : Path) → (not (eq_by_cmp path_cmp q p) && is_among (a.writers o).written q) ≡ is_among rest q
+  shrinks q = ap (λ (ps : List Path). not (eq_by_cmp path_cmp q p) && is_among ps q) may.next ∙ among_less rest p q gone
+
+  pub undo_commits : AreCommitting later left_table (with_session running s (Some (record { draw = x.draw; writer = less_done x.writer; committed = x.committed })))
+  undo_commits = record {
+    writers = with_writer a.writers o (less_done (a.writers o));
+    sound = sound_now past t running a told x.draw its.draw in_air open_draw p later _ (undo_keeps (core_in past t a.writers) x.draw p rest (next_number t) _ a.sound may (undoes_now past t running a told x.draw its.draw in_air open_draw p));
+    theirs = theirs_step past a.writers running a.theirs s x here (less_done (a.writers o)) (less_done x.writer) (ap less_done its.writer) x.committed later (λ q. refl) (λ q. refl) (λ q k. refl) its.committed;
+    listed = at_session (λ q (y : Running). y.writer.paths ≡ paths_to_write y.draw.marks) running s _ (a.listed s x here) (λ q y f h. a.listed q y h);
+    kept = world_by (documents_in left_table.documents) later _ (λ q. is_among (with_writer a.writers o (less_done (a.writers o)) q).written) (progress_with a.writers o (less_done (a.writers o)) _ shrinks) (world_undone past t running a told x.draw its.draw in_air open_draw p x.draw.session);
+    unstopped = at_session (λ q (y : Running). is_stopped past y.draw.revision.cluster ≡ false) running s _ (a.unstopped s x here) (λ q y f h. a.unstopped q y h);
+  }
+
+  pub undo_lets : LetsRead t left_table past later
+  undo_lets = lets_undone past t running a told x.draw its.draw in_air open_draw p x.draw.session
+
+-- ---- by a recovery
+
+-- whether it is left, without one of the paths
+among_without : (p : Path) (ps : List Path) (q : Path) → (not (eq_by_cmp path_cmp q p) && is_among ps q) ≡ is_among (without_path p ps) q
+among_without p [] q = and_end (not (eq_by_cmp path_cmp q p))
+  where
+    and_end : (b : Bool) → (b && false) ≡ false
+    and_end true = refl
+    and_end false = refl
+among_without p (x ∷ ps) q = by (eq_by_cmp path_cmp x p) refl (eq_by_cmp path_cmp q x) refl (among_without p ps q)
+  where
+    -- p itself isn't left
+    itself : (b : Bool) → eq_by_cmp path_cmp q p ≡ true → (not (eq_by_cmp path_cmp q p) && b) ≡ false
+    itself b e = ap (λ c. not c && b) e
+
+    by : (b : Bool) → eq_by_cmp path_cmp x p ≡ b → (c : Bool) → eq_by_cmp path_cmp q x ≡ c → (not (eq_by_cmp path_cmp q p) && is_among ps q) ≡ is_among (without_path p ps) q
+        → (not (eq_by_cmp path_cmp q p) && (c || is_among ps q)) ≡ is_among (cond (not b) (x ∷ without_path p ps) (without_path p ps)) q
+    by true e true f more =
+        let same : eq_by_cmp path_cmp q p ≡ true = ap (λ (y : Path). eq_by_cmp path_cmp y p) (same_path q x f) ∙ e in
+        itself true same ∙ (sym (itself (is_among ps q) same) ∙ more)
+    by true e false f more = more
+    by false e true f more = ap (λ b. not b && true) (ap (λ (y : Path). eq_by_cmp path_cmp y p) (same_path q x f) ∙ e) ∙ sym (ap (λ b. b || is_among (without_path p ps) q) f)
+    by false e false f more = more ∙ sym (ap (λ b. b || is_among (without_path p ps) q) f)
+
+module _ (past : Past) (t : Table) (running : ℕ → Option Running) (a : AreCommitting past t running) (told : IsTold past) (d : Draw) (dead : IsDead past d) (unended : is_ended past d.revision ≡ false) (p : Path) (s : ℕ) where
+  abbrev v : Revision
+  v = d.revision
+
+  flew : is_in_flight past v ≡ true
+  flew = in_flight past v d dead.draw unended
+
+  never_said : edit_of past v ≡ None
+  never_said = no_edit past v (told.draws v d dead.draw).after dead.uncommitted
+
+  abbrev clear_table : Table
+  clear_table = after_undo t (id.Node p) d.revision
+
+  abbrev clear_past : Past
+  clear_past = event.Went s kind.Undo ∷ past
+
+  abbrev clear_writers : Revision → Writer
+  clear_writers = with_writer a.writers v (cleared (a.writers v) p)
+
+  -- no committer at work is that of a stopped node
+  not_theirs : (q : ℕ) (y : Running) → running q ≡ Some y → is_same y.draw.revision v ≡ false
+  not_theirs q y h = by (decide y.draw.revision v)
+    where
+      by : (y.draw.revision ≡ v) ⊎ (is_same y.draw.revision v ≡ false) → is_same y.draw.revision v ≡ false
+      by (inl e) = absurd (false≢true (sym (a.unstopped q y h) ∙ (ap (λ (r : Revision). is_stopped past r.cluster) e ∙ dead.stopped)))
+      by (inr f) = f
+
+  pub clear_commits : AreCommitting clear_past clear_table running
+  clear_commits = record {
+    writers = clear_writers;
+    sound = sound_now past t running a told d dead.draw flew never_said p clear_past clear_writers
+        (event_keeps _ (event.Went s kind.Undo) refl (clear_keeps (core_in past t a.writers) d a.sound dead p (next_number t) _ (undoes_now past t running a told d dead.draw flew never_said p)));
+    theirs = λ q y h.
+        let theirs = a.theirs q y h in
+        record { session = theirs.session; draw = theirs.draw; unended = theirs.unended; committed = theirs.committed; writer = writer_other a.writers v (cleared (a.writers v) p) y.draw.revision (not_theirs q y h) ∙ theirs.writer };
+    listed = a.listed;
+    kept = world_by (documents_in clear_table.documents) clear_past _ (λ q. is_among (clear_writers q).written) (progress_with a.writers v (cleared (a.writers v) p) _ (among_without p (a.writers v).written)) (world_undone past t running a told d dead.draw flew never_said p s);
+    unstopped = a.unstopped;
+  }
+
+  pub clear_lets : LetsRead t clear_table past clear_past
+  clear_lets = lets_undone past t running a told d dead.draw flew never_said p s

@@ -1,76 +1,54 @@
 -- Each step of a world keeps it: its layers, and that all that is held is above the bounds so far.
-use Rattle.core_clash.specs.Core.{is_quiet}
 use Rattle.core_clash.specs.Sessions.{Running}
-use Rattle.core_heads.specs.Sound.{Public}
-use Rattle.core_nodes.specs.Nodes.{IsMemoryOf, IsOnRoot, IsPair, base_of_pin, cursor_owner, is_of_node, leaves_memory, moved_pin}
-use Rattle.core_read.specs.Committing.{is_marking}
-use Rattle.core_world.specs.Kept.{AreCommitting, AreLayersKept, AreSessionsKept, AreSettingsKept, IsAboveBounds, IsRootKept, WereOnRoot, has_written, live_base, reader_at}
+use Rattle.core_nodes.specs.Nodes.{cursor_owner}
+use Rattle.core_world.specs.Kept.{AreLayersKept, IsAboveBounds, WereOnRoot}
 use Rattle.core_world.specs.Start.{start_state}
-use Rattle.core_world.specs.States.{State, actor_pin, base_in, history_in, memory_of, node_of, nodes_in, reader_pin}
-use Rattle.core_world.specs.Steps.{IsThrough, after_attach, after_back, after_checkpoint, after_detach, after_draw, after_finish, after_last, after_learn, after_learn_swept, after_leave, after_login, after_mark, after_observe, after_out, after_pending, after_refresh, after_release, after_said, after_sweep, after_undoing, after_unfound, after_update, after_want, after_went, after_write, after_write_in_want, back_op, draw_in, settings_op, sweep_op, with_reader, with_result}
-use Rattle.jr_path.specs.Names.{name_cmp, path_cmp}
-use Rattle.jr_path.specs.declared.path.DocId.{DocId}
+use Rattle.core_world.specs.States.{State, actor_pin, base_in, history_in, memory_of, node_of, reader_pin}
+use Rattle.core_world.specs.Steps.{IsThrough, after_attach, after_back, after_checkpoint, after_detach, after_draw, after_finish, after_last, after_learn, after_learn_swept, after_leave, after_login, after_mark, after_observe, after_out, after_pending, after_refresh, after_release, after_said, after_sweep, after_undoing, after_unfound, after_want, after_went, after_write, after_write_in_want, back_op, draw_in, sweep_op, with_reader}
+use Rattle.jr_path.specs.Names.{path_cmp}
 use Rattle.jr_path.specs.declared.path.Path.{Path}
 use Rattle.jr_path.specs.Lists.{Text}
 use Rattle.jr_rev.specs.Revisions.{is_at_most}
-use Rattle.jr_rev.specs.Vectors.{greatest, sees}
+use Rattle.jr_rev.specs.Vectors.{sees}
 use Rattle.jr_rev.specs.declared.revision.Revision.{Revision}
 use Rattle.jr_rev.specs.declared.vector.Pin.{Pin}
 use Rattle.jr_rev.specs.declared.vector.RevVec.{RevVec}
 use Rattle.jr_tree.specs.declared.edit.Edit.{Edit}
 use Rattle.oak_clash.specs.declared.mark.MarkAt.{MarkAt}
 use Rattle.oak_commit.specs.Clashing.{Met}
-use Rattle.oak_doc.specs.Updates.{after_changes, is_met, refusal, updated}
 use Rattle.oak_doc.specs.declared.document.Document.{Document}
-use Rattle.oak_doc.specs.declared.update.Change.{Change}
-use Rattle.oak_doc.specs.declared.update.UpdateOp.{UpdateOp}
-use Rattle.oak_machine.specs.Commits.{is_commit_of}
 use Rattle.oak_machine.specs.Heads.{local, published}
 use Rattle.oak_machine.specs.History.{Past}
 use Rattle.oak_machine.specs.Laws.{Says, Starts, StartsProper}
 use Rattle.oak_machine.specs.Runs.{AreNodes, IsNode, IsRunOf, MayFollow}
-use Rattle.oak_machine.specs.Sessions.{base_of, has_left, has_login, has_reader, is_attached, is_end_of_session, is_stop_of, kept_checkpoint, last_checkpoint, next_index}
+use Rattle.oak_machine.specs.Sessions.{base_of, has_left, has_login, has_reader, is_attached, is_end_of_session, is_stop_of, is_stopped_under, kept_checkpoint, last_checkpoint, next_index}
 use Rattle.oak_machine.specs.Steps.{is_kind}
-use Rattle.oak_machine.specs.declared.event.Event.{Event}
 use Rattle.oak_machine.specs.declared.event.StepKind.{StepKind}
 use Rattle.oak_node.specs.Heads.{learned}
-use Rattle.oak_node.specs.Memory.{own_entry}
 use Rattle.oak_node.specs.Pins.{pin_of}
-use Rattle.oak_read.specs.Meaning.{documents_in}
 use Rattle.oak_read.specs.Reading.{IsTable, answer, children_reader, due, fed, node_reader}
 use Rattle.oak_read.specs.declared.reader.Reader.{Reader}
-use Rattle.oak_store.specs.Tables.{Table, found, next_number, with_document}
-use Rattle.std.proofs.Common.{Bool, List, None, Option, Some, [], ap, arith, cond, false, is_none, is_some, length, not, refl, subst, sym, true, ℕ, ◌&&◌, ◌||◌, ◌∙◌, ◌∷◌, ◌≡◌, ◌≤◌}
-use Rattle.std.specs.BTreeMap.{insert_entry, is_at}
-use Rattle.std.specs.Cmp.{IsTotalOrder}
-use Rattle.std.specs.Cmp.Lexicographic.{lists_total}
-use Rattle.std.specs.FinMap.{is_sorted}
-use Rattle.std.specs.List.{list_all}
-use Rattle.std.specs.Map.{lookup, remove_entry}
-use Rattle.std.specs.Option.{option_and_then, option_map_or, unwrap_or}
-use Rattle.std.specs.Ordering.{eq_by_cmp, is_eq, nat_cmp, ordering_reverse}
-use Rattle.std.specs.Prelude.{Err, IsFalse, IsSome, IsTrue, Ok, drop, slice_get, ◌==◌}
+use Rattle.std.proofs.Common.{Bool, List, None, Option, Some, [], ap, cond, false, is_some, refl, subst, sym, true, ℕ, ◌∙◌, ◌∷◌, ◌≡◌}
+use Rattle.std.specs.BTreeMap.{is_at}
+use Rattle.std.specs.Map.{lookup}
+use Rattle.std.specs.Option.{option_and_then, option_map_or}
+use Rattle.std.specs.Ordering.{eq_by_cmp, nat_cmp}
+use Rattle.std.specs.Prelude.{Err, IsFalse, IsSome, IsTrue, Ok, slice_get}
 use Rattle.std.specs.declared.alloc.Global.{Global}
-use Rattle.std.specs.declared.cmp.Ordering.{Ordering}
-use Rattle.std.specs.declared.cmp.Ordering.TheVariants.{Equal, Greater, Less}
-use Rattle.jr_path.specs.declared.path.DocId.TheVariants as id
 use Rattle.oak_doc.specs.declared.update.Change.TheVariants as change
 use Rattle.oak_doc.specs.declared.update.OpFault.TheVariants as fault
 use Rattle.oak_machine.specs.declared.event.Event.TheVariants as event
 use Rattle.oak_machine.specs.declared.event.StepKind.TheVariants as kind
 use Rattle.core_clash.specs.Collecting.{SeesBounded}
-use Rattle.jr_rev.specs.Vectors.{is_below}
 use mathlib.Core.Bool.{false≢true}
-use Rattle.std.proofs.Common.{◌⊎◌, inl, inr}
+use Rattle.std.proofs.Common.{inl, inr}
 use Rattle.std.specs.Prelude.{Result}
 use Rattle.oak_doc.specs.declared.update.OpFault.{OpFault}
 use Rattle.oak_doc.specs.declared.update.Kept.TheVariants as keeps
 use Rattle.oak_node.specs.Heads.{finished}
-use Rattle.core_read.specs.Told.{IsIn}
-use Rattle.core_clash.proofs.Basics.{or_cases}
 use Rattle.core_keep.specs.Journal.{is_bounded, is_swept}
 use Rattle.core_world.specs.Held.{after_bound, holding_in, MayTakeBound}
-use Rattle.core_world.proofs.Held.{in_back, kept_now}
+use Rattle.core_world.proofs.Held.{in_back, kept_now, pins_alive}
 use Rattle.core_world.proofs.Seated.{attach_pinned, attach_unfound_pinned, checkpoint_pinned, detach_pinned, drawn_pinned, finish_pinned, gone_pinned, last_pinned, left_pinned, loaded_pinned, mark_pinned, memory_pinned, moved_pinned, observed_pinned, quiet_pinned, read_pinned, release_pinned, release_unfound_pinned}
 use Rattle.core_world.proofs.Setting.{undo_apart, update_apart}
 use Rattle.core_world.proofs.Lives.{no_reader, reader_login}
@@ -90,7 +68,7 @@ use Rattle.core_world.proofs.Checkpoints.{checkpoint_keeps as checkpoint_layers,
 use Rattle.core_world.proofs.Draws.{some_pin}
 use Rattle.core_world.proofs.Held.{found_in, takes_part}
 use Rattle.core_world.proofs.Layers.{draw_whole as draw_layers, finish_whole as finish_layers, gone_whole as gone_layers, last_whole as last_layers, leave_whole as leave_layers, list_whole as list_layers, load_whole as load_layers, login_whole as login_layers, mark_whole as mark_layers, observe_whole as observe_layers, read_whole as read_layers, refresh_whole as refresh_layers, said_whole as said_layers, start_whole as start_layers, undo_whole as undo_layers, want_whole as want_layers, went_whole as went_layers, write_in_want_whole as write_in_want_layers, write_whole as write_layers}
-use Rattle.core_world.proofs.Lives.{its_node, session_there}
+use Rattle.core_world.proofs.Lives.{its_node, node_alive, session_there}
 use Rattle.core_world.proofs.Rising.{above_one, attach_rises, attach_unfound_rises, back_rises, bound_keeps as bound_layers, checkpoint_rises, detach_rises, draw_rises, finish_rises, last_rises, learn_rises, learn_swept_rises, leave_rises, login_rises, mark_rises, observe_rises, out_rises, pending_rises, reader_rises, refresh_rises, release_rises, release_unfound_rises, said_rises, sweep_rises, undo_rises, want_rises, went_rises, write_in_want_rises, write_rises}
 
 -- what is held rises, so it stays above the bounds so far
@@ -168,17 +146,21 @@ module _ (starts : Starts) (says : Says) (proper : StartsProper starts) (w : Sta
   finish_bounds s x false = (λ r. refl, λ r. refl)
 
   -- a session's base sees what bounds so far see
-  pub base_above : (s : ℕ) → has_login w.past s ≡ true → has_left w.past s ≡ false → SeesBounded w.past (base_in w s)
-  base_above s login stays o h =
+  pub base_above : (s : ℕ) → is_stopped_under w.sessions w.past s ≡ false → has_login w.past s ≡ true → has_left w.past s ≡ false → SeesBounded w.past (base_in w s)
+  base_above s on login stays o h =
       let there = session_there starts says proper w kept.sessions s login in
       let node = its_node starts says proper w kept.sessions s there in
-      let pin = some_pin starts says proper w kept.sessions s login stays in
+      let alive = node_alive starts says proper w kept.sessions s there on in
+      let pin = some_pin starts says proper w kept.sessions s alive login stays in
       ap (λ (x : Option Pin). sees (option_map_or (λ (p : Pin). p.base) x (memory_of w s).head) o) pin.1
-      ∙ (kept.above.pins (node_of w s) (takes_part starts says proper w layers (node_of w s) node) pin.0 (found_in (is_at (nat_cmp s)) _ pin.0 pin.1)).base o h
+      ∙ (kept.above.pins (node_of w s) (takes_part starts says proper w layers (node_of w s) node alive) pin.0 (found_in (is_at (nat_cmp s)) _ pin.0 pin.1)).base o h
 
   -- so do the pins of a session
   pub pin_above : (s : ℕ) → is_some (slice_get w.sessions s) ≡ true → (pin : Pin) → pin_of (memory_of w s) s ≡ Some pin → IsAboveBounds w.past pin
-  pin_above s there pin has = kept.above.pins (node_of w s) (takes_part starts says proper w layers (node_of w s) (its_node starts says proper w kept.sessions s there)) pin (found_in (is_at (nat_cmp s)) _ pin has)
+  pin_above s there pin has =
+      let node = its_node starts says proper w kept.sessions s there in
+      let i = found_in (is_at (nat_cmp s)) _ pin has in
+      kept.above.pins (node_of w s) (takes_part starts says proper w layers (node_of w s) node (pins_alive starts says proper w layers (node_of w s) node pin i)) pin i
 
   -- and the pair at which it reads
   pub actor_above : (s : ℕ) (pin : Pin) → has_login w.past s ≡ true → has_left w.past s ≡ false → actor_pin w s ≡ Some pin → IsAboveBounds w.past pin
@@ -192,16 +174,16 @@ module _ (starts : Starts) (says : Says) (proper : StartsProper starts) (w : Sta
           (found_in (is_at (nat_cmp s)) kept.settings.document.readers pin (sym (ap (λ (o : Option Document). option_and_then (λ d. lookup (is_at (nat_cmp s)) d.readers) o) kept.settings.there) ∙ k))))
       by false k = pin_above s there pin k
 
-  pub login_whole : (s : ℕ) → IsTrue (is_some (slice_get w.sessions s)) → IsFalse (has_login w.past s) → IsKept starts says (after_login w s)
-  login_whole s there first = goes (after_login w s) (login_layers starts says proper w layers s there first) (λ r. refl) (λ r. refl) (login_rises starts says proper w layers s there first)
+  pub login_whole : (s : ℕ) → IsFalse (is_stopped_under w.sessions w.past s) → IsTrue (is_some (slice_get w.sessions s)) → IsFalse (has_login w.past s) → IsKept starts says (after_login w s)
+  login_whole s on there first = goes (after_login w s) (login_layers starts says proper w layers s on there first) (λ r. refl) (λ r. refl) (login_rises starts says proper w layers s on there first)
       (moved_pinned starts says proper w layers kept.pinned s there (no_reader starts says proper w kept.sessions s first) (event.Login s (memory_of w s).head ∷ w.past) (λ q f. ap (λ b. cond b false (is_attached w.past q)) f))
 
-  pub refresh_whole : (s : ℕ) → IsTrue (has_login w.past s) → IsFalse (has_left w.past s) → w.running s ≡ None → w.reading s ≡ None → IsKept starts says (after_refresh w s)
-  refresh_whole s login stays none unread = goes (after_refresh w s) (refresh_layers starts says proper w layers s login stays none unread) (λ r. refl) (λ r. refl) (refresh_rises starts says proper w layers s login stays none unread)
+  pub refresh_whole : (s : ℕ) → IsFalse (is_stopped_under w.sessions w.past s) → IsTrue (has_login w.past s) → IsFalse (has_left w.past s) → w.running s ≡ None → w.reading s ≡ None → IsKept starts says (after_refresh w s)
+  refresh_whole s on login stays none unread = goes (after_refresh w s) (refresh_layers starts says proper w layers s on login stays none unread) (λ r. refl) (λ r. refl) (refresh_rises starts says proper w layers s login on stays none unread)
       (moved_pinned starts says proper w layers kept.pinned s (session_there starts says proper w kept.sessions s login) unread (event.Refresh s (memory_of w s).head ∷ w.past) (λ q f. ap (λ b. cond b false (is_attached w.past q)) f))
 
-  pub leave_whole : (s : ℕ) → slice_get w.sessions (cursor_owner s) ≡ None → IsTrue (has_login w.past s) → IsFalse (has_left w.past s) → w.running s ≡ None → w.reading s ≡ None → IsKept starts says (after_leave w s)
-  leave_whole s few login stays none unread = goes (after_leave w s) (leave_layers starts says proper w layers s few login stays none unread) (λ r. refl) (λ r. refl) (leave_rises starts says proper w layers s login few stays none unread)
+  pub leave_whole : (s : ℕ) → IsFalse (is_stopped_under w.sessions w.past s) → slice_get w.sessions (cursor_owner s) ≡ None → IsTrue (has_login w.past s) → IsFalse (has_left w.past s) → w.running s ≡ None → w.reading s ≡ None → IsKept starts says (after_leave w s)
+  leave_whole s on few login stays none unread = goes (after_leave w s) (leave_layers starts says proper w layers s on few login stays none unread) (λ r. refl) (λ r. refl) (leave_rises starts says proper w layers s login on few stays none unread)
       (left_pinned starts says proper w layers kept.pinned s (session_there starts says proper w kept.sessions s login) few unread)
 
   pub observe_whole : (s : ℕ) (pin : Pin) → slice_get w.sessions (cursor_owner s) ≡ None → IsTrue (has_login w.past s) → IsFalse (has_left w.past s) → w.reading s ≡ None → pin_of (memory_of w s) s ≡ Some pin → IsKept starts says (after_observe w s pin)
@@ -216,12 +198,12 @@ module _ (starts : Starts) (says : Says) (proper : StartsProper starts) (w : Sta
   went_whole s k other apart login stays = goes (after_went w s k) (went_layers starts says proper w layers s k other apart login stays) (λ r. refl) (λ r. refl) (went_rises starts says proper w layers s login k other apart stays)
       (quiet_pinned starts says proper w layers kept.pinned (after_went w s k) refl refl refl (λ q. refl) (refl))
 
-  pub load_whole : (s : ℕ) (a : Global) (pin : Pin) (p : Path) → IsTrue (has_login w.past s) → IsFalse (has_left w.past s) → actor_pin w s ≡ Some pin → IsKept starts says (with_reader w s (Some (node_reader a pin p)))
-  load_whole s a pin p login stays has = goes (with_reader w s (Some (node_reader a pin p))) (load_layers starts says proper w layers s a pin p login stays has (actor_above s pin login stays has)) (λ r. refl) (λ r. refl) (reader_rises starts says proper w layers s (Some (node_reader a pin p)))
+  pub load_whole : (s : ℕ) (a : Global) (pin : Pin) (p : Path) → IsFalse (is_stopped_under w.sessions w.past s) → IsTrue (has_login w.past s) → IsFalse (has_left w.past s) → actor_pin w s ≡ Some pin → IsKept starts says (with_reader w s (Some (node_reader a pin p)))
+  load_whole s a pin p on login stays has = goes (with_reader w s (Some (node_reader a pin p))) (load_layers starts says proper w layers s a pin p on login stays has (actor_above s pin login stays has)) (λ r. refl) (λ r. refl) (reader_rises starts says proper w layers s (Some (node_reader a pin p)))
       (loaded_pinned starts says proper w layers kept.pinned s (node_reader a pin p) has)
 
-  pub list_whole : (s : ℕ) (a : Global) (pin : Pin) (p : Path) → IsTrue (has_login w.past s) → IsFalse (has_left w.past s) → actor_pin w s ≡ Some pin → IsKept starts says (with_reader w s (Some (children_reader a pin p)))
-  list_whole s a pin p login stays has = goes (with_reader w s (Some (children_reader a pin p))) (list_layers starts says proper w layers s a pin p login stays has (actor_above s pin login stays has)) (λ r. refl) (λ r. refl) (reader_rises starts says proper w layers s (Some (children_reader a pin p)))
+  pub list_whole : (s : ℕ) (a : Global) (pin : Pin) (p : Path) → IsFalse (is_stopped_under w.sessions w.past s) → IsTrue (has_login w.past s) → IsFalse (has_left w.past s) → actor_pin w s ≡ Some pin → IsKept starts says (with_reader w s (Some (children_reader a pin p)))
+  list_whole s a pin p on login stays has = goes (with_reader w s (Some (children_reader a pin p))) (list_layers starts says proper w layers s a pin p on login stays has (actor_above s pin login stays has)) (λ r. refl) (λ r. refl) (reader_rises starts says proper w layers s (Some (children_reader a pin p)))
       (loaded_pinned starts says proper w layers kept.pinned s (children_reader a pin p) has)
 
   pub read_whole : (s : ℕ) (r : Reader) → w.reading s ≡ Some r → IsTable w.table.documents → IsKept starts says (with_reader w s (Some (fed r (answer w.table.documents (due r)))))
@@ -272,8 +254,8 @@ module _ (starts : Starts) (says : Says) (proper : StartsProper starts) (w : Sta
   out_keeps s login r of low = goes (after_out w s r) (out_layers starts says proper w layers s login r of low) (λ r. refl) (λ r. refl) (out_rises starts says proper w layers s login r of low)
       (quiet_pinned starts says proper w layers kept.pinned (after_out w s r) refl refl refl (λ q. refl) (update_apart w.table [] (back_op [] r) refl))
 
-  pub learn_keeps : (s : ℕ) → has_login w.past s ≡ true → (last sweep : RevVec) → WereOnRoot w.clusters w.past last sweep → IsKept starts says (after_learn w s last sweep)
-  learn_keeps s login last sweep were = goes (after_learn w s last sweep) (learn_layers starts says proper w layers s login last sweep were) (λ r. refl) (λ r. refl) (learn_rises starts says proper w layers s login last sweep were)
+  pub learn_keeps : (s : ℕ) → is_stopped_under w.sessions w.past s ≡ false → has_login w.past s ≡ true → (last sweep : RevVec) → WereOnRoot w.clusters w.past last sweep → IsKept starts says (after_learn w s last sweep)
+  learn_keeps s on login last sweep were = goes (after_learn w s last sweep) (learn_layers starts says proper w layers s login on last sweep were) (λ r. refl) (λ r. refl) (learn_rises starts says proper w layers s login on last sweep were)
       (memory_pinned starts says proper w layers kept.pinned s (session_there starts says proper w kept.sessions s login) (learned (memory_of w s) last sweep) (after_learn w s last sweep).past w.running (λ q r h. refl) (λ q r h. refl))
 
   pub sweep_keeps : (s : ℕ) → has_login w.past s ≡ true → (r : Revision) → r.cluster ≡ node_of w s → is_at_most r (published None w.past (node_of w s)) ≡ true → IsKept starts says (after_sweep w s r)
@@ -284,16 +266,16 @@ module _ (starts : Starts) (says : Says) (proper : StartsProper starts) (w : Sta
   learn_swept_keeps s login stays r of low = goes (after_learn_swept w s r) (learn_swept_layers starts says proper w layers s login stays r of low) (λ r. refl) (λ r. refl) (learn_swept_rises starts says proper w layers s login r stays of low)
       (memory_pinned starts says proper w layers kept.pinned s (session_there starts says proper w kept.sessions s login) (swept_to (memory_of w s) r) (after_learn_swept w s r).past w.running (λ q y h. refl) (λ q y h. refl))
 
-  pub checkpoint_keeps : (s : ℕ) (i : Text) (pin : Pin) → has_login w.past s ≡ true → has_left w.past s ≡ false → is_attached w.past s ≡ false → pin_of (memory_of w s) s ≡ Some pin → IsKept starts says (after_checkpoint w s i pin)
-  checkpoint_keeps s i pin login stays detached has = goes (after_checkpoint w s i pin) (checkpoint_layers starts says proper w layers s i pin login stays detached has) (λ r. refl) (λ r. refl) (checkpoint_rises starts says proper w layers s login i pin stays detached has)
+  pub checkpoint_keeps : (s : ℕ) (i : Text) (pin : Pin) → is_stopped_under w.sessions w.past s ≡ false → has_login w.past s ≡ true → has_left w.past s ≡ false → is_attached w.past s ≡ false → pin_of (memory_of w s) s ≡ Some pin → IsKept starts says (after_checkpoint w s i pin)
+  checkpoint_keeps s i pin on login stays detached has = goes (after_checkpoint w s i pin) (checkpoint_layers starts says proper w layers s i pin on login stays detached has) (λ r. refl) (λ r. refl) (checkpoint_rises starts says proper w layers s login i pin on stays detached has)
       (checkpoint_pinned starts says proper w layers kept.pinned s i pin)
 
   pub release_keeps : (i : Text) → IsSome (kept_checkpoint w.past i) → IsKept starts says (after_release w i)
   release_keeps i there = goes (after_release w i) (release_layers starts says proper w layers i there) (λ r. refl) (λ r. refl) (release_rises starts says proper w layers i there)
       (release_pinned starts says proper w layers kept.pinned i)
 
-  pub attach_keeps : (s : ℕ) → has_login w.past s ≡ true → has_left w.past s ≡ false → (i : Text) (v : RevVec) → is_attached w.past s ≡ false → w.reading s ≡ None → kept_checkpoint w.past i ≡ Some v → IsKept starts says (after_attach w s i)
-  attach_keeps s login stays i v detached unread there = goes (after_attach w s i) (attach_layers starts says proper w layers s login stays i v detached unread there) (λ r. refl) (λ r. refl) (attach_rises starts says proper w layers s login i v stays detached unread there)
+  pub attach_keeps : (s : ℕ) → is_stopped_under w.sessions w.past s ≡ false → has_login w.past s ≡ true → has_left w.past s ≡ false → (i : Text) (v : RevVec) → is_attached w.past s ≡ false → w.reading s ≡ None → kept_checkpoint w.past i ≡ Some v → IsKept starts says (after_attach w s i)
+  attach_keeps s on login stays i v detached unread there = goes (after_attach w s i) (attach_layers starts says proper w layers s login stays on i v detached unread there) (λ r. refl) (λ r. refl) (attach_rises starts says proper w layers s login i v on stays detached unread there)
       (attach_pinned starts says proper w layers kept.pinned s i unread)
 
   pub detach_keeps : (s : ℕ) → has_login w.past s ≡ true → has_left w.past s ≡ false → is_attached w.past s ≡ false → has_reader w.past s ≡ true → IsKept starts says (after_detach w s)
@@ -308,9 +290,9 @@ module _ (starts : Starts) (says : Says) (proper : StartsProper starts) (w : Sta
   release_unfound_keeps s login stays i none = goes (after_unfound w s (change.Release i)) (release_unfound_layers starts says proper w layers s login stays i none) (λ r. refl) (λ r. refl) (release_unfound_rises starts says proper w layers s login i stays none)
       (release_unfound_pinned starts says proper w layers kept.pinned s i)
 
-  pub draw_whole : (s : ℕ) (edit : Edit) (marks : List MarkAt) (paths : List Path) → IsTrue (has_login w.past s) → IsFalse (has_left w.past s) → IsFalse (is_attached w.past s) → w.running s ≡ None → starts (history_in w) s edit marks → IsKept starts says (after_draw w s edit marks paths)
-  draw_whole s edit marks paths login stays detached none lawful = goes (after_draw w s edit marks paths) (draw_layers starts says proper w layers s edit marks paths login stays detached none lawful (base_above s login stays)) (λ r. refl) (λ r. refl)
-      (draw_rises starts says proper w layers s edit marks paths login stays detached none lawful (base_above s login stays))
+  pub draw_whole : (s : ℕ) (edit : Edit) (marks : List MarkAt) (paths : List Path) → IsFalse (is_stopped_under w.sessions w.past s) → IsTrue (has_login w.past s) → IsFalse (has_left w.past s) → IsFalse (is_attached w.past s) → w.running s ≡ None → starts (history_in w) s edit marks → IsKept starts says (after_draw w s edit marks paths)
+  draw_whole s edit marks paths on login stays detached none lawful = goes (after_draw w s edit marks paths) (draw_layers starts says proper w layers s edit marks paths on login stays detached none lawful (base_above s on login stays)) (λ r. refl) (λ r. refl)
+      (draw_rises starts says proper w layers s edit marks paths on login stays detached none lawful (base_above s on login stays))
       (drawn_pinned starts says proper w layers kept.pinned s (session_there starts says proper w kept.sessions s login) (draw_in w s edit marks).revision paths (after_draw w s edit marks paths).past (after_draw w s edit marks paths).running (λ q. refl))
 
   -- a bound that is at most what is held is at most the pair at which a session reads
@@ -323,7 +305,10 @@ module _ (starts : Starts) (says : Says) (proper : StartsProper starts) (w : Sta
       by : (b : Bool) → cond b (reader_pin w.table s) (pin_of (memory_of w s) s) ≡ Some pin → IsPairBelow (record { base = m; sweep = t }) pin
       by true k = below.kept pin (kept_now starts says proper w layers pin (in_back pin (values_of kept.settings.document.checkpoints) (values_of kept.settings.document.readers)
           (found_in (is_at (nat_cmp s)) kept.settings.document.readers pin (sym (ap (λ (o : Option Document). option_and_then (λ d. lookup (is_at (nat_cmp s)) d.readers) o) kept.settings.there) ∙ k))))
-      by false k = below.pins (node_of w s) (takes_part starts says proper w layers (node_of w s) (its_node starts says proper w kept.sessions s there)) pin (found_in (is_at (nat_cmp s)) _ pin k)
+      by false k =
+          let node = its_node starts says proper w kept.sessions s there in
+          let i = found_in (is_at (nat_cmp s)) _ pin k in
+          below.pins (node_of w s) (takes_part starts says proper w layers (node_of w s) node (pins_alive starts says proper w layers (node_of w s) node pin i)) pin i
 
   pub bound_keeps : (m t : RevVec) → MayTakeBound w m t → IsKept starts says (after_bound w m t)
   bound_keeps m t takes =

@@ -8,10 +8,9 @@ use Rattle.oak_clash.specs.Clashes.{commit_root}
 use Rattle.oak_commit.specs.Clashing.{Writer}
 use Rattle.oak_machine.specs.declared.event.Draw.{Draw}
 use Rattle.oak_machine.specs.History.{Past}
-use Rattle.oak_machine.specs.Commits.{draw_of, is_in_flight}
+use Rattle.oak_machine.specs.Commits.{is_in_flight}
 use Rattle.oak_read.specs.Meaning.{Documents, documents_in}
 use Rattle.oak_store.specs.Tables.{Table}
-use Rattle.core_read.specs.Committing.{IsPartly}
 use Rattle.core_read.specs.Holds.{edit_of, the_start}
 use Rattle.core_read.specs.Told.{IsTold}
 use Rattle.core_read.specs.World.{Progress}
@@ -51,7 +50,7 @@ module _ (past : Past) (t : Table) (running : ℕ → Option Running) (a : AreCo
     pending uncommitted = no_edit past x.draw.revision after_start (mine.committed ∙ uncommitted)
 
     pub goes : x.committed ≡ false → x.writer.undoing ≡ false → IsGoing (core_in past t a.writers) x.draw
-    goes uncommitted going = record { running = a.unstopped x.draw.revision.cluster; draw = mine.draw; unended = mine.unended; uncommitted = mine.committed ∙ uncommitted; going = ap (λ (w : Writer). w.undoing) mine.writer ∙ going }
+    goes uncommitted going = record { running = a.unstopped s x here; draw = mine.draw; unended = mine.unended; uncommitted = mine.committed ∙ uncommitted; going = ap (λ (w : Writer). w.undoing) mine.writer ∙ going }
 
 -- what is written, by another measure of the same
 pub world_by : (ds : Documents) (past : Past) (done more : Progress) → ((q : Revision) (p : Path) → done q p ≡ more q p) → IsKeptWorld ds past done → IsKeptWorld ds past more

@@ -15,6 +15,7 @@ use Rattle.oak_commit.specs.Writing.{marking_of, markings_at, write_op}
 use Rattle.oak_doc.specs.declared.document.Document.{Document}
 use Rattle.oak_doc.specs.declared.update.UpdateOp.{UpdateOp}
 use Rattle.oak_doc.specs.Updates.{after_changes}
+use Rattle.oak_machine.specs.Sessions.{is_stopped}
 use Rattle.oak_machine.specs.declared.event.Event.TheVariants as event
 use Rattle.oak_machine.specs.declared.event.StepKind.TheVariants as kind
 use Rattle.oak_machine.specs.History.{Past}
@@ -33,14 +34,15 @@ use Rattle.core_keep.proofs.World.{kept_write_op}
 use Rattle.core_clash.specs.Core.{Docs, MayWrite, with_writer}
 use Rattle.oak_commit.specs.Looking.{whole}
 use Rattle.core_clash.specs.Sessions.{Running}
-use Rattle.core_clash.specs.Sound.{Sound}
+use Rattle.core_clash.specs.Sound.{IsListed, Sound}
 use Rattle.core_clash.specs.Views.{In, Once, mark_at}
 use Rattle.core_clash.proofs.Basics.{In-right, is_in, once_apart}
 use Rattle.core_clash.proofs.Meetings.{meeting}
 use Rattle.core_clash.proofs.Updates.{writes, write_is}
 use Rattle.core_clash.proofs.Written.{write_keeps}
 use Rattle.core_watch.proofs.GoingOn.{on_write}
-use Rattle.core_world.proofs.Letting.{LetsRead, lets_event, lets_on, lets_then, lists_main}
+use Rattle.core_watch.proofs.StayingOn.{formers_write}
+use Rattle.core_world.proofs.Letting.{LetsRead, lets_event, lets_on, lets_then}
 use Rattle.core_world.specs.States.{core_in, moved_in, nodes_in, with_session}
 use Rattle.core_world.specs.Steps.{after_update, paths_to_write, with_result}
 use Rattle.core_world.specs.Kept.{AreCommitting}
@@ -109,9 +111,12 @@ module _ (past : Past) (t : Table) (running : ℕ → Option Running) (a : AreCo
   in_left : In p (a.writers r).left
   in_left = subst (λ (ps : List Path). In p ps) (sym may.next) (inl refl)
 
+  listing : IsListed (a.writers r)
+  listing = a.sound.listed r (a.unstopped s x here)
+
   marked : HasMark x.draw.marks p
-  marked = path_marked x.draw.marks p (subst (λ (ps : List Path). In p ps) ((a.sound.listed r).all ∙ (ap (λ (w : Writer). w.paths) (mine past t running a told s x here).writer ∙ a.listed s x here))
-      (In-right p (a.sound.listed r).gone _ (In-right p (a.writers r).written (a.writers r).left in_left)))
+  marked = path_marked x.draw.marks p (subst (λ (ps : List Path). In p ps) (listing.all ∙ (ap (λ (w : Writer). w.paths) (mine past t running a told s x here).writer ∙ a.listed s x here))
+      (In-right p listing.gone _ (In-right p (a.writers r).written (a.writers r).left in_left)))
 
   new : is_among (a.writers r).written p ≡ false
   new = not_among (a.writers r).written p (once_apart p (a.writers r).written rest (subst (λ (ps : List Path). Once ((a.writers r).written ++ ps)) may.next (a.sound.once r)))
@@ -138,8 +143,8 @@ module _ (past : Past) (t : Table) (running : ℕ → Option Running) (a : AreCo
   pub write_lets : LetsRead t (after_update t op) past later
   write_lets = subst (λ (u : Table). LetsRead t u past later) (sym made)
       (lets_then t now now past past later (λ pin held. held)
-      (lets_on t now past past (λ pin ever held. on_write pin ever (documents_in t.documents) (documents_in now.documents) past _ (world_of past t running a told) held r x.draw may.going.draw (flies past t running a told s x here) (pending past t running a told s x here uncommitted) p (markings_at r p x.draw.marks) op n wop new (put_main t p doc n))
-      (lists_main (documents_in t.documents) (documents_in now.documents) p doc (put_main t p doc n) same_but.whole) (λ q. refl) (λ q. refl))
+      (lets_on t now past past (λ pin held. on_write pin (documents_in t.documents) (documents_in now.documents) past _ (world_of past t running a told) held r x.draw may.going.draw (flies past t running a told s x here) (pending past t running a told s x here uncommitted) p (markings_at r p x.draw.marks) op n wop new (put_main t p doc n))
+      (λ formers l. formers_write (documents_in t.documents) (documents_in now.documents) past _ (world_of past t running a told) r x.draw may.going.draw (flies past t running a told s x here) (pending past t running a told s x here uncommitted) p (markings_at r p x.draw.marks) op n wop new (put_main t p doc n) formers l) (λ q. refl) (λ q. refl))
       (lets_event now past _ written_world (event.Went x.draw.session kind.Write) (λ q. refl) (λ q. refl) (λ q. refl)))
 
   readable : IsKeptWorld (documents_in now.documents) later (with_progress (λ q. is_among (a.writers q).written) r (λ q. eq_by_cmp path_cmp q p || is_among (a.writers r).written q))
@@ -152,5 +157,5 @@ module _ (past : Past) (t : Table) (running : ℕ → Option Running) (a : AreCo
     theirs = theirs_step past a.writers running a.theirs s x here (wrote (a.writers r)) (wrote x.writer) (ap wrote (mine past t running a told s x here).writer) x.committed later (λ q. refl) (λ q. refl) (λ q k. refl) (mine past t running a told s x here).committed;
     listed = at_session (λ q (y : Running). y.writer.paths ≡ paths_to_write y.draw.marks) running s _ (a.listed s x here) (λ q y f h. a.listed q y h);
     kept = world_by (documents_in now.documents) later _ (λ q. is_among (with_writer a.writers r (wrote (a.writers r)) q).written) (progress_with a.writers r (wrote (a.writers r)) _ (λ q. sym (among_more (a.writers r).written p q))) readable;
-    unstopped = a.unstopped;
+    unstopped = at_session (λ q (y : Running). is_stopped past y.draw.revision.cluster ≡ false) running s _ (a.unstopped s x here) (λ q y f h. a.unstopped q y h);
   })

@@ -1,7 +1,7 @@
 -- Splits and collections in a world, step by step: what a split writes and lists, what a collection drops and removes.
 use Rattle.std.specs.Ordering.{eq_by_cmp}
 use Rattle.jr_path.specs.Names.{path_cmp}
-use Rattle.std.specs.Prelude.{◌≡◌, [], ◌∷◌, ◌&&◌, ℕ, Bool, List, Some, None, is_some, IsTrue, IsFalse}
+use Rattle.std.specs.Prelude.{◌≡◌, [], ◌∷◌, ◌&&◌, ℕ, List, Some, None, is_some, IsTrue, IsFalse}
 use Rattle.std.specs.BTreeMap.{is_at}
 use Rattle.std.specs.FinMap.{is_sorted}
 use Rattle.std.specs.Map.{remove_entry}
@@ -22,7 +22,6 @@ use Rattle.oak_doc.specs.Updates.{after_changes, of_revision, values_of_property
 use Rattle.oak_machine.specs.declared.event.Event.TheVariants as event
 use Rattle.oak_machine.specs.declared.event.StepKind.{StepKind}
 use Rattle.oak_machine.specs.declared.event.StepKind.TheVariants as kind
-use Rattle.oak_machine.specs.History.{Past}
 use Rattle.oak_read.specs.Meaning.{Documents, documents_in, is_committed}
 use Rattle.oak_store.specs.Tables.{Table, next_number, with_document}
 use Rattle.core_read.specs.Holds.{edit_of}
@@ -30,6 +29,8 @@ use Rattle.core_keep.specs.Dropping.{DropsGarbage}
 use Rattle.core_keep.specs.Garbage.{is_garbage_document}
 use Rattle.core_keep.specs.Splits.{main_write, previous_write, IsInOrder}
 use Rattle.core_read.specs.Writes.{IsOrderedDocument}
+use Rattle.core_keep.specs.Formers.{former_now, with_former}
+use Rattle.core_keep.specs.Journal.{course_of}
 use Rattle.core_keep.specs.Steps.{IsUnlisted}
 use Rattle.core_clash.specs.Collecting.{IsBoundOf}
 use Rattle.core_world.specs.States.{State}
@@ -46,12 +47,12 @@ after_change w s k u = record w { past = event.Went s k ∷ w.past; table = u }
 abbrev pub after_copied : State → ℕ → Path → ℕ → Document → State
 after_copied w s p k x = after_change w s kind.Split (with_document w.table (id.Prev k p) x (next_number w.table))
 
--- and takes what moved from the document, which lists the previous one now
+-- and takes what moved from the document, which lists the previous one now and becomes a former one
 abbrev pub split_now : State → Documents → Pin → Document → PrevEntry → Document
 split_now w read pin old e = after_changes (Some old) (main_write read pin old e) (next_number w.table)
 
 abbrev pub after_split : State → ℕ → Documents → Pin → Path → Document → PrevEntry → State
-after_split w s read pin p old e = after_change w s kind.Split (with_document w.table (id.Node p) (split_now w read pin old e) (next_number w.table))
+after_split w s read pin p old e = record (after_change w s kind.Split (with_document w.table (id.Node p) (split_now w read pin old e) (next_number w.table))) { formers = with_former w.formers p e.number (former_now (course_of w.past) old) }
 
 -- a document has the number that the split has read, and what counts in the documents that it has read is committed; the previous document is as it wrote it
 pub record MaySplit (w : State) (read : Documents) (pin : Pin) (p : Path) (old : Document) (e : PrevEntry) : Type 0 where

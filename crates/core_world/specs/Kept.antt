@@ -13,29 +13,28 @@ use Rattle.oak_machine.specs.declared.event.Event.TheVariants as event
 use Rattle.jr_path.specs.declared.path.Path.{Path}
 use Rattle.jr_rev.specs.declared.revision.Revision.{Revision}
 use Rattle.jr_rev.specs.declared.vector.RevVec.{RevVec}
-use Rattle.oak_clash.specs.Clashes.{commit_root}
 use Rattle.oak_clash.specs.declared.mark.Mark.{Mark}
 use Rattle.oak_commit.specs.Clashing.{Writer, has, has_mark}
 use Rattle.oak_doc.specs.declared.document.Document.{Document}
-use Rattle.oak_machine.specs.declared.event.Draw.{Draw}
 use Rattle.oak_machine.specs.History.{Past}
-use Rattle.oak_machine.specs.Commits.{draw_of}
+use Rattle.oak_machine.specs.Commits.{draw_of, is_committed, is_in_flight}
 use Rattle.oak_machine.specs.Laws.{Says, Starts}
 use Rattle.oak_machine.specs.Runs.{AreNodes, IsNode, IsRunOf}
-use Rattle.oak_machine.specs.Sessions.{base_of, has_left, has_login, is_drawing, is_stopped, kept_checkpoint, last_checkpoint}
+use Rattle.oak_machine.specs.Sessions.{base_of, has_left, has_login, is_drawing, is_stopped, is_stopped_under, kept_checkpoint, last_checkpoint}
 use Rattle.oak_node.specs.Memory.{NodeState}
 use Rattle.oak_read.specs.declared.reader.Reader.{Reader}
 use Rattle.oak_read.specs.Meaning.{documents_in}
 use Rattle.oak_store.specs.Tables.{Table}
+use Rattle.core_clash.specs.Core.{IsCleared}
 use Rattle.core_clash.specs.Sessions.{IsTheirs, Running}
 use Rattle.core_clash.specs.Sound.{Sound}
 use Rattle.core_nodes.specs.Nodes.{ArePinsOf, IsMemoryOf, IsOnRoot, IsPair, base_of_pin}
-use Rattle.core_watch.specs.Reading.{Ever, IsReading}
-use Rattle.core_watch.specs.Instants.{AreListed}
+use Rattle.core_keep.specs.Formers.{AreFormers, Formers}
+use Rattle.core_watch.specs.Reading.{IsReading}
 use Rattle.jr_rev.specs.Vectors.{sees}
 use Rattle.core_read.specs.Told.{IsIn}
 use Rattle.core_keep.specs.Holding.{Holding}
-use Rattle.core_keep.specs.Journal.{is_bounded, is_swept, IsKeptWorld}
+use Rattle.core_keep.specs.Journal.{course_of, is_bounded, is_swept, IsKeptWorld}
 use Rattle.core_world.specs.Held.{holding_in}
 use Rattle.core_world.specs.States.{State, actor_pin, core_in, memory_at, nodes_in}
 use Rattle.core_world.specs.Steps.{paths_to_write}
@@ -47,19 +46,22 @@ abbrev pub has_written : Writer → Path → Bool
 has_written w p = list_any (eq_by_cmp path_cmp p) w.written
 
 -- there are writers of all draws, also of those that have ended, with which the core is sound; the committers at work are those of their draws, and each writes the marked documents;
--- the documents keep what the past tells, and each draw in flight that isn't committed is written just where its writer has written; and no cluster node was stopped
+-- the documents keep what the past tells, and each draw in flight that isn't committed is written just where its writer has written; and none at work is of a cluster node that was stopped
 pub record AreCommitting (past : Past) (t : Table) (running : ℕ → Option Running) : Type 0 where
   pub writers : Revision → Writer
   pub sound : Sound (core_in past t writers)
   pub theirs : (s : ℕ) (x : Running) → running s ≡ Some x → IsTheirs past writers s x
   pub listed : (s : ℕ) (x : Running) → running s ≡ Some x → x.writer.paths ≡ paths_to_write x.draw.marks
   pub kept : IsKeptWorld (documents_in t.documents) past (λ r. has_written (writers r))
-  pub unstopped : (k : ℕ) → IsFalse (is_stopped past k)
+  pub unstopped : (s : ℕ) (x : Running) → running s ≡ Some x → IsFalse (is_stopped past x.draw.revision.cluster)
 
--- the sessions with a committer at work are just those with a draw in flight, and they haven't left
-pub record AreAtWork (past : Past) (running : ℕ → Option Running) : Type 0 where
-  pub idle : (s : ℕ) → running s ≡ None → IsFalse (is_drawing past s)
+-- of cluster nodes that weren't stopped, the sessions with a committer at work are just those with a draw in flight; none with a draw in flight has left; and of a stopped cluster node no session has a committer or a reader at work
+pub record AreAtWork (sessions : List ℕ) (past : Past) (running : ℕ → Option Running) (reading : ℕ → Option Reader) : Type 0 where
+  pub idle : (s : ℕ) → running s ≡ None → IsFalse (is_stopped_under sessions past s) → IsFalse (is_drawing past s)
   pub stays : (s : ℕ) (x : Running) → running s ≡ Some x → IsFalse (has_left past s)
+  pub goes : (s : ℕ) (x : Running) → running s ≡ Some x → IsFalse (is_stopped_under sessions past s)
+  pub reads : (s : ℕ) (r : Reader) → reading s ≡ Some r → IsFalse (is_stopped_under sessions past s)
+  pub halted : (s : ℕ) → IsTrue (is_stopped_under sessions past s) → IsTrue (is_drawing past s) → IsFalse (has_left past s)
 
 -- ---- memories
 
@@ -80,11 +82,10 @@ pub record IsAboveBounds (past : Past) (x : Pin) : Type 0 where
   pub base : (r : Revision) → IsTrue (is_bounded past r) → IsTrue (sees x.base r)
   pub sweep : (r : Revision) → IsTrue (is_swept past r) → IsTrue (sees x.sweep r)
 
--- each reader reads the tree at the base of its session, with a sweep vector that goes with it, above the bounds so far; there are the numbers of previous documents that were ever listed
-pub record AreReading (past : Past) (t : Table) (reading : ℕ → Option Reader) : Type 0 where
-  pub ever : Ever
-  pub listed : AreListed (documents_in t.documents) ever
-  pub reads : (s : ℕ) (r : Reader) → reading s ≡ Some r → IsReading (documents_in t.documents) past ever r
+-- each reader reads the tree at the base of its session, with a sweep vector that goes with it, above the bounds so far; and what is told of former documents is so
+pub record AreReading (past : Past) (t : Table) (formers : Formers) (reading : ℕ → Option Reader) : Type 0 where
+  pub told : AreFormers (documents_in t.documents) (course_of past) formers
+  pub reads : (s : ℕ) (r : Reader) → reading s ≡ Some r → IsReading (documents_in t.documents) past formers r
   pub above : (s : ℕ) (r : Reader) → reading s ≡ Some r → IsAboveBounds past r.pin
   pub at_base : (s : ℕ) (r : Reader) → reading s ≡ Some r → live_base past s ≡ Some r.pin.base
   pub pairs : (s : ℕ) (r : Reader) → reading s ≡ Some r → IsPair r.pin.base r.pin.sweep
@@ -110,15 +111,16 @@ reader_at (event.Attach t id ∷ past) s = cond (t == s) (last_checkpoint past i
 reader_at (event.Detach t ∷ past) s = cond (t == s) None (reader_at past s)
 reader_at (_ ∷ past) s = reader_at past s
 
--- the settings' document is there; it has exactly the last checkpoint of each id that wasn't released since, and a reader for exactly the sessions that are attached and weren't detached since, each with a sweep vector that goes with it
-pub record AreSettingsKept (past : Past) (t : Table) : Type 0 where
+-- the settings' document is there; it has exactly the last checkpoint of each id that wasn't released since, a reader for no session but those that are attached and weren't detached since, and one for each of these whose cluster node wasn't stopped, each with a sweep vector that goes with it
+pub record AreSettingsKept (sessions : List ℕ) (past : Past) (t : Table) : Type 0 where
   pub document : Document
   pub there : documents_in t.documents id.Settings ≡ Some document
   pub ordered : IsTrue (is_sorted name_cmp document.checkpoints)
   pub numbered : IsTrue (is_sorted nat_cmp document.readers)
   pub checkpoints : (id : Text) → base_of_pin (lookup (is_at (name_cmp id)) document.checkpoints) ≡ kept_checkpoint past id
   pub checkpoint_pairs : (id : Text) (pin : Pin) → lookup (is_at (name_cmp id)) document.checkpoints ≡ Some pin → IsPair pin.base pin.sweep
-  pub readers : (s : ℕ) → base_of_pin (lookup (is_at (nat_cmp s)) document.readers) ≡ reader_at past s
+  pub readers : (s : ℕ) → IsFalse (is_stopped_under sessions past s) → base_of_pin (lookup (is_at (nat_cmp s)) document.readers) ≡ reader_at past s
+  pub only : (s : ℕ) (pin : Pin) → lookup (is_at (nat_cmp s)) document.readers ≡ Some pin → reader_at past s ≡ Some pin.base
   pub reader_pairs : (s : ℕ) (pin : Pin) → lookup (is_at (nat_cmp s)) document.readers ≡ Some pin → IsPair pin.base pin.sweep
 
 -- ---- the whole
@@ -128,15 +130,15 @@ pub record AreSessionsKept (starts : Starts) (says : Says) (w : State) : Type 0 
   pub nodes : AreNodes w.clusters w.sessions
   pub run : IsRunOf starts says w.clusters w.sessions None w.past
   pub committing : AreCommitting w.past w.table w.running
-  pub working : AreAtWork w.past w.running
+  pub working : AreAtWork w.sessions w.past w.running w.reading
   pub memories : AreMemories w.clusters w.sessions w.past w.memories
-  pub readers : AreReading w.past w.table w.reading
+  pub readers : AreReading w.past w.table w.formers w.reading
 
 -- the same, with what is kept of the root and of the settings
 pub record AreLayersKept (starts : Starts) (says : Says) (w : State) : Type 0 where
   pub sessions : AreSessionsKept starts says w
   pub root : IsRootKept w.clusters w.past w.table
-  pub settings : AreSettingsKept w.past w.table
+  pub settings : AreSettingsKept w.sessions w.past w.table
 
 -- all that is held is above the bounds so far: heads, pins, and what the settings keep
 pub record AreAboveBounds (past : Past) (h : Holding) : Type 0 where
@@ -151,7 +153,7 @@ IsPinned w = (s : ℕ) (r : Reader) → w.reading s ≡ Some r → actor_pin w s
 pub record IsKept (starts : Starts) (says : Says) (w : State) : Type 0 where
   pub sessions : AreSessionsKept starts says w
   pub root : IsRootKept w.clusters w.past w.table
-  pub settings : AreSettingsKept w.past w.table
+  pub settings : AreSettingsKept w.sessions w.past w.table
   pub above : AreAboveBounds w.past (holding_in w)
   pub pinned : IsPinned w
 
@@ -162,3 +164,7 @@ pub record IsFreeOf (r : Revision) (d : Document) : Type 0 where
   pub marks : (m : Mark) → IsFalse (has_mark d r m)
   pub root : IsFalse (has d.commit_root r)
   pub said : IsFalse (has d.revisions r)
+
+-- no document has anything of what cluster node k has in flight and hasn't committed
+abbrev pub IsClearedOf : State → ℕ → Type 0
+IsClearedOf w k = (r : Revision) → r.cluster ≡ k → IsTrue (is_in_flight w.past r) → IsFalse (is_committed w.past r) → IsCleared (nodes_in w.table) r

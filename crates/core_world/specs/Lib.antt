@@ -4,3 +4,8 @@ pub mod Start
 pub mod Kept
 pub mod Held
 pub mod Collecting
+pub mod Numbers
+pub mod Bounding
+pub mod Sweeping
+pub mod Copying
+pub mod Freed

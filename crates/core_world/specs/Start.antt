@@ -58,4 +58,5 @@ start_state clusters sessions = record {
   memories = map (λ k. begun k (start clusters)) (range_with_len 1 clusters);
   running = λ s. None;
   reading = λ s. None;
+  formers = λ p k. None;
 }

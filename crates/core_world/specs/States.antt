@@ -21,11 +21,12 @@ use Rattle.oak_node.specs.Pins.{pin_of}
 use Rattle.oak_read.specs.declared.reader.Reader.{Reader}
 use Rattle.oak_read.specs.Meaning.{documents_in}
 use Rattle.oak_store.specs.Tables.{Table}
+use Rattle.core_keep.specs.Formers.{Formers}
 use Rattle.core_clash.specs.Core.{Core}
 use Rattle.core_clash.specs.Sessions.{Running}
 
 -- the number of cluster nodes, and the cluster node of each session; the events so far, the newest first; the documents; the memories of the cluster nodes 1, 2 and so on;
--- of each session the committer at work, from its draw to the end, and the reader of its load or list
+-- of each session the committer at work, from its draw to the end, and the reader of its load or list; and the former documents of the previous documents that were listed so far
 pub record State : Type 0 where
   pub clusters : ℕ
   pub sessions : List ℕ
@@ -34,6 +35,7 @@ pub record State : Type 0 where
   pub memories : List NodeState
   pub running : ℕ → Option Running
   pub reading : ℕ → Option Reader
+  pub formers : Formers
 
 -- what the journal of a state tells
 abbrev pub history_in : State → History

@@ -39,8 +39,9 @@ use Rattle.oak_store.specs.Tables.{Table, after_undo, next_number, with_document
 use Rattle.core_clash.specs.Core.{root_of}
 use Rattle.oak_commit.specs.Looking.{whole}
 use Rattle.core_clash.specs.Sessions.{Running}
-use Rattle.core_nodes.specs.Nodes.{cursor_owner, without_session}
-use Rattle.core_world.specs.States.{State, base_in, memory_of, node_of, nodes_in, with_memory, with_session, moved_in}
+use Rattle.core_nodes.specs.Nodes.{after_recovery, cursor_owner, is_of_node, without_session}
+use Rattle.oak_node.specs.Stops.{with_recovery, with_stop}
+use Rattle.core_world.specs.States.{State, base_in, memory_at, memory_of, node_of, nodes_in, with_memory, with_session, moved_in}
 
 -- ---- documents
 
@@ -242,9 +243,13 @@ after_learn_swept w s r = record w { past = event.Went s kind.Learn ∷ w.past; 
 
 -- ---- checkpoints
 
--- the settings' update for one change
+-- the settings' update for some changes
+abbrev pub settings_ops : List Change → UpdateOp
+settings_ops cs = record { id = id.Settings; create = false; cond = None; changes = cs }
+
+-- and for one
 abbrev pub settings_op : Change → UpdateOp
-settings_op c = record { id = id.Settings; create = false; cond = None; changes = c ∷ [] }
+settings_op c = settings_ops (c ∷ [])
 
 -- session s makes a checkpoint of that id, at its pin
 abbrev pub after_checkpoint : State → ℕ → Text → Pin → State
@@ -265,6 +270,40 @@ after_unfound w s c = record w { past = event.Went s kind.Settings ∷ w.past; t
 -- session s, which was pinned at its node's head, is no reader any more
 abbrev pub after_detach : State → ℕ → State
 after_detach w s = record w { past = event.Detach s ∷ w.past; table = after_update w.table (settings_op (change.Detach s)) }
+
+-- ---- stops and recoveries
+
+-- what the sessions of cluster node k have is gone
+abbrev pub without_node : {X : Type 0} → List ℕ → ℕ → (ℕ → Option X) → ℕ → Option X
+without_node sessions k has s = cond (is_of_node sessions k s) None (has s)
+
+-- cluster node k is stopped: neither a committer nor a reader of its sessions makes a further step
+abbrev pub after_stop : State → ℕ → State
+after_stop w k = record w {
+  past = event.Stop k ∷ w.past;
+  memories = with_memory w.memories k (with_stop (memory_at w.memories k));
+  running = without_node w.sessions k w.running;
+  reading = without_node w.sessions k w.reading;
+}
+
+-- session s, which recovers a stopped node, undoes a revision of it in the document of p
+abbrev pub after_clear : State → ℕ → Path → Revision → State
+after_clear w s p r = record w { past = event.Went s kind.Undo ∷ w.past; table = after_undo w.table (id.Node p) r }
+
+-- the memory of cluster node k is recovered: all that it has in flight ends, and its pins go
+abbrev pub after_recover : State → ℕ → State
+after_recover w k = record w { past = after_recovery w.past k; memories = with_memory w.memories k (with_recovery (memory_at w.memories k)) }
+
+-- the root is told what is published of cluster node k, and that it is swept
+abbrev pub publish_op : Revision → UpdateOp
+publish_op r = record { id = id.Node []; create = false; cond = None; changes = change.LastRev r ∷ change.SweepRev r ∷ [] }
+
+abbrev pub after_publish : State → ℕ → Revision → State
+after_publish w k r = record w { past = event.Sweep k r ∷ event.Out k r ∷ w.past; table = after_update w.table (publish_op r) }
+
+-- the settings drop what they keep under the numbers of these sessions
+abbrev pub after_drop_readers : State → ℕ → List ℕ → State
+after_drop_readers w s sessions = record w { past = event.Went s kind.Recover ∷ w.past; table = after_update w.table (settings_ops (map change.Detach sessions)) }
 
 -- ---- a step is one session's
 

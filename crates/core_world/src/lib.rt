@@ -1,14 +1,17 @@
 //! What a world of many sessions keeps, and that each of its steps keeps it.
 #![tactic(auto)]
 
-ghost use Rattle.std.specs.Prelude.{◌≡◌, ◌↔◌, ◌⊎◌, ◌∷◌, [], ℕ, ◌≤◌, IsSome, List, Option, Some, None, length, slice_get, is_some, IsTrue, IsFalse};
+ghost use Rattle.std.specs.Prelude.{◌≡◌, ◌≢◌, ◌↔◌, ◌⊎◌, ◌∷◌, ◌++◌, ◌+◌, [], ℕ, ◌≤◌, ◌<◌, IsSome, List, Option, Some, None, length, slice_get, is_some, IsTrue, IsFalse, Bool};
 ghost use Rattle.std.specs.List.{All};
-ghost use Rattle.std.specs.List.{list_any};
+ghost use Rattle.std.specs.List.{filter, list_any, list_all};
+ghost use Rattle.std.specs.Option.{option_map_or};
 ghost use Rattle.jr_path.specs.declared.name.Name.{Name};
-ghost use Rattle.jr_rev.specs.Revisions.{is_before};
-ghost use Rattle.jr_rev.specs.Vectors.{sees, start_of};
+ghost use Rattle.jr_rev.specs.Revisions.{is_before, is_same};
+ghost use Rattle.jr_rev.specs.Vectors.{sees, start_of, greatest, no_entries};
 ghost use Rattle.oak_clash.specs.declared.mark.Mark.TheVariants as mark;
-ghost use Rattle.oak_commit.specs.Clashing.{marked};
+ghost use Rattle.oak_commit.specs.Clashing.{has_mark, marked, noted};
+ghost use Rattle.oak_clash.specs.declared.mark.Mark.{Mark};
+ghost use Rattle.oak_read.specs.Meaning as meaning;
 ghost use Rattle.core_clash.specs.Sound.{has_moved};
 ghost use Rattle.std.specs.declared.alloc.Global.{Global};
 ghost use Rattle.jr_path.specs.Grammar.{IsName};
@@ -33,7 +36,8 @@ ghost use Rattle.jr_tree.specs.declared.edit.Edit.{Edit};
 ghost use Rattle.jr_tree.specs.Trees.{node_at};
 ghost use Rattle.oak_clash.specs.declared.mark.MarkAt.{MarkAt};
 ghost use Rattle.oak_commit.specs.Clashing.{Met, found, mark_op};
-ghost use Rattle.oak_commit.specs.Writing.{last_op};
+ghost use Rattle.oak_commit.specs.Writing.{last_op, write_op};
+ghost use Rattle.jr_tree.specs.declared.edit.Write.{Write};
 ghost use Rattle.oak_doc.specs.declared.document.Document.{Document};
 ghost use Rattle.oak_doc.specs.declared.update.Change.{Change};
 ghost use Rattle.oak_doc.specs.declared.update.Change.TheVariants as change;
@@ -41,9 +45,9 @@ ghost use Rattle.oak_doc.specs.declared.update.UpdateOp.{UpdateOp};
 ghost use Rattle.oak_machine.specs.declared.event.Event.{Event};
 ghost use Rattle.oak_machine.specs.declared.event.StepKind.{StepKind};
 ghost use Rattle.oak_machine.specs.declared.event.StepKind.TheVariants as kind;
-ghost use Rattle.oak_machine.specs.Commits.{IsClosed, IsSettled, are_clashing, is_committed, is_drawn, is_ended, is_in_base, is_refused, refusal_of, tree_at};
+ghost use Rattle.oak_machine.specs.Commits.{IsClosed, IsSettled, are_clashing, is_committed, is_drawn, is_ended, is_in_base, is_in_flight, is_refused, refusal_of, tree_at};
 ghost use Rattle.oak_machine.specs.Runs.{AreNodes, IsNode, IsRunOf};
-ghost use Rattle.oak_machine.specs.Sessions.{base_of, has_left, has_login, has_reader, is_attached, kept_checkpoint, next_index};
+ghost use Rattle.oak_machine.specs.Sessions.{base_of, has_left, has_login, has_reader, is_attached, is_recovered, is_stopped, is_stopped_under, kept_checkpoint, next_index};
 ghost use Rattle.oak_machine.specs.Steps.{is_kind};
 ghost use Rattle.oak_node.specs.Heads.{IsInFlight, known_time, learned};
 ghost use Rattle.oak_node.specs.Pins.{pin_of};
@@ -53,22 +57,42 @@ ghost use Rattle.oak_read.specs.declared.reader.ReadOut.{ReadOut};
 ghost use Rattle.oak_read.specs.declared.reader.Step.TheVariants as step;
 ghost use Rattle.oak_read.specs.Meaning.{Documents, documents_in, found_node, path_of};
 ghost use Rattle.oak_read.specs.Reading.{IsTable, answer, children_reader, due, fed, node_reader};
-ghost use Rattle.oak_store.specs.Tables.{Table, after_undo};
-ghost use Rattle.core_clash.specs.Core.{root_of};
+ghost use Rattle.oak_store.specs.Tables.{Table, after_undo, next_number, with_document};
+ghost use Rattle.core_clash.specs.Core.{IsDead, root_of};
+ghost use Rattle.oak_machine.specs.declared.event.Draw.{Draw};
 ghost use Rattle.oak_commit.specs.Looking.{whole};
 ghost use Rattle.core_clash.specs.Sessions.{Running};
 ghost use Rattle.core_clash.specs.Sound.{Cause, IsRooted};
 ghost use Rattle.core_clash.specs.Views.{In};
+ghost use Rattle.core_keep.specs.Formers.{Former, former_now, Formers, IsCopyOf, with_former};
+ghost use Rattle.core_keep.specs.Bounds.{root_pair};
+ghost use Rattle.core_keep.specs.Splits.{previous_write, IsInOrder};
 ghost use Rattle.core_keep.specs.Holding.{IsHoldingStep};
-ghost use Rattle.core_keep.specs.Journal.{IsKeptWorld};
+ghost use Rattle.core_keep.specs.Journal.{course_of, is_swept, IsHeld, IsKeptWorld};
+ghost use Rattle.core_read.specs.Holds.{edit_of};
+ghost use Rattle.core_read.specs.Told.{IsIn, IsTold};
+ghost use Rattle.core_read.specs.World.{Progress};
+ghost use Rattle.std.specs.FinMap.{is_sorted};
+ghost use Rattle.jr_path.specs.Ids.{id_cmp};
+ghost use Rattle.oak_doc.specs.Updates.{after_changes};
+ghost use Rattle.core_world.specs.Bounding.{CanAllBound, fed_node, fed_settings, IsBounding};
+ghost use Rattle.core_world.specs.Copying.{IsCopied, IsFoundIn, LetsCopy};
+ghost use Rattle.core_world.specs.Numbers.{last_number, AreNumbered, IsNumberStep, IsPassed, IsReadIn, IsSplitting};
+ghost use Rattle.core_clash.specs.Collecting.{IsBoundOf};
+ghost use Rattle.core_keep.specs.Dropping.{is_number_of};
+ghost use Rattle.core_keep.specs.Garbage.{is_garbage_previous, pruning};
+ghost use Rattle.core_read.specs.Writes.{IsOrderedDocument};
+ghost use Rattle.core_keep.specs.Steps.{IsChangeAt, IsMainAt, IsPreviousAt, IsUnlisted};
 ghost use Rattle.core_nodes.specs.Nodes.{IsPair, base_of_pin, cursor_owner};
 ghost use Rattle.core_watch.specs.Standing.{AreChildrenOf, IsNodeOf, path_read};
-ghost use Rattle.core_world.specs.Collecting.{MayPrune, MayRemove, MayRemovePrevious, MaySplit, after_copied, after_pruned, after_removed, after_split};
+ghost use Rattle.core_world.specs.Collecting.{MayPrune, MayRemove, MayRemovePrevious, MaySplit, after_copied, after_pruned, after_removed, after_split, without};
+ghost use Rattle.core_world.specs.Freed.{HasNothing, brings_nothing};
 ghost use Rattle.core_world.specs.Held.{after_bound, holding_in, MayTakeBound};
-ghost use Rattle.core_world.specs.Kept.{IsFreeOf, IsKept, WereOnRoot, has_written};
+ghost use Rattle.core_world.specs.Kept.{IsClearedOf, IsFreeOf, IsKept, WereOnRoot, has_written};
 ghost use Rattle.core_world.specs.Start.{start_state, start_table};
 ghost use Rattle.core_world.specs.States.{State, actor_pin, base_in, history_in, memory_at, memory_of, moved_in, node_of, nodes_in};
-ghost use Rattle.core_world.specs.Steps.{IsThrough, LeavesOthers, after_attach, after_back, after_checkpoint, after_detach, after_release, after_learn, after_learn_swept, after_out, after_pending, after_sweep, after_draw, after_finish, after_unfound, after_last, after_leave, after_login, after_mark, after_observe, after_refresh, after_said, after_undoing, after_update, after_want, after_went, after_write, after_write_in_want, with_reader};
+ghost use Rattle.core_world.specs.Steps.{IsThrough, LeavesOthers, after_attach, after_back, after_checkpoint, after_clear, after_detach, after_drop_readers, after_publish, after_recover, after_stop, after_release, after_learn, after_learn_swept, after_out, after_pending, after_sweep, after_draw, after_finish, after_unfound, after_last, after_leave, after_login, after_mark, after_observe, after_refresh, after_said, after_undoing, after_update, after_want, after_went, after_write, after_write_in_want, with_reader};
+ghost use Rattle.core_world.specs.Sweeping.{target_of};
 
 use oak_machine::Law;
 
@@ -77,14 +101,14 @@ use oak_machine::Law;
 /// that is fed what the documents answer, or that is taken away.
 pub fn sessions_keep_the_world<L: Law>(law: &L)
     ensures start { (clusters : ℕ) (sessions : List ℕ) → AreNodes clusters sessions → IsKept (L.may_start law.now) (L.may_say law.now) (start_state clusters sessions) }
-    ensures login { (w : State) (s : ℕ) → IsKept (L.may_start law.now) (L.may_say law.now) w → IsTrue (is_some (slice_get w.sessions s)) → IsFalse (has_login w.past s) → IsKept (L.may_start law.now) (L.may_say law.now) (after_login w s) }
-    ensures refresh { (w : State) (s : ℕ) → IsKept (L.may_start law.now) (L.may_say law.now) w → IsTrue (has_login w.past s) → IsFalse (has_left w.past s) → w.running s ≡ None → w.reading s ≡ None → IsKept (L.may_start law.now) (L.may_say law.now) (after_refresh w s) }
-    ensures leave { (w : State) (s : ℕ) → IsKept (L.may_start law.now) (L.may_say law.now) w → slice_get w.sessions (cursor_owner s) ≡ None → IsTrue (has_login w.past s) → IsFalse (has_left w.past s) → w.running s ≡ None → w.reading s ≡ None → IsKept (L.may_start law.now) (L.may_say law.now) (after_leave w s) }
+    ensures login { (w : State) (s : ℕ) → IsKept (L.may_start law.now) (L.may_say law.now) w → IsFalse (is_stopped_under w.sessions w.past s) → IsTrue (is_some (slice_get w.sessions s)) → IsFalse (has_login w.past s) → IsKept (L.may_start law.now) (L.may_say law.now) (after_login w s) }
+    ensures refresh { (w : State) (s : ℕ) → IsKept (L.may_start law.now) (L.may_say law.now) w → IsFalse (is_stopped_under w.sessions w.past s) → IsTrue (has_login w.past s) → IsFalse (has_left w.past s) → w.running s ≡ None → w.reading s ≡ None → IsKept (L.may_start law.now) (L.may_say law.now) (after_refresh w s) }
+    ensures leave { (w : State) (s : ℕ) → IsKept (L.may_start law.now) (L.may_say law.now) w → IsFalse (is_stopped_under w.sessions w.past s) → slice_get w.sessions (cursor_owner s) ≡ None → IsTrue (has_login w.past s) → IsFalse (has_left w.past s) → w.running s ≡ None → w.reading s ≡ None → IsKept (L.may_start law.now) (L.may_say law.now) (after_leave w s) }
     ensures observe { (w : State) (s : ℕ) (pin : Pin) → IsKept (L.may_start law.now) (L.may_say law.now) w → slice_get w.sessions (cursor_owner s) ≡ None → IsTrue (has_login w.past s) → IsFalse (has_left w.past s) → w.reading s ≡ None → pin_of (memory_of w s) s ≡ Some pin → IsKept (L.may_start law.now) (L.may_say law.now) (after_observe w s pin) }
     ensures said { (w : State) (s i : ℕ) (text : Text) → IsKept (L.may_start law.now) (L.may_say law.now) w → i ≡ next_index w.past s → L.may_say law.now (history_in w) s i text → IsKept (L.may_start law.now) (L.may_say law.now) (after_said w s i text) }
     ensures went { (w : State) (s : ℕ) (k : StepKind) → IsKept (L.may_start law.now) (L.may_say law.now) w → IsFalse (is_kind k kind.End) → IsFalse (is_kind k kind.Pin) → IsTrue (has_login w.past s) → IsFalse (has_left w.past s) → IsKept (L.may_start law.now) (L.may_say law.now) (after_went w s k) }
-    ensures load { (w : State) (s : ℕ) (a : Global) (pin : Pin) (p : Path) → IsKept (L.may_start law.now) (L.may_say law.now) w → IsTrue (has_login w.past s) → IsFalse (has_left w.past s) → actor_pin w s ≡ Some pin → IsKept (L.may_start law.now) (L.may_say law.now) (with_reader w s (Some (node_reader a pin p))) }
-    ensures list { (w : State) (s : ℕ) (a : Global) (pin : Pin) (p : Path) → IsKept (L.may_start law.now) (L.may_say law.now) w → IsTrue (has_login w.past s) → IsFalse (has_left w.past s) → actor_pin w s ≡ Some pin → IsKept (L.may_start law.now) (L.may_say law.now) (with_reader w s (Some (children_reader a pin p))) }
+    ensures load { (w : State) (s : ℕ) (a : Global) (pin : Pin) (p : Path) → IsKept (L.may_start law.now) (L.may_say law.now) w → IsFalse (is_stopped_under w.sessions w.past s) → IsTrue (has_login w.past s) → IsFalse (has_left w.past s) → actor_pin w s ≡ Some pin → IsKept (L.may_start law.now) (L.may_say law.now) (with_reader w s (Some (node_reader a pin p))) }
+    ensures list { (w : State) (s : ℕ) (a : Global) (pin : Pin) (p : Path) → IsKept (L.may_start law.now) (L.may_say law.now) w → IsFalse (is_stopped_under w.sessions w.past s) → IsTrue (has_login w.past s) → IsFalse (has_left w.past s) → actor_pin w s ≡ Some pin → IsKept (L.may_start law.now) (L.may_say law.now) (with_reader w s (Some (children_reader a pin p))) }
     ensures read { (w : State) (s : ℕ) (r : Reader) → IsKept (L.may_start law.now) (L.may_say law.now) w → w.reading s ≡ Some r → IsTable w.table.documents → IsKept (L.may_start law.now) (L.may_say law.now) (with_reader w s (Some (fed r (answer w.table.documents (due r))))) }
     ensures gone { (w : State) (s : ℕ) → IsKept (L.may_start law.now) (L.may_say law.now) w → IsKept (L.may_start law.now) (L.may_say law.now) (with_reader w s None) }
 {}
@@ -93,7 +117,7 @@ pub fn sessions_keep_the_world<L: Law>(law: &L)
 /// where memory is then refused for what is met there, and the mark of the next collision, of a committer that neither has committed nor undoes; its last write, where nothing is
 /// left; its turn to undoing for want of memory; the undoing of a document; and the end of its revision.
 pub fn commits_keep_the_world<L: Law>(law: &L)
-    ensures draw { (w : State) (s : ℕ) (edit : Edit) (marks : List MarkAt) (paths : List Path) → IsKept (L.may_start law.now) (L.may_say law.now) w → IsTrue (has_login w.past s) → IsFalse (has_left w.past s) → IsFalse (is_attached w.past s) → w.running s ≡ None → L.may_start law.now (history_in w) s edit marks → IsKept (L.may_start law.now) (L.may_say law.now) (after_draw w s edit marks paths) }
+    ensures draw { (w : State) (s : ℕ) (edit : Edit) (marks : List MarkAt) (paths : List Path) → IsKept (L.may_start law.now) (L.may_say law.now) w → IsFalse (is_stopped_under w.sessions w.past s) → IsTrue (has_login w.past s) → IsFalse (has_left w.past s) → IsFalse (is_attached w.past s) → w.running s ≡ None → L.may_start law.now (history_in w) s edit marks → IsKept (L.may_start law.now) (L.may_say law.now) (after_draw w s edit marks paths) }
     ensures write { (w : State) (s : ℕ) (x : Running) (p : Path) (rest : List Path) → IsKept (L.may_start law.now) (L.may_say law.now) w → w.running s ≡ Some x → IsFalse x.committed → IsFalse x.writer.undoing → x.writer.due ≡ [] → x.writer.left ≡ p ∷ rest → IsKept (L.may_start law.now) (L.may_say law.now) (after_write w s x p rest) }
     ensures write_in_want { (w : State) (s : ℕ) (x : Running) (p : Path) (rest : List Path) → IsKept (L.may_start law.now) (L.may_say law.now) w → w.running s ≡ Some x → IsFalse x.committed → IsFalse x.writer.undoing → x.writer.due ≡ [] → x.writer.left ≡ p ∷ rest → IsKept (L.may_start law.now) (L.may_say law.now) (after_write_in_want w s x p rest) }
     ensures mark { (w : State) (s : ℕ) (x : Running) (f : Met) (rest : List Met) → IsKept (L.may_start law.now) (L.may_say law.now) w → w.running s ≡ Some x → IsFalse x.committed → IsFalse x.writer.undoing → x.writer.due ≡ f ∷ rest → IsKept (L.may_start law.now) (L.may_say law.now) (after_mark w s x f rest) }
@@ -118,7 +142,7 @@ pub fn committers_find_what_they_need<L: Law>(law: &L)
 /// the journal has there. A reader that is done gives that tree's node, or the names of its children. No node knows a time
 /// that is greater than the number of events.
 pub fn pins_show_the_tree<L: Law>(law: &L)
-    ensures pinned { (w : State) (s : ℕ) → IsKept (L.may_start law.now) (L.may_say law.now) w → IsTrue (has_login w.past s) → IsFalse (has_left w.past s) → (pin : Pin) × (pin_of (memory_of w s) s ≡ Some pin) × (pin.base ≡ base_in w s) × (IsFalse (is_attached w.past s) → base_of w.past s ≡ Some (base_in w s)) × IsPair pin.base pin.sweep }
+    ensures pinned { (w : State) (s : ℕ) → IsKept (L.may_start law.now) (L.may_say law.now) w → IsFalse (is_stopped_under w.sessions w.past s) → IsTrue (has_login w.past s) → IsFalse (has_left w.past s) → (pin : Pin) × (pin_of (memory_of w s) s ≡ Some pin) × (pin.base ≡ base_in w s) × (IsFalse (is_attached w.past s) → base_of w.past s ≡ Some (base_in w s)) × IsPair pin.base pin.sweep }
     ensures settled { (w : State) (s : ℕ) (pin : Pin) → IsKept (L.may_start law.now) (L.may_say law.now) w → IsTrue (is_some (slice_get w.sessions s)) → pin_of (memory_of w s) s ≡ Some pin → IsSettled w.past pin.base }
     ensures closed { (w : State) (s : ℕ) (pin : Pin) → IsKept (L.may_start law.now) (L.may_say law.now) w → IsTrue (is_some (slice_get w.sessions s)) → pin_of (memory_of w s) s ≡ Some pin → IsClosed w.past pin.base }
     ensures shown { (w : State) (s : ℕ) (pin : Pin) (p : Path) → IsKept (L.may_start law.now) (L.may_say law.now) w → IsTrue (is_some (slice_get w.sessions s)) → pin_of (memory_of w s) s ≡ Some pin → found_node (documents_in w.table.documents) pin.sweep pin.base p ≡ node_at (tree_at None w.past pin.base) p }
@@ -137,7 +161,7 @@ pub fn background_work_keeps_the_world<L: Law>(law: &L)
     ensures pending { (w : State) (s : ℕ) → IsKept (L.may_start law.now) (L.may_say law.now) w → IsTrue (has_login w.past s) → IsFalse (has_left w.past s) → IsKept (L.may_start law.now) (L.may_say law.now) (after_pending w s) }
     ensures back { (w : State) (s : ℕ) (p : Path) (r : Revision) → IsKept (L.may_start law.now) (L.may_say law.now) w → IsTrue (has_login w.past s) → IsFalse (has_left w.past s) → IsFalse (eq_by_cmp path_cmp [] p) → IsKept (L.may_start law.now) (L.may_say law.now) (after_back w s p r) }
     ensures out { (w : State) (s : ℕ) (r : Revision) → IsKept (L.may_start law.now) (L.may_say law.now) w → IsTrue (has_login w.past s) → r.cluster ≡ node_of w s → IsTrue (is_at_most r (local None w.past (node_of w s))) → IsKept (L.may_start law.now) (L.may_say law.now) (after_out w s r) }
-    ensures learn { (w : State) (s : ℕ) (last sweep : RevVec) → IsKept (L.may_start law.now) (L.may_say law.now) w → IsTrue (has_login w.past s) → WereOnRoot w.clusters w.past last sweep → IsKept (L.may_start law.now) (L.may_say law.now) (after_learn w s last sweep) }
+    ensures learn { (w : State) (s : ℕ) (last sweep : RevVec) → IsKept (L.may_start law.now) (L.may_say law.now) w → IsFalse (is_stopped_under w.sessions w.past s) → IsTrue (has_login w.past s) → WereOnRoot w.clusters w.past last sweep → IsKept (L.may_start law.now) (L.may_say law.now) (after_learn w s last sweep) }
     ensures swept { (w : State) (s : ℕ) (r : Revision) → IsKept (L.may_start law.now) (L.may_say law.now) w → IsTrue (has_login w.past s) → r.cluster ≡ node_of w s → IsTrue (is_at_most r (published None w.past (node_of w s))) → IsKept (L.may_start law.now) (L.may_say law.now) (after_sweep w s r) }
     ensures learn_swept { (w : State) (s : ℕ) (r : Revision) → IsKept (L.may_start law.now) (L.may_say law.now) w → IsTrue (has_login w.past s) → IsFalse (has_left w.past s) → r.cluster ≡ node_of w s → IsTrue (is_at_most r (local None w.past (node_of w s))) → IsKept (L.may_start law.now) (L.may_say law.now) (after_learn_swept w s r) }
     ensures heard { (w : State) (s : ℕ) (last sweep : RevVec) (r : Revision) → IsKept (L.may_start law.now) (L.may_say law.now) w → IsTrue (has_login w.past s) → WereOnRoot w.clusters w.past last sweep → IsTrue (sees last r) → IsTrue (sees (learned (memory_of w s) last sweep).head r) }
@@ -152,13 +176,13 @@ pub fn background_work_keeps_the_world<L: Law>(law: &L)
 /// checkpoint of each id that wasn't released since. The pin at which a session reads, which is that of the settings while it
 /// is attached, is at its base.
 pub fn checkpoints_keep_the_world<L: Law>(law: &L)
-    ensures checkpoint { (w : State) (s : ℕ) (i : Text) (pin : Pin) → IsKept (L.may_start law.now) (L.may_say law.now) w → IsTrue (has_login w.past s) → IsFalse (has_left w.past s) → IsFalse (is_attached w.past s) → pin_of (memory_of w s) s ≡ Some pin → IsKept (L.may_start law.now) (L.may_say law.now) (after_checkpoint w s i pin) }
+    ensures checkpoint { (w : State) (s : ℕ) (i : Text) (pin : Pin) → IsKept (L.may_start law.now) (L.may_say law.now) w → IsFalse (is_stopped_under w.sessions w.past s) → IsTrue (has_login w.past s) → IsFalse (has_left w.past s) → IsFalse (is_attached w.past s) → pin_of (memory_of w s) s ≡ Some pin → IsKept (L.may_start law.now) (L.may_say law.now) (after_checkpoint w s i pin) }
     ensures release { (w : State) (i : Text) → IsKept (L.may_start law.now) (L.may_say law.now) w → IsSome (kept_checkpoint w.past i) → IsKept (L.may_start law.now) (L.may_say law.now) (after_release w i) }
-    ensures attach { (w : State) (s : ℕ) (i : Text) (v : RevVec) → IsKept (L.may_start law.now) (L.may_say law.now) w → IsTrue (has_login w.past s) → IsFalse (has_left w.past s) → IsFalse (is_attached w.past s) → w.reading s ≡ None → kept_checkpoint w.past i ≡ Some v → IsKept (L.may_start law.now) (L.may_say law.now) (after_attach w s i) }
+    ensures attach { (w : State) (s : ℕ) (i : Text) (v : RevVec) → IsKept (L.may_start law.now) (L.may_say law.now) w → IsFalse (is_stopped_under w.sessions w.past s) → IsTrue (has_login w.past s) → IsFalse (has_left w.past s) → IsFalse (is_attached w.past s) → w.reading s ≡ None → kept_checkpoint w.past i ≡ Some v → IsKept (L.may_start law.now) (L.may_say law.now) (after_attach w s i) }
     ensures detach { (w : State) (s : ℕ) → IsKept (L.may_start law.now) (L.may_say law.now) w → IsTrue (has_login w.past s) → IsFalse (has_left w.past s) → IsFalse (is_attached w.past s) → IsTrue (has_reader w.past s) → IsKept (L.may_start law.now) (L.may_say law.now) (after_detach w s) }
     ensures attach_unfound { (w : State) (s : ℕ) (i : Text) → IsKept (L.may_start law.now) (L.may_say law.now) w → IsTrue (has_login w.past s) → IsFalse (has_left w.past s) → kept_checkpoint w.past i ≡ None → IsKept (L.may_start law.now) (L.may_say law.now) (after_unfound w s (change.Attach s i)) }
     ensures release_unfound { (w : State) (s : ℕ) (i : Text) → IsKept (L.may_start law.now) (L.may_say law.now) w → IsTrue (has_login w.past s) → IsFalse (has_left w.past s) → kept_checkpoint w.past i ≡ None → IsKept (L.may_start law.now) (L.may_say law.now) (after_unfound w s (change.Release i)) }
-    ensures reads { (w : State) (s : ℕ) (pin : Pin) → IsKept (L.may_start law.now) (L.may_say law.now) w → IsTrue (has_login w.past s) → IsFalse (has_left w.past s) → actor_pin w s ≡ Some pin → (base_of w.past s ≡ Some pin.base) × IsPair pin.base pin.sweep }
+    ensures reads { (w : State) (s : ℕ) (pin : Pin) → IsKept (L.may_start law.now) (L.may_say law.now) w → IsFalse (is_stopped_under w.sessions w.past s) → IsTrue (has_login w.past s) → IsFalse (has_left w.past s) → actor_pin w s ≡ Some pin → (base_of w.past s ≡ Some pin.base) × IsPair pin.base pin.sweep }
     ensures kept { (w : State) (i : Text) (kept : IsKept (L.may_start law.now) (L.may_say law.now) w) → base_of_pin (lookup (is_at (name_cmp i)) kept.settings.document.checkpoints) ≡ kept_checkpoint w.past i }
 {}
 
@@ -167,14 +191,14 @@ pub fn checkpoints_keep_the_world<L: Law>(law: &L)
 /// keep what they kept or a pin. So a bound that was read node by node, the settings last, is at most all that is held then
 /// and later; where it sees with an edit all that the edit saw, it may be taken, and the world is kept.
 pub fn what_is_held_rises<L: Law>(law: &L)
-    ensures login { (w : State) (s : ℕ) → IsKept (L.may_start law.now) (L.may_say law.now) w → IsTrue (is_some (slice_get w.sessions s)) → IsFalse (has_login w.past s) → IsHoldingStep (holding_in w) (holding_in (after_login w s)) }
-    ensures refresh { (w : State) (s : ℕ) → IsKept (L.may_start law.now) (L.may_say law.now) w → IsTrue (has_login w.past s) → IsFalse (has_left w.past s) → w.running s ≡ None → w.reading s ≡ None → IsHoldingStep (holding_in w) (holding_in (after_refresh w s)) }
-    ensures leave { (w : State) (s : ℕ) → IsKept (L.may_start law.now) (L.may_say law.now) w → slice_get w.sessions (cursor_owner s) ≡ None → IsTrue (has_login w.past s) → IsFalse (has_left w.past s) → w.running s ≡ None → w.reading s ≡ None → IsHoldingStep (holding_in w) (holding_in (after_leave w s)) }
+    ensures login { (w : State) (s : ℕ) → IsKept (L.may_start law.now) (L.may_say law.now) w → IsFalse (is_stopped_under w.sessions w.past s) → IsTrue (is_some (slice_get w.sessions s)) → IsFalse (has_login w.past s) → IsHoldingStep (holding_in w) (holding_in (after_login w s)) }
+    ensures refresh { (w : State) (s : ℕ) → IsKept (L.may_start law.now) (L.may_say law.now) w → IsFalse (is_stopped_under w.sessions w.past s) → IsTrue (has_login w.past s) → IsFalse (has_left w.past s) → w.running s ≡ None → w.reading s ≡ None → IsHoldingStep (holding_in w) (holding_in (after_refresh w s)) }
+    ensures leave { (w : State) (s : ℕ) → IsKept (L.may_start law.now) (L.may_say law.now) w → IsFalse (is_stopped_under w.sessions w.past s) → slice_get w.sessions (cursor_owner s) ≡ None → IsTrue (has_login w.past s) → IsFalse (has_left w.past s) → w.running s ≡ None → w.reading s ≡ None → IsHoldingStep (holding_in w) (holding_in (after_leave w s)) }
     ensures observe { (w : State) (s : ℕ) (pin : Pin) → IsKept (L.may_start law.now) (L.may_say law.now) w → slice_get w.sessions (cursor_owner s) ≡ None → IsTrue (has_login w.past s) → IsFalse (has_left w.past s) → w.reading s ≡ None → pin_of (memory_of w s) s ≡ Some pin → IsHoldingStep (holding_in w) (holding_in (after_observe w s pin)) }
     ensures said { (w : State) (s i : ℕ) (text : Text) → IsKept (L.may_start law.now) (L.may_say law.now) w → i ≡ next_index w.past s → L.may_say law.now (history_in w) s i text → IsHoldingStep (holding_in w) (holding_in (after_said w s i text)) }
     ensures went { (w : State) (s : ℕ) (k : StepKind) → IsKept (L.may_start law.now) (L.may_say law.now) w → IsFalse (is_kind k kind.End) → IsFalse (is_kind k kind.Pin) → IsTrue (has_login w.past s) → IsFalse (has_left w.past s) → IsHoldingStep (holding_in w) (holding_in (after_went w s k)) }
     ensures reader { (w : State) (s : ℕ) (r : Option Reader) → IsHoldingStep (holding_in w) (holding_in (with_reader w s r)) }
-    ensures draw { (w : State) (s : ℕ) (edit : Edit) (marks : List MarkAt) (paths : List Path) → IsKept (L.may_start law.now) (L.may_say law.now) w → IsTrue (has_login w.past s) → IsFalse (has_left w.past s) → IsFalse (is_attached w.past s) → w.running s ≡ None → L.may_start law.now (history_in w) s edit marks → IsHoldingStep (holding_in w) (holding_in (after_draw w s edit marks paths)) }
+    ensures draw { (w : State) (s : ℕ) (edit : Edit) (marks : List MarkAt) (paths : List Path) → IsKept (L.may_start law.now) (L.may_say law.now) w → IsFalse (is_stopped_under w.sessions w.past s) → IsTrue (has_login w.past s) → IsFalse (has_left w.past s) → IsFalse (is_attached w.past s) → w.running s ≡ None → L.may_start law.now (history_in w) s edit marks → IsHoldingStep (holding_in w) (holding_in (after_draw w s edit marks paths)) }
     ensures write { (w : State) (s : ℕ) (x : Running) (p : Path) (rest : List Path) → IsKept (L.may_start law.now) (L.may_say law.now) w → w.running s ≡ Some x → IsFalse x.committed → IsFalse x.writer.undoing → x.writer.due ≡ [] → x.writer.left ≡ p ∷ rest → IsHoldingStep (holding_in w) (holding_in (after_write w s x p rest)) }
     ensures write_in_want { (w : State) (s : ℕ) (x : Running) (p : Path) (rest : List Path) → IsKept (L.may_start law.now) (L.may_say law.now) w → w.running s ≡ Some x → IsFalse x.committed → IsFalse x.writer.undoing → x.writer.due ≡ [] → x.writer.left ≡ p ∷ rest → IsHoldingStep (holding_in w) (holding_in (after_write_in_want w s x p rest)) }
     ensures mark { (w : State) (s : ℕ) (x : Running) (f : Met) (rest : List Met) → IsKept (L.may_start law.now) (L.may_say law.now) w → w.running s ≡ Some x → IsFalse x.committed → IsFalse x.writer.undoing → x.writer.due ≡ f ∷ rest → IsHoldingStep (holding_in w) (holding_in (after_mark w s x f rest)) }
@@ -185,12 +209,12 @@ pub fn what_is_held_rises<L: Law>(law: &L)
     ensures pending { (w : State) (s : ℕ) → IsKept (L.may_start law.now) (L.may_say law.now) w → IsTrue (has_login w.past s) → IsFalse (has_left w.past s) → IsHoldingStep (holding_in w) (holding_in (after_pending w s)) }
     ensures back { (w : State) (s : ℕ) (p : Path) (r : Revision) → IsKept (L.may_start law.now) (L.may_say law.now) w → IsTrue (has_login w.past s) → IsFalse (has_left w.past s) → IsFalse (eq_by_cmp path_cmp [] p) → IsHoldingStep (holding_in w) (holding_in (after_back w s p r)) }
     ensures out { (w : State) (s : ℕ) (r : Revision) → IsKept (L.may_start law.now) (L.may_say law.now) w → IsTrue (has_login w.past s) → r.cluster ≡ node_of w s → IsTrue (is_at_most r (local None w.past (node_of w s))) → IsHoldingStep (holding_in w) (holding_in (after_out w s r)) }
-    ensures learn { (w : State) (s : ℕ) (last sweep : RevVec) → IsKept (L.may_start law.now) (L.may_say law.now) w → IsTrue (has_login w.past s) → WereOnRoot w.clusters w.past last sweep → IsHoldingStep (holding_in w) (holding_in (after_learn w s last sweep)) }
+    ensures learn { (w : State) (s : ℕ) (last sweep : RevVec) → IsKept (L.may_start law.now) (L.may_say law.now) w → IsFalse (is_stopped_under w.sessions w.past s) → IsTrue (has_login w.past s) → WereOnRoot w.clusters w.past last sweep → IsHoldingStep (holding_in w) (holding_in (after_learn w s last sweep)) }
     ensures swept { (w : State) (s : ℕ) (r : Revision) → IsKept (L.may_start law.now) (L.may_say law.now) w → IsTrue (has_login w.past s) → r.cluster ≡ node_of w s → IsTrue (is_at_most r (published None w.past (node_of w s))) → IsHoldingStep (holding_in w) (holding_in (after_sweep w s r)) }
     ensures learn_swept { (w : State) (s : ℕ) (r : Revision) → IsKept (L.may_start law.now) (L.may_say law.now) w → IsTrue (has_login w.past s) → IsFalse (has_left w.past s) → r.cluster ≡ node_of w s → IsTrue (is_at_most r (local None w.past (node_of w s))) → IsHoldingStep (holding_in w) (holding_in (after_learn_swept w s r)) }
-    ensures checkpoint { (w : State) (s : ℕ) (i : Text) (pin : Pin) → IsKept (L.may_start law.now) (L.may_say law.now) w → IsTrue (has_login w.past s) → IsFalse (has_left w.past s) → IsFalse (is_attached w.past s) → pin_of (memory_of w s) s ≡ Some pin → IsHoldingStep (holding_in w) (holding_in (after_checkpoint w s i pin)) }
+    ensures checkpoint { (w : State) (s : ℕ) (i : Text) (pin : Pin) → IsKept (L.may_start law.now) (L.may_say law.now) w → IsFalse (is_stopped_under w.sessions w.past s) → IsTrue (has_login w.past s) → IsFalse (has_left w.past s) → IsFalse (is_attached w.past s) → pin_of (memory_of w s) s ≡ Some pin → IsHoldingStep (holding_in w) (holding_in (after_checkpoint w s i pin)) }
     ensures release { (w : State) (i : Text) → IsKept (L.may_start law.now) (L.may_say law.now) w → IsSome (kept_checkpoint w.past i) → IsHoldingStep (holding_in w) (holding_in (after_release w i)) }
-    ensures attach { (w : State) (s : ℕ) (i : Text) (v : RevVec) → IsKept (L.may_start law.now) (L.may_say law.now) w → IsTrue (has_login w.past s) → IsFalse (has_left w.past s) → IsFalse (is_attached w.past s) → w.reading s ≡ None → kept_checkpoint w.past i ≡ Some v → IsHoldingStep (holding_in w) (holding_in (after_attach w s i)) }
+    ensures attach { (w : State) (s : ℕ) (i : Text) (v : RevVec) → IsKept (L.may_start law.now) (L.may_say law.now) w → IsFalse (is_stopped_under w.sessions w.past s) → IsTrue (has_login w.past s) → IsFalse (has_left w.past s) → IsFalse (is_attached w.past s) → w.reading s ≡ None → kept_checkpoint w.past i ≡ Some v → IsHoldingStep (holding_in w) (holding_in (after_attach w s i)) }
     ensures detach { (w : State) (s : ℕ) → IsKept (L.may_start law.now) (L.may_say law.now) w → IsTrue (has_login w.past s) → IsFalse (has_left w.past s) → IsFalse (is_attached w.past s) → IsTrue (has_reader w.past s) → IsHoldingStep (holding_in w) (holding_in (after_detach w s)) }
     ensures attach_unfound { (w : State) (s : ℕ) (i : Text) → IsKept (L.may_start law.now) (L.may_say law.now) w → IsTrue (has_login w.past s) → IsFalse (has_left w.past s) → kept_checkpoint w.past i ≡ None → IsHoldingStep (holding_in w) (holding_in (after_unfound w s (change.Attach s i))) }
     ensures release_unfound { (w : State) (s : ℕ) (i : Text) → IsKept (L.may_start law.now) (L.may_say law.now) w → IsTrue (has_login w.past s) → IsFalse (has_left w.past s) → kept_checkpoint w.past i ≡ None → IsHoldingStep (holding_in w) (holding_in (after_unfound w s (change.Release i))) }
@@ -198,13 +222,48 @@ pub fn what_is_held_rises<L: Law>(law: &L)
     ensures bound_kept { (w : State) (m t : RevVec) → IsKept (L.may_start law.now) (L.may_say law.now) w → MayTakeBound w m t → IsKept (L.may_start law.now) (L.may_say law.now) (after_bound w m t) }
 {}
 
-/// Splits keep the world: the write of a previous document under a number that was never listed, and then the update of the
-/// document with the number that was read, by which what moved goes and the previous document is listed. What is held stays.
+/// Cluster nodes may be stopped between any two steps of their sessions, and recovered by others. The world is kept by a stop; by
+/// an undoing of what is dead in a document, whoever does it; by the end of all that a stopped node's memory has in flight,
+/// once no document has anything of what isn't committed; by the update that tells the root what is published and swept; and by
+/// that by which the settings drop the readers of sessions of stopped nodes.
+/// Once a node is recovered, nothing of it is in flight, and no document has anything of a draw of it that isn't committed.
+/// What is held rises meanwhile, though the pins of a recovered node go. And in every such world a commit root tells of what no
+/// bound has swept whether it is committed; so of a revision with a mark in a document, a session's sweep vector and the commit root
+/// that stands there tell together what the journal tells: what a recovery finds dead is dead.
+pub fn stops_and_recoveries_keep_the_world<L: Law>(law: &L)
+    ensures stop { (w : State) (k : ℕ) → IsKept (L.may_start law.now) (L.may_say law.now) w → IsNode w.clusters k → IsFalse (is_stopped w.past k) → IsKept (L.may_start law.now) (L.may_say law.now) (after_stop w k) }
+    ensures clear { (w : State) (s : ℕ) (d : Draw) (p : Path) → IsKept (L.may_start law.now) (L.may_say law.now) w → IsTrue (has_login w.past s) → IsFalse (has_left w.past s) → IsDead w.past d → IsFalse (is_ended w.past d.revision) → IsKept (L.may_start law.now) (L.may_say law.now) (after_clear w s p d.revision) }
+    ensures recover { (w : State) (k : ℕ) → IsKept (L.may_start law.now) (L.may_say law.now) w → IsNode w.clusters k → IsTrue (is_stopped w.past k) → IsClearedOf w k → IsKept (L.may_start law.now) (L.may_say law.now) (after_recover w k) }
+    ensures publish { (w : State) (k : ℕ) (r : Revision) → IsKept (L.may_start law.now) (L.may_say law.now) w → IsNode w.clusters k → r.cluster ≡ k → IsTrue (is_at_most r (local None w.past k)) → IsKept (L.may_start law.now) (L.may_say law.now) (after_publish w k r) }
+    ensures drop { (w : State) (s : ℕ) (sessions : List ℕ) → IsKept (L.may_start law.now) (L.may_say law.now) w → IsTrue (has_login w.past s) → IsFalse (has_left w.past s) → ((q : ℕ) → IsIn q sessions → IsTrue (is_stopped_under w.sessions w.past q)) → IsKept (L.may_start law.now) (L.may_say law.now) (after_drop_readers w s sessions) }
+    ensures ended { (w : State) (k : ℕ) (r : Revision) → IsKept (L.may_start law.now) (L.may_say law.now) w → IsTrue (is_recovered w.past k) → r.cluster ≡ k → IsFalse (is_in_flight w.past r) }
+    ensures left { (w : State) (k : ℕ) (r : Revision) (p : Path) (d : Document) → IsKept (L.may_start law.now) (L.may_say law.now) w → IsTrue (is_recovered w.past k) → r.cluster ≡ k → IsTrue (is_drawn w.past r) → IsFalse (is_committed w.past r) → nodes_in w.table p ≡ Some d → IsFreeOf r d }
+    ensures stop_holds { (w : State) (k : ℕ) → IsKept (L.may_start law.now) (L.may_say law.now) w → IsNode w.clusters k → IsFalse (is_stopped w.past k) → IsHoldingStep (holding_in w) (holding_in (after_stop w k)) }
+    ensures clear_holds { (w : State) (s : ℕ) (d : Draw) (p : Path) → IsKept (L.may_start law.now) (L.may_say law.now) w → IsTrue (has_login w.past s) → IsFalse (has_left w.past s) → IsDead w.past d → IsFalse (is_ended w.past d.revision) → IsHoldingStep (holding_in w) (holding_in (after_clear w s p d.revision)) }
+    ensures recover_holds { (w : State) (k : ℕ) → IsKept (L.may_start law.now) (L.may_say law.now) w → IsNode w.clusters k → IsTrue (is_stopped w.past k) → IsClearedOf w k → IsHoldingStep (holding_in w) (holding_in (after_recover w k)) }
+    ensures publish_holds { (w : State) (k : ℕ) (r : Revision) → IsKept (L.may_start law.now) (L.may_say law.now) w → IsNode w.clusters k → r.cluster ≡ k → IsTrue (is_at_most r (local None w.past k)) → IsHoldingStep (holding_in w) (holding_in (after_publish w k r)) }
+    ensures drop_holds { (w : State) (s : ℕ) (sessions : List ℕ) → IsKept (L.may_start law.now) (L.may_say law.now) w → IsTrue (has_login w.past s) → IsFalse (has_left w.past s) → ((q : ℕ) → IsIn q sessions → IsTrue (is_stopped_under w.sessions w.past q)) → IsHoldingStep (holding_in w) (holding_in (after_drop_readers w s sessions)) }
+    ensures decided { (w : State) (s : ℕ) (pin : Pin) (p : Path) (d : Document) (r : Revision) (m : Mark) → IsKept (L.may_start law.now) (L.may_say law.now) w → IsTrue (is_some (slice_get w.sessions s)) → pin_of (memory_of w s) s ≡ Some pin → nodes_in w.table p ≡ Some d → IsTrue (is_drawn w.past r) → (r ≡ start_of 1 → ⊥) → IsTrue (has_mark d r m) → meaning.is_committed (documents_in w.table.documents) pin.sweep d r ≡ is_committed w.past r }
+    ensures status { (w : State) (r : Revision) → IsKept (L.may_start law.now) (L.may_say law.now) w → IsFalse (is_swept w.past r) → (r ≡ start_of 1 → ⊥) → noted (nodes_in w.table (root_of w.past r)) r ≡ is_committed w.past r }
+{}
+
+/// What a recovery undoes in a document is gone there, and stays gone: a document that has nothing of a revision gets nothing of
+/// it by updates that have no entry of it, undo nothing and prune nothing, nor by an undoing.
+pub fn what_is_undone_stays_undone<L: Law>(law: &L)
+    ensures undone { (w : State) (p : Path) (r : Revision) → IsKept (L.may_start law.now) (L.may_say law.now) w → HasNothing (nodes_in (after_undo w.table (id.Node p) r) p) r }
+    ensures by_undo { (w : State) (q p : Path) (o r : Revision) → IsKept (L.may_start law.now) (L.may_say law.now) w → HasNothing (nodes_in w.table p) r → HasNothing (nodes_in (after_undo w.table (id.Node q) o) p) r }
+    ensures by_write { (q r : Revision) (writes : List Write) (marks : List MarkAt) (p : Path) → IsFalse (is_same r q) → IsTrue (list_all (brings_nothing r) (write_op q writes marks p).changes) }
+    ensures by_update { (t : Table) (op : UpdateOp) (p : Path) (r : Revision) → IsTrue (list_all (brings_nothing r) op.changes) → HasNothing (nodes_in t p) r → HasNothing (nodes_in (after_update t op) p) r }
+{}
+
+/// Splits keep the world: the write of a previous document, which is a copy of what the former document of its number had,
+/// where one of that number was listed; and then the update of the document with the number that was read, by which what
+/// moved goes and the previous document is listed, the first of its number. What is held stays.
 pub fn splits_keep_the_world<L: Law>(law: &L)
-    ensures copied { (w : State) (s : ℕ) (p : Path) (k : ℕ) (x : Document) (kept : IsKept (L.may_start law.now) (L.may_say law.now) w) → IsTrue (has_login w.past s) → IsFalse (has_left w.past s) → documents_in w.table.documents (id.Prev k p) ≡ None → IsFalse (kept.sessions.readers.ever p k) → IsKept (L.may_start law.now) (L.may_say law.now) (after_copied w s p k x) }
-    ensures listed { (w : State) (s : ℕ) (read : Documents) (pin : Pin) (p : Path) (old : Document) (e : PrevEntry) → IsKept (L.may_start law.now) (L.may_say law.now) w → IsTrue (has_login w.past s) → IsFalse (has_left w.past s) → MaySplit w read pin p old e → IsKept (L.may_start law.now) (L.may_say law.now) (after_split w s read pin p old e) }
-    ensures copied_holds { (w : State) (s : ℕ) (p : Path) (k : ℕ) (x : Document) (kept : IsKept (L.may_start law.now) (L.may_say law.now) w) → IsTrue (has_login w.past s) → IsFalse (has_left w.past s) → documents_in w.table.documents (id.Prev k p) ≡ None → IsFalse (kept.sessions.readers.ever p k) → IsHoldingStep (holding_in w) (holding_in (after_copied w s p k x)) }
-    ensures listed_holds { (w : State) (s : ℕ) (read : Documents) (pin : Pin) (p : Path) (old : Document) (e : PrevEntry) → IsKept (L.may_start law.now) (L.may_say law.now) w → IsTrue (has_login w.past s) → IsFalse (has_left w.past s) → MaySplit w read pin p old e → IsHoldingStep (holding_in w) (holding_in (after_split w s read pin p old e)) }
+    ensures copied { (w : State) (s : ℕ) (p : Path) (k : ℕ) (x : Document) → IsKept (L.may_start law.now) (L.may_say law.now) w → IsTrue (has_login w.past s) → IsFalse (has_left w.past s) → documents_in w.table.documents (id.Prev k p) ≡ None → ((f : Former) → w.formers p k ≡ Some f → IsCopyOf p k f x) → IsKept (L.may_start law.now) (L.may_say law.now) (after_copied w s p k x) }
+    ensures listed { (w : State) (s : ℕ) (read : Documents) (pin : Pin) (p : Path) (old : Document) (e : PrevEntry) → IsKept (L.may_start law.now) (L.may_say law.now) w → IsTrue (has_login w.past s) → IsFalse (has_left w.past s) → MaySplit w read pin p old e → w.formers p e.number ≡ None → IsKept (L.may_start law.now) (L.may_say law.now) (after_split w s read pin p old e) }
+    ensures copied_holds { (w : State) (s : ℕ) (p : Path) (k : ℕ) (x : Document) → IsKept (L.may_start law.now) (L.may_say law.now) w → IsTrue (has_login w.past s) → IsFalse (has_left w.past s) → documents_in w.table.documents (id.Prev k p) ≡ None → ((f : Former) → w.formers p k ≡ Some f → IsCopyOf p k f x) → IsHoldingStep (holding_in w) (holding_in (after_copied w s p k x)) }
+    ensures listed_holds { (w : State) (s : ℕ) (read : Documents) (pin : Pin) (p : Path) (old : Document) (e : PrevEntry) → IsKept (L.may_start law.now) (L.may_say law.now) w → IsTrue (has_login w.past s) → IsFalse (has_left w.past s) → MaySplit w read pin p old e → w.formers p e.number ≡ None → IsHoldingStep (holding_in w) (holding_in (after_split w s read pin p old e)) }
 {}
 
 /// Collections keep the world: an update that drops any garbage of a bound so far and unlists previous documents that are, the
@@ -230,7 +289,7 @@ pub fn worlds_are_kept<L: Law>(law: &L)
 pub fn no_commits_clash_unseen<L: Law>(law: &L)
     ensures apart { (w : State) (r o : Revision) → IsKept (L.may_start law.now) (L.may_say law.now) w → (r ≡ o → ⊥) → IsTrue (is_committed w.past r) → IsTrue (is_committed w.past o) → IsTrue (are_clashing w.past r o) → IsTrue (is_in_base w.past r o) ⊎ IsTrue (is_in_base w.past o r) }
     ensures causes { (w : State) (r : Revision) (item : Item) (o : Revision) → IsKept (L.may_start law.now) (L.may_say law.now) w → refusal_of w.past r ≡ Some (item, o) → Cause w.past r item o }
-    ensures through { (w : State) (r : Revision) (kept : IsKept (L.may_start law.now) (L.may_say law.now) w) → IsTrue (is_ended w.past r) → ((o : Revision) → (r ≡ o → ⊥) → IsTrue (is_drawn w.past o) → IsFalse (is_in_base w.past r o) → IsFalse (are_clashing w.past r o)) → IsTrue (is_committed w.past r) ⊎ (IsTrue (kept.sessions.committing.writers r).wants × IsFalse (is_refused w.past r)) }
+    ensures through { (w : State) (r : Revision) (kept : IsKept (L.may_start law.now) (L.may_say law.now) w) → IsTrue (is_ended w.past r) → ((o : Revision) → (r ≡ o → ⊥) → IsTrue (is_drawn w.past o) → IsFalse (is_in_base w.past r o) → IsFalse (are_clashing w.past r o)) → IsTrue (is_committed w.past r) ⊎ (IsTrue (kept.sessions.committing.writers r).wants × IsFalse (is_refused w.past r)) ⊎ IsTrue (is_stopped w.past r.cluster) }
     ensures undone { (w : State) (r : Revision) (p : Path) (d : Document) → IsKept (L.may_start law.now) (L.may_say law.now) w → IsTrue (is_ended w.past r) → IsFalse (is_committed w.past r) → nodes_in w.table p ≡ Some d → IsFreeOf r d }
 {}
 
@@ -272,4 +331,110 @@ pub fn sessions_leave_others()
     ensures release { (w : State) (s : ℕ) (i : Text) → LeavesOthers s w (after_release w i) }
     ensures learn_swept { (w : State) (s : ℕ) (r : Revision) → LeavesOthers s w (after_learn_swept w s r) }
     ensures learn { (w : State) (s : ℕ) (last sweep : RevVec) → LeavesOthers s w (after_learn w s last sweep) }
+{}
+
+/// Numbers of documents come once below the last one: each change of a table is a step by which its number doesn't fall and
+/// what is new has the next. So of the number that a node's document has no previous document was listed, and once one is,
+/// that number is behind.
+pub fn numbers_come_once()
+    ensures put { (t : Table) (i : DocId) (d : Document) → t.number ≤ last_number → d.mod_count ≡ next_number t → IsNumberStep t (with_document t i d (next_number t)) }
+    ensures update { (t : Table) (op : UpdateOp) → t.number ≤ last_number → IsNumberStep t (after_update t op) }
+    ensures undo { (t : Table) (p : Path) (r : Revision) → t.number ≤ last_number → IsNumberStep t (after_undo t (id.Node p) r) }
+    ensures removed { (t : Table) (i : DocId) → IsTrue (is_sorted id_cmp t.documents) → IsNumberStep t (without t i) }
+    ensures numbered { (t u : Table) (formers : Formers) → IsNumberStep t u → u.number ≤ last_number → AreNumbered t formers → AreNumbered u formers }
+    ensures first { (t : Table) (formers : Formers) (p : Path) (old : Document) → AreNumbered t formers → nodes_in t p ≡ Some old → formers p old.mod_count ≡ None }
+    ensures listed { (t : Table) (formers : Formers) (p : Path) (old d : Document) (f : Former) → AreNumbered t formers → nodes_in t p ≡ Some old → old.mod_count < last_number → d.mod_count ≡ next_number t → AreNumbered (with_document t (id.Node p) d (next_number t)) (with_former formers p old.mod_count f) }
+{}
+
+/// Each step of a world that changes documents is such a step, and the others leave them.
+pub fn steps_number_documents()
+    ensures write { (w : State) (s : ℕ) (x : Running) (p : Path) (rest : List Path) → w.table.number ≤ last_number → IsNumberStep w.table (after_write w s x p rest).table × IsNumberStep w.table (after_write_in_want w s x p rest).table }
+    ensures mark { (w : State) (s : ℕ) (x : Running) (f : Met) (rest : List Met) → w.table.number ≤ last_number → IsNumberStep w.table (after_mark w s x f rest).table }
+    ensures last { (w : State) (s : ℕ) (x : Running) → w.table.number ≤ last_number → IsNumberStep w.table (after_last w s x).table }
+    ensures undo { (w : State) (s : ℕ) (x : Running) (p : Path) (rest : List Path) → w.table.number ≤ last_number → IsNumberStep w.table (after_undoing w s x p rest).table }
+    ensures back { (w : State) (s : ℕ) (p : Path) (r : Revision) → w.table.number ≤ last_number → IsNumberStep w.table (after_back w s p r).table × IsNumberStep w.table (after_out w s r).table × IsNumberStep w.table (after_sweep w s r).table }
+    ensures checkpoint { (w : State) (s : ℕ) (i : Text) (pin : Pin) → w.table.number ≤ last_number → IsNumberStep w.table (after_checkpoint w s i pin).table }
+    ensures release { (w : State) (i : Text) → w.table.number ≤ last_number → IsNumberStep w.table (after_release w i).table }
+    ensures attach { (w : State) (s : ℕ) (i : Text) → w.table.number ≤ last_number → IsNumberStep w.table (after_attach w s i).table }
+    ensures unfound { (w : State) (s : ℕ) (c : Change) → w.table.number ≤ last_number → IsNumberStep w.table (after_unfound w s c).table }
+    ensures detach { (w : State) (s : ℕ) → w.table.number ≤ last_number → IsNumberStep w.table (after_detach w s).table }
+    ensures split { (w : State) (s : ℕ) (read : Documents) (pin : Pin) (p : Path) (old : Document) (e : PrevEntry) → w.table.number ≤ last_number → IsNumberStep w.table (after_split w s read pin p old e).table }
+    ensures copied { (w : State) (s : ℕ) (p : Path) (k : ℕ) (x : Document) → w.table.number ≤ last_number → x.mod_count ≡ next_number w.table → IsNumberStep w.table (after_copied w s p k x).table }
+    ensures pruned { (w : State) (s : ℕ) (p : Path) (old : Document) (op : UpdateOp) → w.table.number ≤ last_number → IsNumberStep w.table (after_pruned w s p old op).table }
+    ensures gone { (w : State) (s : ℕ) (i : DocId) → IsTrue (is_sorted id_cmp w.table.documents) → IsNumberStep w.table (after_removed w s i).table }
+    ensures clear { (w : State) (s : ℕ) (p : Path) (r : Revision) → w.table.number ≤ last_number → IsNumberStep w.table (after_clear w s p r).table }
+    ensures publish { (w : State) (k : ℕ) (r : Revision) → w.table.number ≤ last_number → IsNumberStep w.table (after_publish w k r).table }
+    ensures drop { (w : State) (s : ℕ) (sessions : List ℕ) → w.table.number ≤ last_number → IsNumberStep w.table (after_drop_readers w s sessions).table }
+    ensures still { (t : Table) → IsNumberStep t t }
+{}
+
+/// A split that has read a document, however late it writes, writes a copy of what the former document of its number had: it
+/// begins so; it comes to know commit roots; others go on, among them splits that list previous documents; and what it
+/// writes then keeps the world, as does its update of the document where that has the number still that it read.
+pub fn late_splits_write_copies()
+    ensures begins { (past : Past) (t : Table) (done : Progress) (formers : Formers) (known : Documents) (pin : Pin) (p : Path) (old : Document) → IsKeptWorld (documents_in t.documents) past done → AreNumbered t formers → IsHeld past pin.base pin.sweep → nodes_in t p ≡ Some old → IsInOrder old → ((q : Path) (d : Document) → known (id.Node q) ≡ Some d → nodes_in t q ≡ Some d) → IsSplitting past t formers known pin p old }
+    ensures knows { (past : Past) (t : Table) (done : Progress) (formers : Formers) (known more : Documents) (pin : Pin) (p : Path) (old : Document) → IsKeptWorld (documents_in t.documents) past done → IsSplitting past t formers known pin p old → ((q : Path) (d : Document) → more (id.Node q) ≡ Some d → (known (id.Node q) ≡ Some d) ⊎ (nodes_in t q ≡ Some d)) → IsSplitting past t formers more pin p old }
+    ensures lasts { (t u : Table) (past later : Past) (formers : Formers) (known : Documents) (pin : Pin) (p : Path) (old : Document) → IsNumberStep t u → ((r : Revision) → IsTrue (is_some (edit_of past r)) → IsTrue (is_some (edit_of later r))) → ((r : Revision) → IsTrue (sees pin.base r) → IsTrue (is_some (edit_of later r)) → IsTrue (is_some (edit_of past r))) → IsSplitting past t formers known pin p old → IsSplitting later u formers known pin p old }
+    ensures beside { (t u : Table) (past : Past) (formers : Formers) (known : Documents) (pin : Pin) (p q : Path) (old its : Document) → IsTold past → IsNumberStep t u → nodes_in t q ≡ Some its → its.mod_count < last_number → IsSplitting past t formers known pin p old → IsSplitting past u (with_former formers q its.mod_count (former_now (course_of past) its)) known pin p old }
+    ensures copies { (past : Past) (t : Table) (formers : Formers) (known : Documents) (pin : Pin) (p : Path) (old : Document) (number : ℕ) (f : Former) → IsSplitting past t formers known pin p old → formers p old.mod_count ≡ Some f → IsCopyOf p old.mod_count f (after_changes None (previous_write known pin old) number) }
+    ensures lists { (w : State) (formers : Formers) (known : Documents) (pin : Pin) (p : Path) (old d : Document) (e : PrevEntry) (first : ℕ) → IsSplitting w.past w.table formers known pin p old → nodes_in w.table p ≡ Some d → d.mod_count ≡ old.mod_count → old.mod_count < last_number → e.number ≡ old.mod_count → documents_in w.table.documents (id.Prev e.number p) ≡ Some (after_changes None (previous_write known pin old) first) → MaySplit w known pin p old e }
+{}
+
+/// The bound of a collection that reads the root, then each cluster node at a moment of its own, and the settings last, may
+/// be taken: it is the least of what it was fed, at most all that is held then, settled and closed, whatever went on between.
+/// A cluster node that was recovered it passes over.
+pub fn bounds_may_be_taken<L: Law>(law: &L)
+    ensures starts { (clusters : ℕ) (sessions : List ℕ) → CanAllBound (start_state clusters sessions) }
+    ensures begins { (w : State) (root : Document) → IsKept (L.may_start law.now) (L.may_say law.now) w → nodes_in w.table [] ≡ Some root → IsBounding w 1 (root_pair root) }
+    ensures node { (w : State) (k : ℕ) (x : Pin) → IsKept (L.may_start law.now) (L.may_say law.now) w → CanAllBound w → IsBounding w k x → IsNode w.clusters k → IsBounding w (k + 1) (fed_node w k x) }
+    ensures skips { (w : State) (k : ℕ) (x : Pin) → IsTrue (is_recovered w.past k) → IsBounding w k x → IsBounding w (k + 1) x }
+    ensures takes { (w : State) (x : Pin) → IsKept (L.may_start law.now) (L.may_say law.now) w → CanAllBound w → IsBounding w (w.clusters + 1) x → MayTakeBound w (fed_settings w x).base (fed_settings w x).sweep }
+    ensures lasts { (w u : State) (added : Past) (k : ℕ) (x : Pin) → IsKept (L.may_start law.now) (L.may_say law.now) w → IsKept (L.may_start law.now) (L.may_say law.now) u → u.past ≡ added ++ w.past → u.clusters ≡ w.clusters → u.sessions ≡ w.sessions → IsHoldingStep (holding_in w) (holding_in u) → IsBounding w k x → IsBounding u k x }
+    ensures held { (w u : State) (added : Past) → IsKept (L.may_start law.now) (L.may_say law.now) w → IsKept (L.may_start law.now) (L.may_say law.now) u → u.past ≡ added ++ w.past → u.clusters ≡ w.clusters → u.sessions ≡ w.sessions → IsHoldingStep (holding_in w) (holding_in u) → CanAllBound w → CanAllBound u }
+{}
+
+/// What a sweep of a cluster node reads of the root it may tell at any later moment: it's of the node, published then and
+/// later, and so at most the node's local revision, as the root that is told of it and the memory that learns it ask.
+pub fn sweeps_may_be_told<L: Law>(law: &L)
+    ensures reads { (w : State) (root : Document) (k : ℕ) → IsKept (L.may_start law.now) (L.may_say law.now) w → nodes_in w.table [] ≡ Some root → ((target_of root k).cluster ≡ k) × IsTrue (is_at_most (target_of root k) (published None w.past k)) }
+    ensures lasts { (e : Event) (past : Past) (k : ℕ) (r : Revision) → IsTrue (is_at_most r (published None past k)) → IsTrue (is_at_most r (published None (e ∷ past) k)) }
+    ensures local { (w : State) (k : ℕ) (r : Revision) → IsKept (L.may_start law.now) (L.may_say law.now) w → IsTrue (is_at_most r (published None w.past k)) → IsTrue (is_at_most r (local None w.past k)) }
+    ensures learns { (w : State) (k : ℕ) (v : RevVec) → IsKept (L.may_start law.now) (L.may_say law.now) w → IsNode w.clusters k → learned (memory_at w.memories k) no_entries v ≡ record (memory_at w.memories k) { sweep = greatest (memory_at w.memories k).sweep v } }
+{}
+
+/// Splits beside one another: each writes its previous document where there is none of its id, so no two have written one of
+/// the number that the node's document has; whoever finds that number lists what it wrote, as it wrote it. Who finds
+/// another number, or no document, has written one that nobody lists, now and later, and may remove it. Steps of others
+/// let that be: a document that changes, one that lists another number, garbage that goes, a document that goes, and
+/// previous documents of other numbers, or of numbers behind the node.
+pub fn splits_stay_apart()
+    ensures begins { (t : Table) (past : Past) (done : Progress) (p : Path) (k : ℕ) (x : Document) → IsKeptWorld (documents_in t.documents) past done → documents_in t.documents (id.Prev k p) ≡ None → k < last_number → t.number ≤ last_number → k ≤ t.number → IsCopied (with_document t (id.Prev k p) x (next_number t)) p k x }
+    ensures apart { (t : Table) (p : Path) (k : ℕ) (x : Document) → IsCopied t p k x → documents_in t.documents (id.Prev k p) ≡ None → IsPassed t p k }
+    ensures passed { (t : Table) (p : Path) (k : ℕ) (x d : Document) → IsCopied t p k x → nodes_in t p ≡ Some d → d.mod_count ≢ k → IsPassed t p k }
+    ensures absent { (t : Table) (p : Path) (k : ℕ) (x : Document) → IsCopied t p k x → nodes_in t p ≡ None → IsPassed t p k }
+    ensures dropped { (t : Table) (p : Path) (k : ℕ) (x : Document) → IsPassed t p k → IsUnlisted (documents_in t.documents) p k → IsCopied t p k x }
+    ensures behind { (t u : Table) (p : Path) (k : ℕ) → IsNumberStep t u → IsPassed t p k → IsPassed u p k }
+    ensures lasts { (t u : Table) (p : Path) (k : ℕ) (x : Document) → IsNumberStep t u → LetsCopy t u p k → IsCopied t p k x → IsCopied u p k x }
+    ensures changed { (t u : Table) (p at : Path) (k : ℕ) (d : Document) → IsMainAt (documents_in t.documents) (documents_in u.documents) at d → d.prev ≡ option_map_or (λ d. d.prev) (nodes_in t at) [] → LetsCopy t u p k }
+    ensures moved { (t u : Table) (p at : Path) (k : ℕ) (old d : Document) (e : PrevEntry) → nodes_in t at ≡ Some old → IsMainAt (documents_in t.documents) (documents_in u.documents) at d → d.prev ≡ e ∷ old.prev → (at ≡ p → e.number ≢ k) → LetsCopy t u p k }
+    ensures pruned { (t u : Table) (p at : Path) (k : ℕ) (old d : Document) (keep : PrevEntry → Bool) → nodes_in t at ≡ Some old → IsMainAt (documents_in t.documents) (documents_in u.documents) at d → d.prev ≡ filter keep old.prev → LetsCopy t u p k }
+    ensures removed { (t u : Table) (p at : Path) (k : ℕ) → IsChangeAt (documents_in t.documents) (documents_in u.documents) at → nodes_in u at ≡ None → ((j : ℕ) (q : Path) → documents_in u.documents (id.Prev j q) ≡ documents_in t.documents (id.Prev j q)) → LetsCopy t u p k }
+    ensures previous { (t u : Table) (p at : Path) (k j : ℕ) → IsPreviousAt (documents_in t.documents) (documents_in u.documents) at j → (at ≡ p → j ≡ k → IsPassed t p k) → LetsCopy t u p k }
+    ensures others { (t u : Table) (p : Path) (k : ℕ) → ((q : Path) → nodes_in u q ≡ nodes_in t q) → ((j : ℕ) (q : Path) → documents_in u.documents (id.Prev j q) ≡ documents_in t.documents (id.Prev j q)) → LetsCopy t u p k }
+{}
+
+/// A collection that has read a document, and then asks for the previous documents that it lists, one after another, finds
+/// what is there still when it drops garbage of that document on the number read: listed previous documents don't change.
+pub fn collections_find_what_is_there()
+    ensures finds { (t : Table) (p : Path) (old : Document) (e : PrevEntry) → old.mod_count < last_number → IsReadIn t (id.Node p) old → IsIn e old.prev → IsFoundIn t p old e (documents_in t.documents (id.Prev e.number p)) }
+    ensures lasts { (t u : Table) (p : Path) (old : Document) (e : PrevEntry) (found : Option Document) → IsFoundIn t p old e found → IsNumberStep t u → (documents_in u.documents (id.Prev e.number p) ≡ documents_in t.documents (id.Prev e.number p)) ⊎ IsUnlisted (documents_in t.documents) p e.number → IsFoundIn u p old e found }
+    ensures there { (t : Table) (p : Path) (old d : Document) (e : PrevEntry) (found : Option Document) → IsFoundIn t p old e found → nodes_in t p ≡ Some d → d.mod_count ≡ old.mod_count → (d ≡ old) × (documents_in t.documents (id.Prev e.number p) ≡ found) }
+    ensures drops { (w : State) (m s : RevVec) (p : Path) (old d : Document) (ns : List ℕ) (found : ℕ → Option Document) → IsBoundOf w.past m s → IsOrderedDocument old → old.mod_count < last_number → IsReadIn w.table (id.Node p) old → ((e : PrevEntry) → IsIn e old.prev → IsTrue (is_number_of ns e) → IsFoundIn w.table p old e (found e.number) × ((x : Document) → found e.number ≡ Some x → IsTrue (is_garbage_previous m s old x))) → nodes_in w.table p ≡ Some d → d.mod_count ≡ old.mod_count → MayPrune w m s p old (pruning m s old ns) }
+    ensures read { (t : Table) (formers : Formers) (i : DocId) (old : Document) → AreNumbered t formers → documents_in t.documents i ≡ Some old → IsReadIn t i old }
+    ensures reads { (t u : Table) (i : DocId) (old : Document) → IsNumberStep t u → IsReadIn t i old → IsReadIn u i old }
+{}
+
+/// What a settled base sees, as that of a session's pin, is committed after an event only if it was before.
+pub fn what_is_seen_stays<L: Law>(law: &L)
+    ensures { (u : State) (e : Event) (past : Past) (v : RevVec) (r : Revision) → IsKept (L.may_start law.now) (L.may_say law.now) u → u.past ≡ e ∷ past → IsSettled past v → IsTrue (sees v r) → IsTrue (is_some (edit_of (e ∷ past) r)) → IsTrue (is_some (edit_of past r)) }
 {}

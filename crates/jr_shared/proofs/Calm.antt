@@ -72,6 +72,9 @@ module _ (s : ℕ) (w u : State) (same : u.past ≡ w.past) where
   calm_upkeep (upkeep.Release i) v (answers.Ready ends.NoCheckpoint) m = never _ (ap (λ (x : State). x.past) m.1)
   calm_upkeep (upkeep.Release i) v answers.Memory m = still m.0
   calm_upkeep (upkeep.Release i) v _ m = absurd m
+  calm_upkeep upkeep.Observe v (answers.Ready (ends.Pinned pin)) m = never _ (ap (λ (x : State). x.past) m.1)
+  calm_upkeep upkeep.Observe v answers.Memory m = still m.0
+  calm_upkeep upkeep.Observe v _ m = absurd m
 
   pub calm : (x v : Work) (o : StepOut) → Makes s w x u v o → IsCalm
   calm work.Login v (answers.Ready (ends.Pinned pin)) m = never _ (ap (λ (x : State). x.past) m.0)

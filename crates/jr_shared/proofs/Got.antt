@@ -166,7 +166,7 @@ module _ {L : Type 0} (law : Ghosts L) (old : Known L) (got : WorldOf L) (g : Is
       begins task.Collect m = absurd m
       begins (task.Attach i) m = absurd m
       begins task.Detach m = absurd m
-      begins task.Observe m = absurd m
+      begins task.Observe m = (login_same ∙ m.0, left_same ∙ m.1, attached_same ∙ m.2)
       begins (task.Changes pin) m = absurd m
       begins (task.Stop k) m = absurd m
       begins (task.Recover k) m = absurd m

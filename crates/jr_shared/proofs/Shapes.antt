@@ -71,6 +71,7 @@ shaped h s (Starting task.BackRead) (out.Went k) own now m = inl (event.Went s k
 shaped h s (Starting (task.Checkpoint i)) (out.Ready (end.Set None)) own now m = inl (event.Checkpoint i m.0, m.2, refl)
 shaped h s (Starting (task.Release i)) (out.Ready (end.Set None)) own now m = inl (event.Release i, m.0, refl)
 shaped h s (Starting (task.Release i)) (out.Ready end.NoCheckpoint) own now m = inl (event.Went s kind.Settings, m.1, refl)
+shaped h s (Starting task.Observe) (out.Ready (end.Pinned pin)) own now m = inl (event.Went s kind.Pin, m.1, refl)
 shaped h s (Starting t) out.Memory own now m = m.0
 shaped h s (Publishing r) (out.Went k) own now m = inl (event.Went s kind.Back, m.1, refl)
 shaped h s (Publishing r) (out.Ready (end.Published o)) own now m = inl (event.Out m.0 r, m.3, refl)

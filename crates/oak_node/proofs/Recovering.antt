@@ -97,6 +97,16 @@ finish_first s d ds above is =
     ∙ (ap (λ (xs : List Drawn). record s { head = with_entry s.head (local_from e (first ∷ ds)); above = xs }) (above_is e (first ∷ ds) rises')
     ∙ ap (λ (l : Revision). record s { head = with_entry s.head l; above = from_flight ds }) (past_ended e first ds refl rises'))
 
+-- what is in flight behind the first of them stays, once that has ended
+pub flying_rest : (s : NodeState) (d : Drawn) (ds : List Drawn) → s.above ≡ d ∷ ds → IsMemory s → flying_in (d ∷ ds) ≡ d.revision ∷ flying_in (finished s d.revision).above
+flying_rest s d ds above is =
+    let flies : d.ended ≡ false = not-true d.ended (subst (λ (xs : List Drawn). begins_in_flight xs ≡ true) above is.flying) in
+    let start : flying_in (d ∷ ds) ≡ d.revision ∷ flying_in ds = rw flies refl in
+    start ∙ ap (λ (rs : List Revision). d.revision ∷ rs) (sym (flying_from ds) ∙ ap (λ (x : NodeState). flying_in x.above) (sym (finish_first s d ds above is)))
+
+pub above_shorter : (s : NodeState) (d : Drawn) (ds : List Drawn) → s.above ≡ d ∷ ds → IsMemory s → length (finished s d.revision).above ≤ length ds
+above_shorter s d ds above is = subst (λ (x : NodeState). length x.above ≤ length ds) (sym (finish_first s d ds above is)) (from_shorter ds)
+
 -- ---- all of them end
 
 pub last_drawn-has : (P : Revision → Type 0) (e : Revision) (ds : List Drawn) → P e → AllByRecursion (λ d. P d.revision) ds → P (last_drawn e ds)

@@ -182,6 +182,8 @@ Makes h s (Starting (task.Release i)) (out.Ready (end.Set None)) own now =
     (own ≡ event.Release i ∷ []) × (now ≡ Idle)
 Makes h s (Starting (task.Release i)) (out.Ready end.NoCheckpoint) own now =
     (kept_checkpoint h.past i ≡ None) × (own ≡ event.Went s kind.Settings ∷ []) × (now ≡ Idle)
+Makes h s (Starting task.Observe) (out.Ready (end.Pinned pin)) own now =
+    (base_of h.past s ≡ Some pin.base) × (own ≡ event.Went s kind.Pin ∷ []) × (now ≡ Idle)
 Makes h s (Starting t) out.Memory own now = (own ≡ []) × (now ≡ Idle)
 Makes h s (Publishing r) (out.Went k) own now =
     (k ≡ kind.Back) × (own ≡ event.Went s kind.Back ∷ []) × (now ≡ Publishing r)
@@ -213,6 +215,7 @@ last_kind (Starting task.Refresh) = kind.Pin
 last_kind (Starting task.End) = kind.End
 last_kind (Starting (task.Checkpoint i)) = kind.Settings
 last_kind (Starting (task.Release i)) = kind.Settings
+last_kind (Starting task.Observe) = kind.Pin
 last_kind (Starting t) = kind.Read
 last_kind (Publishing r) = kind.Back
 last_kind (Learning u) = kind.Learn
@@ -286,7 +289,7 @@ LastsOn before now old new = (new.history ≡ old.history) → now ≡ before
 
 -- a task may start: a login first, the others of a session that has logged in and not left; an edit
 -- that the law lets start. No world does these yet: splits, sweeps, collections, attached sessions,
--- observing and what changed, stops and recoveries
+-- what changed, stops and recoveries
 abbrev pub MayBegin : Starts → History → ℕ → Task → Type 0
 MayBegin starts h s task.Login = IsFalse (has_login h.past s)
 MayBegin starts h s (task.Commit edit marks) =
@@ -296,12 +299,13 @@ MayBegin starts h s (task.Checkpoint i) =
     IsTrue (has_login h.past s) × IsFalse (has_left h.past s) × IsFalse (is_attached h.past s)
 MayBegin starts h s task.Refresh =
     IsTrue (has_login h.past s) × IsFalse (has_left h.past s) × IsFalse (is_attached h.past s)
+MayBegin starts h s task.Observe =
+    IsTrue (has_login h.past s) × IsFalse (has_left h.past s) × IsFalse (is_attached h.past s)
 MayBegin starts h s (task.Split p) = ⊥
 MayBegin starts h s task.Sweep = ⊥
 MayBegin starts h s task.Collect = ⊥
 MayBegin starts h s (task.Attach i) = ⊥
 MayBegin starts h s task.Detach = ⊥
-MayBegin starts h s task.Observe = ⊥
 MayBegin starts h s (task.Changes pin) = ⊥
 MayBegin starts h s (task.Stop k) = ⊥
 MayBegin starts h s (task.Recover k) = ⊥

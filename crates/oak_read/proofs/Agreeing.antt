@@ -58,7 +58,7 @@ module _ (ds known : Documents) (t v : RevVec) where
   counts_here d r true true seen swept same = rw (seen, swept) refl
   counts_here d r true false seen swept same = ap (λ c. sees v r && c) (committed_here d r (same refl))
 
-  counting_here : {X : Type 0} (d : Document) (es : List (Revision × X)) → AllByRecursion (Agree ds known) (asked_roots t v d (keys_of es)) → filter (λ e. sees v e.0 && is_committed known t d e.0) es ≡ filter (λ e. sees v e.0 && is_committed ds t d e.0) es
+  pub counting_here : {X : Type 0} (d : Document) (es : List (Revision × X)) → AllByRecursion (Agree ds known) (asked_roots t v d (keys_of es)) → filter (λ e. sees v e.0 && is_committed known t d e.0) es ≡ filter (λ e. sees v e.0 && is_committed ds t d e.0) es
   counting_here d [] all = refl
   counting_here {X} d (e ∷ es) all = by (sees v e.0 && not (sees t e.0)) refl all (λ rest. counting_here d es rest)
     where
@@ -92,14 +92,14 @@ module _ (ds known : Documents) (t v : RevVec) where
       by true rest = all_front (Agree ds known) (asked_roots t v d (keys_of p.1)) (property_roots t v d ps) all
       by false rest = rest
 
-  deleted_agree : (whole : Bool) (all : List Document) → AllByRecursion (Agree ds known) (flat_map (roots_of t v whole) all) → AllByRecursion (λ d. AllByRecursion (Agree ds known) (asked_roots t v d (keys_of d.deleted))) all
+  pub deleted_agree : (whole : Bool) (all : List Document) → AllByRecursion (Agree ds known) (flat_map (roots_of t v whole) all) → AllByRecursion (λ d. AllByRecursion (Agree ds known) (asked_roots t v d (keys_of d.deleted))) all
   deleted_agree whole [] agree = tt
   deleted_agree whole (d ∷ all) agree = (
     all_front (Agree ds known) (asked_roots t v d (keys_of d.deleted)) (cond whole (property_roots t v d d.props) []) (all_front (Agree ds known) (roots_of t v whole d) (flat_map (roots_of t v whole) all) agree),
     deleted_agree whole all (all_back (Agree ds known) (roots_of t v whole d) (flat_map (roots_of t v whole) all) agree),
   )
 
-  properties_agree : (n : Name) (all : List Document) → AllByRecursion (Agree ds known) (flat_map (roots_of t v true) all) → AllByRecursion (λ d. AllByRecursion (Agree ds known) (asked_roots t v d (keys_of (values_of_property d.props n)))) all
+  pub properties_agree : (n : Name) (all : List Document) → AllByRecursion (Agree ds known) (flat_map (roots_of t v true) all) → AllByRecursion (λ d. AllByRecursion (Agree ds known) (asked_roots t v d (keys_of (values_of_property d.props n)))) all
   properties_agree n [] agree = tt
   properties_agree n (d ∷ all) agree = (
     property_agrees d n d.props (all_back (Agree ds known) (asked_roots t v d (keys_of d.deleted)) (property_roots t v d d.props) (all_front (Agree ds known) (roots_of t v true d) (flat_map (roots_of t v true) all) agree)),

@@ -73,13 +73,13 @@ reads_node table a pin p is = by (documents_in table (id.Node p)) refl
 
 -- ---- what stands behind an id
 
-abbrev Entries : Type 0
+abbrev pub Entries : Type 0
 Entries = List (DocId × Document)
 
-abbrev behind : DocId → Entries → Entries
+abbrev pub behind : DocId → Entries → Entries
 behind x es = entries_between id_cmp (Excluded x) Unbounded es
 
-abbrev passes : DocId → DocId → Bool
+abbrev pub passes : DocId → DocId → Bool
 passes x y = range_contains id_cmp (Excluded x) Unbounded y
 
 passes_less : (x y : DocId) → id_cmp x y ≡ Less → passes x y ≡ true
@@ -93,7 +93,7 @@ less_passes x y h = by (id_cmp x y) h
     by Equal e = cc
     by Greater e = cc
 
-passes_not : (x y : DocId) → id_cmp x y ≢ Less → passes x y ≡ false
+pub passes_not : (x y : DocId) → id_cmp x y ≢ Less → passes x y ≡ false
 passes_not x y h = by (id_cmp x y) h
   where
     by : (o : Ordering) → o ≢ Less → (is_lt o && not false) ≡ false
@@ -104,10 +104,10 @@ passes_not x y h = by (id_cmp x y) h
 turned : (x y : DocId) → id_cmp x y ≡ Less → id_cmp y x ≡ Greater
 turned x y h = id_total.antisymm y x ∙ ap ordering_reverse h
 
-not_less_itself : (x : DocId) → id_cmp x x ≢ Less
+pub not_less_itself : (x : DocId) → id_cmp x x ≢ Less
 not_less_itself x h = let e : is_eq (id_cmp x x) ≡ true = own_id x in let no : is_eq (id_cmp x x) ≡ false = ap is_eq h in false≢true (sym no ∙ e)
 
-all_pass : (x : DocId) (es : Entries) → AllByRecursion (λ y. id_cmp x y ≡ Less) (keys_of es) → behind x es ≡ es
+pub all_pass : (x : DocId) (es : Entries) → AllByRecursion (λ y. id_cmp x y ≡ Less) (keys_of es) → behind x es ≡ es
 all_pass x [] h = refl
 all_pass x (e ∷ es) h = ap (λ b. cond b (e ∷ behind x es) (behind x es)) (passes_less x e.0 h.0) ∙ ap (λ (rest : Entries). e ∷ rest) (all_pass x es h.1)
 
@@ -120,7 +120,7 @@ none_at x [] h = refl
 none_at x (e ∷ es) h = ap (λ b. cond b (Some e.1) (lookup (is_at (id_cmp x)) es)) (ap is_eq h.0) ∙ none_at x es h.1
 
 -- what is so of each entry is so of each behind an id
-all_behind : (P : DocId × Document → Type 0) (x : DocId) (es : Entries) → AllByRecursion P es → AllByRecursion P (behind x es)
+pub all_behind : (P : DocId × Document → Type 0) (x : DocId) (es : Entries) → AllByRecursion P es → AllByRecursion P (behind x es)
 all_behind P x [] h = tt
 all_behind P x (e ∷ es) h = by (passes x e.0) (all_behind P x es h.1)
   where
@@ -139,7 +139,7 @@ pub record IsNext (x : DocId) (es : Entries) (e : DocId × Document) (more : Ent
   pub found : lookup (is_at (id_cmp e.0)) es ≡ Some e.1
   pub others : AllByRecursion (λ y. id_cmp e.0 y ≡ Less) (keys_of more)
 
-next_is : (x : DocId) (es : Entries) (e : DocId × Document) (more : Entries) → IsStrictlySortedBy id_cmp (keys_of es) → behind x es ≡ e ∷ more → IsNext x es e more
+pub next_is : (x : DocId) (es : Entries) (e : DocId × Document) (more : Entries) → IsStrictlySortedBy id_cmp (keys_of es) → behind x es ≡ e ∷ more → IsNext x es e more
 unfolding IsStrictlySortedBy
 next_is x [] e more sorted h = cc
 next_is x (f ∷ fs) e more sorted h = by (passes x f.0) refl h (λ h'. next_is x fs e more sorted.1 h')

@@ -17,7 +17,7 @@ use Rattle.oak_read.specs.Wanted.{Known}
 use Rattle.oak_read.specs.declared.reader.Reader.{Reader}
 
 -- what is put at a new key and removed again leaves what there was
-put_removed : {K X : Type 0} (R : K → K → Ordering) → IsTotalOrder R → (es : List (K × X)) (k : K) (v : X) → is_some (lookup (is_at (R k)) es) ≡ false → remove_entry (is_at (R k)) (insert_entry R es k v) ≡ es
+pub put_removed : {K X : Type 0} (R : K → K → Ordering) → IsTotalOrder R → (es : List (K × X)) (k : K) (v : X) → is_some (lookup (is_at (R k)) es) ≡ false → remove_entry (is_at (R k)) (insert_entry R es k v) ≡ es
 put_removed R o [] k v none = ap (λ c. cond (is_eq c) [] ((k, v) ∷ [])) (tied_itself o k)
 put_removed {K} {X} R o (e ∷ es) k v none = by (R k e.0) refl none (put_removed R o es k v)
   where

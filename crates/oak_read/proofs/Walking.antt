@@ -26,19 +26,19 @@ use Rattle.oak_read.specs.declared.reader.Step.{Step}
 use Rattle.oak_read.specs.declared.reader.Step.TheVariants as step
 use Rattle.oak_read.proofs.Agreeing.{Agree, previous_here}
 
-all_both : {X : Type 0} (P : X → Type 0) (xs ys : List X) → AllByRecursion P xs → AllByRecursion P ys → AllByRecursion P (xs ++ ys)
+pub all_both : {X : Type 0} (P : X → Type 0) (xs ys : List X) → AllByRecursion P xs → AllByRecursion P ys → AllByRecursion P (xs ++ ys)
 all_both P [] ys h k = k
 all_both P (x ∷ xs) ys h k = (h.0, all_both P xs ys h.1 k)
 
-all_first : {X : Type 0} (P : X → Type 0) (xs ys : List X) → AllByRecursion P (xs ++ ys) → AllByRecursion P xs
+pub all_first : {X : Type 0} (P : X → Type 0) (xs ys : List X) → AllByRecursion P (xs ++ ys) → AllByRecursion P xs
 all_first P [] ys h = tt
 all_first P (x ∷ xs) ys h = (h.0, all_first P xs ys h.1)
 
-all_second : {X : Type 0} (P : X → Type 0) (xs ys : List X) → AllByRecursion P (xs ++ ys) → AllByRecursion P ys
+pub all_second : {X : Type 0} (P : X → Type 0) (xs ys : List X) → AllByRecursion P (xs ++ ys) → AllByRecursion P ys
 all_second P [] ys h = h
 all_second P (x ∷ xs) ys h = all_second P xs ys h.1
 
-all_of : {X : Type 0} (P Q : X → Type 0) → ((x : X) → P x → Q x) → (xs : List X) → AllByRecursion P xs → AllByRecursion Q xs
+pub all_of : {X : Type 0} (P Q : X → Type 0) → ((x : X) → P x → Q x) → (xs : List X) → AllByRecursion P xs → AllByRecursion Q xs
 all_of P Q f [] h = tt
 all_of P Q f (x ∷ xs) h = (f x h.0, all_of P Q f xs h.1)
 
@@ -102,7 +102,7 @@ module _ (table : List (DocId × Document)) where
       by false e is = within x d is
 
   -- the first of those that are left is read
-  covered_noted : (known : Known) → Within known → (y : DocId) (rest : Ids) (x : DocId) → Covered known ((y, tt) ∷ rest) x → Covered (with_known known y (documents_in table y)) rest x
+  pub covered_noted : (known : Known) → Within known → (y : DocId) (rest : Ids) (x : DocId) → Covered known ((y, tt) ∷ rest) x → Covered (with_known known y (documents_in table y)) rest x
   covered_noted known within y rest x c = by (eq_by_cmp id_cmp x y) refl c
     where
       by : (b : Bool) → eq_by_cmp id_cmp x y ≡ b → (documents_in known x ≡ documents_in table x) ⊎ (is_some (cond b (Some tt) (lookup (is_at (id_cmp x)) rest)) ≡ true) → Covered (with_known known y (documents_in table y)) rest x
@@ -138,7 +138,7 @@ module _ (table : List (DocId × Document)) where
       by true h = let d = from_some (documents_in known x) h in inl (same_here known within x d.0 d.1)
       by false h = inr (ap is_some (lookup-insert_entry id_cmp id_total x x tt left) ∙ ap (λ b. is_some (cond b (Some tt) (lookup (is_at (id_cmp x)) left))) (own_id x))
 
-  each_covered : (known : Known) → Within known → (xs : List DocId) (left : Ids) → AllByRecursion (Covered known (fold (with_unknown known) left xs)) xs
+  pub each_covered : (known : Known) → Within known → (xs : List DocId) (left : Ids) → AllByRecursion (Covered known (fold (with_unknown known) left xs)) xs
   each_covered known within [] left = tt
   each_covered known within (x ∷ xs) left = (by (taken_up known within x left), each_covered known within xs (with_unknown known left x))
     where
@@ -146,7 +146,7 @@ module _ (table : List (DocId × Document)) where
       by (inl h) = inl h
       by (inr h) = inr (stays_behind known x xs (with_unknown known left x) h)
 
-  none_left : (known : Known) (x : DocId) → Covered known [] x → Alike known x
+  pub none_left : (known : Known) (x : DocId) → Covered known [] x → Alike known x
   none_left known x (inl h) = h
   none_left known x (inr h) = absurd (false≢true h)
 

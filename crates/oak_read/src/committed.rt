@@ -8,8 +8,8 @@ use jr_rev::{Pin, RevVec, Revision};
 use oak_doc::Document;
 use std::alloc::{AllocError, Global};
 
-// Whether the base sees the revision, and it is committed as it stands in the document.
-pub(crate) fn counts(
+/// Whether the base sees the revision, and it is committed as it stands in the document.
+pub fn counts(
     alloc: Global,
     documents: &Keyed<DocId, Document>,
     pin: &Pin,

@@ -12,6 +12,7 @@ mod reader;
 mod wanted;
 
 pub use children::{children_of_documents, find_children};
-pub use committed::commit_root_of;
-pub use node::find_node;
+pub use committed::{commit_root_of, counts};
+pub use node::{documents_at, find_node, node_document};
 pub use reader::{ReadOut, Reader, readers_end_in_what_documents_mean};
+pub use wanted::{Left, previous_wanted, roots_wanted};

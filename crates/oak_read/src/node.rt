@@ -111,8 +111,8 @@ pub(crate) fn document_at(documents: &Keyed<DocId, Document>, id: DocId) -> Opti
     documents.get(&id)
 }
 
-// The document of the node at a path.
-pub(crate) fn node_document<'a>(
+/// The document of the node at a path.
+pub fn node_document<'a>(
     documents: &'a Keyed<DocId, Document>,
     path: &Path,
 ) -> Result<Option<&'a Document>, AllocError>
@@ -123,8 +123,8 @@ pub(crate) fn node_document<'a>(
     Ok(document_at(documents, id))
 }
 
-// The document of a path and the previous documents that it lists and that are there.
-pub(crate) fn documents_at<'a>(
+/// The document of a path and the previous documents that it lists and that are there.
+pub fn documents_at<'a>(
     alloc: Global,
     documents: &'a Keyed<DocId, Document>,
     path: &Path,

@@ -17,16 +17,16 @@ use jr_rev::{Pin, Revision};
 use oak_doc::{Document, PrevEntry};
 use std::alloc::{AllocError, Global};
 
-// The documents that are still to be read, in store order; there is one at least.
+/// The documents that are still to be read, in store order; there is one at least.
 #[derive(Drop)]
-pub(crate) struct Left {
-    pub(crate) first: DocId,
-    pub(crate) rest: Keyed<DocId, ()>,
+pub struct Left {
+    pub first: DocId,
+    pub rest: Keyed<DocId, ()>,
 }
 
 impl Left {
-    // These documents, if there is one.
-    pub(crate) fn of(ids: Keyed<DocId, ()>) -> Option<Left>
+    /// These documents, if there is one.
+    pub fn of(ids: Keyed<DocId, ()>) -> Option<Left>
         ensures { result ≡ left_of ids }
     {
         let mut rest = ids;
@@ -36,8 +36,8 @@ impl Left {
         }
     }
 
-    // Goes on to the second document, if there is one.
-    pub(crate) fn go_on(&mut self) -> bool
+    /// Goes on to the second document, if there is one.
+    pub fn go_on(&mut self) -> bool
         ensures goes { result ≡ is_some (left_of self.old.rest) }
         ensures left { self.new ≡ unwrap_or (left_of self.old.rest) self.old }
     {
@@ -51,8 +51,8 @@ impl Left {
     }
 }
 
-// The previous documents of a path that its document lists, but those that are known.
-pub(crate) fn previous_wanted(
+/// The previous documents of a path that its document lists, but those that are known.
+pub fn previous_wanted(
     alloc: Global,
     known: &Keyed<DocId, Document>,
     path: &Path,
@@ -82,9 +82,9 @@ fn add_listed(
     Ok(())
 }
 
-// The commit roots that are asked for entries of the document of a path and of the previous documents
-// that it lists, but those that are known.
-pub(crate) fn roots_wanted(
+/// The commit roots that are asked for entries of the document of a path and of the previous documents
+/// that it lists, but those that are known.
+pub fn roots_wanted(
     alloc: Global,
     known: &Keyed<DocId, Document>,
     pin: &Pin,

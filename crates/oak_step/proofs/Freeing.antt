@@ -39,3 +39,6 @@ module _ (s k : ℕ) (p q : Parts) (v : Work) where
   keeps_free (upkeep.Release i) (answers.Ready ends.NoCheckpoint) h = ap needed h.2
   keeps_free (upkeep.Release i) answers.Memory h = ap needed h.1
   keeps_free (upkeep.Release i) _ h = absurd h
+  keeps_free upkeep.Observe (answers.Ready (ends.Pinned pin)) h = ap needed h.2
+  keeps_free upkeep.Observe answers.Memory h = ap needed h.1
+  keeps_free upkeep.Observe _ h = absurd h

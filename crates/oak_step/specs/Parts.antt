@@ -44,7 +44,7 @@ use Rattle.oak_read.specs.declared.reader.Step.TheVariants as step
 use Rattle.oak_read.specs.Meaning.{path_of}
 use Rattle.oak_read.specs.Reading.{answer, due, fed as fed_reader}
 use Rattle.oak_store.specs.Tables.{Table, after_undo, found, next_number, with_document}
-use Rattle.core_nodes.specs.Nodes.{without_session}
+use Rattle.core_nodes.specs.Nodes.{cursor_owner, without_session}
 use Rattle.core_world.specs.Steps.{after_update, back_op, settings_op}
 use Rattle.oak_step.specs.declared.upkeep.Upkeep.{Upkeep}
 use Rattle.oak_step.specs.declared.upkeep.Upkeep.TheVariants as upkeep
@@ -362,6 +362,13 @@ KeepsUp s k p (upkeep.Release i) q v (answers.Ready ends.NoCheckpoint) =
     × (v ≡ work.Rest)
 KeepsUp s k p (upkeep.Release i) q v answers.Memory = Refused p q v
 KeepsUp s k p (upkeep.Release i) q v _ = ⊥
+KeepsUp s k p upkeep.Observe q v (answers.Ready (ends.Pinned pin)) =
+    (pin_of p.memory s ≡ Some pin)
+    × (q ≡ parts p.table (with_pin p.memory (cursor_owner s) pin)
+    (p.list ++ event.Went s kind.Pin ∷ []))
+    × (v ≡ work.Rest)
+KeepsUp s k p upkeep.Observe q v answers.Memory = Refused p q v
+KeepsUp s k p upkeep.Observe q v _ = ⊥
 
 -- how a step of session s of cluster node k goes, by what it does: the parts after it, what the session does then, and the answer
 abbrev pub Steps : ℕ → ℕ → Parts → Work → Parts → Work → StepOut → Type 0
@@ -436,9 +443,10 @@ pub record CanMove (s : ℕ) (m : NodeState) (places : ℕ) (r : Revision) : Typ
   pub pinned : IsSome (pin_of m s)
   pub place : 1 ≤ places
 
--- a checkpoint is made where the session is pinned
+-- a checkpoint is made, and a cursor pinned, where the session is pinned
 abbrev pub CanKeepUp : ℕ → NodeState → Upkeep → Type 0
 CanKeepUp s m (upkeep.Checkpoint i) = IsSome (pin_of m s)
+CanKeepUp s m upkeep.Observe = (s < 64) × IsSome (pin_of m s)
 CanKeepUp s m _ = Unit {0}
 
 -- the session does something, and what that takes is there

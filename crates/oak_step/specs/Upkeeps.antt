@@ -43,3 +43,4 @@ kind_kept upkeep.Read = kind.Back
 kind_kept (upkeep.Learn last sweep) = kind.Learn
 kind_kept (upkeep.Checkpoint i) = kind.Settings
 kind_kept (upkeep.Release i) = kind.Settings
+kind_kept upkeep.Observe = kind.Pin

@@ -29,6 +29,7 @@ Begins pin task.BackWrite v = v ≡ work.Upkeep upkeep.Write
 Begins pin task.BackRead v = v ≡ work.Upkeep upkeep.Read
 Begins pin (task.Checkpoint i) v = v ≡ work.Upkeep (upkeep.Checkpoint i)
 Begins pin (task.Release i) v = v ≡ work.Upkeep (upkeep.Release i)
+Begins pin task.Observe v = v ≡ work.Upkeep upkeep.Observe
 Begins pin _ v = ⊥
 
 -- a session may be told to do a task: a world does the task, and it reads where it has a pin
@@ -40,7 +41,6 @@ CanBegin pin task.Sweep = ⊥
 CanBegin pin task.Collect = ⊥
 CanBegin pin (task.Attach i) = ⊥
 CanBegin pin task.Detach = ⊥
-CanBegin pin task.Observe = ⊥
 CanBegin pin (task.Changes since) = ⊥
 CanBegin pin (task.Stop k) = ⊥
 CanBegin pin (task.Recover k) = ⊥

@@ -1,11 +1,12 @@
 // Background work of a cluster node, and the settings.
-ghost use Rattle.std.specs.Prelude.{◌≡◌, ◌∷◌, ◌++◌, [], ℕ, false, IfOk, IsSome, None, OnErr, OnOk, cond, is_some};
+ghost use Rattle.std.specs.Prelude.{◌≡◌, ◌<◌, ◌∷◌, ◌++◌, [], ℕ, false, IfOk, IsSome, None, OnErr, OnOk, Some, cond, is_some};
 ghost use Rattle.jr_path.specs.Ids.{names_of};
 ghost use Rattle.oak_doc.specs.declared.update.Change.TheVariants as change;
 ghost use Rattle.oak_machine.specs.declared.event.Event.TheVariants as event;
 ghost use Rattle.oak_machine.specs.declared.event.StepKind.TheVariants as kind;
 ghost use Rattle.oak_node.specs.Notes.{IsPending, without_seen};
-ghost use Rattle.oak_node.specs.Pins.{pin_of};
+ghost use Rattle.oak_node.specs.Pins.{pin_of, with_pin};
+ghost use Rattle.core_nodes.specs.Nodes.{cursor_owner};
 ghost use Rattle.oak_node.specs.Memory.{NodeState};
 ghost use Rattle.oak_read.specs.Reading.{IsTable};
 ghost use Rattle.oak_store.specs.Tables.{Table};
@@ -42,6 +43,8 @@ pub enum Upkeep {
     Learn(RevVec, RevVec),
     Checkpoint(Text),
     Release(Text),
+    /// The session's cursor is to be pinned at the session's own pin.
+    Observe,
 }
 
 impl Upkeep {
@@ -54,6 +57,7 @@ impl Upkeep {
                 StepKind::Back,
             Upkeep::Learn(_, _) => StepKind::Learn,
             Upkeep::Checkpoint(_) | Upkeep::Release(_) => StepKind::Settings,
+            Upkeep::Observe => StepKind::Pin,
         }
     }
 }
@@ -84,6 +88,7 @@ pub(crate) fn keep_up(
         Upkeep::Learn(last, sweep) => learn(memory, events, node, &last, &sweep),
         Upkeep::Checkpoint(name) => checkpoint_on(alloc, table, memory, events, s, &name),
         Upkeep::Release(name) => release_on(alloc, table, events, s, &name),
+        Upkeep::Observe => observe_on(memory, events, s),
     }
 }
 
@@ -468,4 +473,37 @@ fn has_checkpoint(table: &DocTable, name: &Text) -> bool
         Some(settings) => settings.checkpoints.contains(name),
         None => false,
     }
+}
+
+// The session's cursor is pinned at the session's own pin: what it observes begins there.
+fn observe_on(memory: &mut NodeMem, events: &mut Events, s: u32) -> (Work, StepOut)
+    requires few { s < 64 }
+    requires pinned { IsSome (pin_of memory.old s) }
+    ensures made { (k : ℕ) (t : Table) → KeepsUp s k (parts t memory.old events.old.list)
+        upkeep.Observe (parts t memory.new events.new.list) result.0 result.1 }
+    ensures places { events.new.places ≡ events.old.places }
+{
+    match observe(memory, events, s) {
+        Ok(pin) => (Work::Rest, StepOut::Ready(TaskEnd::Pinned(pin))),
+        Err(AllocError) => (Work::Rest, StepOut::Memory),
+    }
+}
+
+fn observe(memory: &mut NodeMem, events: &mut Events, s: u32) -> Result<Pin, AllocError>
+    requires few { s < 64 }
+    requires pinned { IsSome (pin_of memory.old s) }
+    ensures pin { IfOk result (λ pin. pin_of memory.old s ≡ Some pin) }
+    ensures memory { IfOk result (λ pin. memory.new ≡ with_pin memory.old (cursor_owner s) pin) }
+    ensures list { OnOk result (events.new.list ≡ events.old.list ++ event.Went s kind.Pin ∷ []) }
+    ensures kept { OnErr result (memory.new ≡ memory.old) }
+    ensures err { OnErr result (events.new.list ≡ events.old.list) }
+    ensures places { events.new.places ≡ events.old.places }
+{
+    events.keep(1)?;
+    let Ok(pin) = memory.pin_like(64 + s, s) else {
+        events.give_back(1);
+        return Err(AllocError);
+    };
+    events.push_kept(Event::Went(s, StepKind::Pin));
+    Ok(pin)
 }

@@ -56,13 +56,13 @@ impl Work {
             Task::BackRead => Ok(Work::Upkeep(Upkeep::Read)),
             Task::Checkpoint(name) => Ok(Work::Upkeep(Upkeep::Checkpoint(name))),
             Task::Release(name) => Ok(Work::Upkeep(Upkeep::Release(name))),
+            Task::Observe => Ok(Work::Upkeep(Upkeep::Observe)),
             // No world does these yet.
             Task::Split(_path) => unreachable!(),
             Task::Attach(_name) => unreachable!(),
             Task::Sweep
             | Task::Collect
             | Task::Detach
-            | Task::Observe
             | Task::Changes(_)
             | Task::Stop(_)
             | Task::Recover(_) => unreachable!(),

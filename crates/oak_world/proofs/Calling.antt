@@ -47,6 +47,7 @@ begins_free pin task.BackWrite v h = ap needed h
 begins_free pin task.BackRead v h = ap needed h
 begins_free pin (task.Checkpoint i) v h = ap needed h
 begins_free pin (task.Release i) v h = ap needed h
+begins_free pin task.Observe v h = ap needed h
 begins_free pin _ v h = absurd h
 
 module _ (starts : Starts) (says : Says) (proper : StartsProper starts) (last : StartsLast starts says) {L : Type 0} (law : L) (j : Journal) (t : Table) (ms : List NodeState) (actors : List Actor) (is : IsWorld starts says (shown_world law j t ms actors)) (placed : ArePlaced actors j.events.places)

@@ -21,7 +21,7 @@ use Rattle.oak_machine.specs.declared.event.Event.TheVariants as event
 use Rattle.oak_machine.specs.History.{History, Past}
 use Rattle.oak_machine.specs.Laws.{AreOthers, Says, Starts, StartsProper, after}
 use Rattle.oak_machine.specs.Runs.{IsNode, IsRun, StartsLast}
-use Rattle.oak_machine.specs.Sessions.{is_attached, next_index}
+use Rattle.oak_machine.specs.Sessions.{is_attached, is_stopped, next_index}
 use Rattle.oak_node.specs.Heads.{HasEnded, known_time}
 use Rattle.oak_node.specs.Pins.{pin_of}
 use Rattle.oak_read.specs.declared.reader.Reader.{Reader}
@@ -55,7 +55,7 @@ use Rattle.oak_world.specs.Worlds.{ActorState, Story, WorldOf, actor_in, live, n
 use Rattle.oak_world.proofs.States.{actor_other, actor_set, session_same, session_set}
 use Rattle.oak_step.proofs.Stages.{counted_stage, done_stage}
 use Rattle.oak_world.proofs.Staying.{may_last}
-use Rattle.oak_world.proofs.StepsOf.{IsStepOf}
+use Rattle.oak_world.proofs.StepsOf.{IsStepOf, none_stopped}
 use Rattle.oak_world.proofs.Walking.{any_step}
 
 -- ---- the seats of the others
@@ -133,6 +133,7 @@ upkeep_shown upkeep.Read h = cc
 upkeep_shown (upkeep.Learn last sweep) h = cc
 upkeep_shown (upkeep.Checkpoint i) h = cc
 upkeep_shown (upkeep.Release i) h = cc
+upkeep_shown upkeep.Observe h = cc
 
 -- a session that is shown to do nothing does nothing
 pub idle_shown : (v : Work) → shown_work v ≡ Idle → v ≡ work.Rest
@@ -186,6 +187,7 @@ begins_shown pin task.BackWrite v h = ap shown_work h
 begins_shown pin task.BackRead v h = ap shown_work h
 begins_shown pin (task.Checkpoint i) v h = ap shown_work h
 begins_shown pin (task.Release i) v h = ap shown_work h
+begins_shown pin task.Observe v h = ap shown_work h
 begins_shown pin _ v h = absurd h
 
 module _ (starts : Starts) (says : Says) (proper : StartsProper starts) (last : StartsLast starts says) {L : Type 0} (w : WorldOf L) (is : IsWorld starts says w) (s : ℕ) (there : is_some (slice_get w.history.sessions s) ≡ true) where
@@ -204,7 +206,7 @@ module _ (starts : Starts) (says : Says) (proper : StartsProper starts) (last : 
   -- ---- what a step takes
 
   come_pinned : HasCome (live w.history) s → IsSome (pin_of (memory_of (state_of w) s) s)
-  come_pinned come = subst (λ (o : Option Pin). IsSome o) (sym (pin_there starts says proper (state_of w) is.kept.sessions s come.login come.stays).1) refl
+  come_pinned come = subst (λ (o : Option Pin). IsSome o) (sym (pin_there starts says proper (state_of w) is.kept.sessions s (none_stopped w.history.sessions w.history.past is.unstopped s) come.login come.stays).1) refl
 
   on : slice_get w.history.sessions s ≡ Some (node_in w.history s)
   on = on_node starts says proper (state_of w) is.kept.sessions s there
@@ -218,8 +220,15 @@ module _ (starts : Starts) (says : Says) (proper : StartsProper starts) (last : 
       (let k : Some r.cluster ≡ Some (node_in w.history s) = sym may.2 ∙ on in cc)
       (ended_was_drawn starts says w.history.clusters w.history.sessions w.history.past is.kept.sessions.run r may.1) may.1
 
+  below_few : s < 64
+  below_few =
+      let k : s < length w.history.sessions = slice_get_within w.history.sessions s (node_in w.history s) on in
+      let few : length w.history.sessions ≤ 64 = is.few in
+      omega arith
+
   can_keep_up : (u : Upkeep) → HasCome (live w.history) s → CanKeepUp s (memory_of (state_of w) s) u
   can_keep_up (upkeep.Checkpoint i) come = come_pinned come
+  can_keep_up upkeep.Observe come = (below_few, come_pinned come)
   can_keep_up _ come = tt
 
   can_by : (v : Work) → (v ≡ work.Rest → ⊥) → work_in w.actors s ≡ v → May starts (live w.history) s v → (places : ℕ) → needed v ≤ places → length w.history.past < 2 ^ 63 → CanStep s (memory_of (state_of w) s) places v
@@ -252,7 +261,6 @@ module _ (starts : Starts) (says : Says) (proper : StartsProper starts) (last : 
   can_begin task.Collect may = may
   can_begin (task.Attach i) may = may
   can_begin task.Detach may = may
-  can_begin task.Observe may = may
   can_begin (task.Changes since) may = may
   can_begin (task.Stop k) may = may
   can_begin (task.Recover k) may = may
@@ -266,7 +274,7 @@ module _ (starts : Starts) (says : Says) (proper : StartsProper starts) (last : 
 
   module _ (u : WorldOf L) (o : StepOut) (m : StepsIn w s u o) where
     step_is : IsStepOf starts says s (state_of w) (work_in w.actors s) (state_of u) m.does o
-    step_is = any_step starts says proper (state_of w) is.kept s there few_sessions (is.detached s) is.table (work_in w.actors s) refl refl (is.may s) (state_of u) m.does o m.makes
+    step_is = any_step starts says proper (state_of w) is.kept s there few_sessions (is.detached s) is.unstopped is.table (work_in w.actors s) refl refl (is.may s) (state_of u) m.does o m.makes
 
     grown : (live u.history) ≡ after step_is.own (live w.history)
     grown = step_is.grown
@@ -289,6 +297,7 @@ module _ (starts : Starts) (says : Says) (proper : StartsProper starts) (last : 
       table = table;
       few = subst (λ (h : History). length h.sessions ≤ 64) (sym grown) is.few;
       detached = λ q. subst (λ (h : History). is_attached h.past q ≡ false) (sym grown) (step_is.detached q (is.detached q));
+      unstopped = λ k. subst (λ (h : History). is_stopped h.past k ≡ false) (sym grown) (step_is.unstopped k (is.unstopped k));
       unsplit = λ p. ap (λ (f : Path → List PrevEntry). f p) step_is.same ∙ is.unsplit p;
       seats = ap length m.actors ∙ (length-set w.actors s _ ∙ (is.seats ∙ sym (ap (λ (h : History). length h.sessions) grown)));
       may = λ q. may_by q (q == s) refl;
@@ -317,6 +326,7 @@ module _ (starts : Starts) (says : Says) (proper : StartsProper starts) (last : 
     table = is.table;
     few = is.few;
     detached = is.detached;
+    unstopped = is.unstopped;
     unsplit = is.unsplit;
     seats = length-set w.actors s a ∙ is.seats;
     may = λ q. by q (q == s) refl;
@@ -366,13 +376,14 @@ module _ (starts : Starts) (says : Says) (proper : StartsProper starts) (last : 
     start_keeps task.Login v may h = subst (λ (x : Work). IsWorld starts says (with_work w s x)) (sym h) (quiet_keeps work.Login refl refl may)
     start_keeps task.End v may h = subst (λ (x : Work). IsWorld starts says (with_work w s x)) (sym h) (quiet_keeps work.End refl refl (record { login = may.0; stays = may.1 }))
     start_keeps task.Refresh v may h = subst (λ (x : Work). IsWorld starts says (with_work w s x)) (sym h) (quiet_keeps work.Refresh refl refl (record { login = may.0; stays = may.1 }))
-    start_keeps (task.Load p) v may h = subst (λ (x : Work). IsWorld starts says (with_work w s x)) (sym h.3) (reads_keeps (node_reader h.0 h.1 p) (load_whole starts says proper (state_of w) is.kept s h.0 h.1 p may.0 may.1 (reads_at_pin h.1 h.2)) (record { login = may.0; stays = may.1 }))
-    start_keeps (task.List p) v may h = subst (λ (x : Work). IsWorld starts says (with_work w s x)) (sym h.3) (reads_keeps (children_reader h.0 h.1 p) (list_whole starts says proper (state_of w) is.kept s h.0 h.1 p may.0 may.1 (reads_at_pin h.1 h.2)) (record { login = may.0; stays = may.1 }))
+    start_keeps (task.Load p) v may h = subst (λ (x : Work). IsWorld starts says (with_work w s x)) (sym h.3) (reads_keeps (node_reader h.0 h.1 p) (load_whole starts says proper (state_of w) is.kept s h.0 h.1 p (none_stopped w.history.sessions w.history.past is.unstopped s) may.0 may.1 (reads_at_pin h.1 h.2)) (record { login = may.0; stays = may.1 }))
+    start_keeps (task.List p) v may h = subst (λ (x : Work). IsWorld starts says (with_work w s x)) (sym h.3) (reads_keeps (children_reader h.0 h.1 p) (list_whole starts says proper (state_of w) is.kept s h.0 h.1 p (none_stopped w.history.sessions w.history.past is.unstopped s) may.0 may.1 (reads_at_pin h.1 h.2)) (record { login = may.0; stays = may.1 }))
     start_keeps (task.Commit edit marks) v may h = subst (λ (x : Work). IsWorld starts says (with_work w s x)) (sym h) (quiet_keeps (work.Plan edit marks) refl refl (record { login = may.0; stays = may.1 }, may.3))
     start_keeps task.BackWrite v may h = upkeep_keeps upkeep.Write v h (record { login = may.0; stays = may.1 }) tt
     start_keeps task.BackRead v may h = upkeep_keeps upkeep.Read v h (record { login = may.0; stays = may.1 }) tt
     start_keeps (task.Checkpoint i) v may h = upkeep_keeps (upkeep.Checkpoint i) v h (record { login = may.0; stays = may.1 }) tt
     start_keeps (task.Release i) v may h = upkeep_keeps (upkeep.Release i) v h (record { login = may.0; stays = may.1 }) tt
+    start_keeps task.Observe v may h = upkeep_keeps upkeep.Observe v h (record { login = may.0; stays = may.1 }) tt
     start_keeps _ v may h = absurd h
 
     -- a reply is said
@@ -399,6 +410,7 @@ module _ (starts : Starts) (says : Says) (proper : StartsProper starts) (last : 
         table = is.table;
         few = is.few;
         detached = is.detached;
+        unstopped = is.unstopped;
         unsplit = is.unsplit;
         seats = length-set w.actors s (record (actor_in w.actors s) { reply = None }) ∙ is.seats;
         may = λ q. by q (q == s) refl;

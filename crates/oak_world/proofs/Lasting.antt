@@ -40,3 +40,4 @@ module _ (starts : Starts) (says : Says) (h : Story) (nodes : AreNodes h.cluster
   upkeep_lasts (upkeep.Learn last sweep) m = were_lasts h.clusters own h.past last sweep m
   upkeep_lasts (upkeep.Checkpoint i) m = tt
   upkeep_lasts (upkeep.Release i) m = tt
+  upkeep_lasts upkeep.Observe m = tt

@@ -350,6 +350,9 @@ module _ (s : ℕ) (w u : State) (m n : NodeState) (x : Work) where
   upkeep_less (upkeep.Release i) (answers.Ready ends.NoCheckpoint) h = rest_less 0 h.2
   upkeep_less (upkeep.Release i) answers.Memory h = rest_less 0 h.1
   upkeep_less (upkeep.Release i) _ h = absurd h
+  upkeep_less upkeep.Observe (answers.Ready (ends.Pinned pin)) h = rest_less 0 h.2
+  upkeep_less upkeep.Observe answers.Memory h = rest_less 0 h.1
+  upkeep_less upkeep.Observe _ h = absurd h
 
   -- ---- all
 
@@ -414,6 +417,7 @@ over s t m (work.Upkeep u) h = absurd (by u h)
     by (upkeep.Learn last sweep) h = omega (arith, h)
     by (upkeep.Checkpoint i) h = omega (arith, h)
     by (upkeep.Release i) h = omega (arith, h)
+    by upkeep.Observe h = omega (arith, h)
 
 -- in worlds with the same documents and memories a session that does one thing has as many steps left
 pub same_left : {L : Type 0} (w u : WorldOf L) (s : ℕ) → state_of u ≡ state_of w → work_in u.actors s ≡ work_in w.actors s → left_in u s ≡ left_in w s

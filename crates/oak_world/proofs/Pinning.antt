@@ -7,14 +7,16 @@ use Rattle.oak_machine.specs.declared.event.Event.TheVariants as event
 use Rattle.oak_machine.specs.History.{Past}
 use Rattle.oak_machine.specs.Laws.{Says, Starts, StartsProper}
 use Rattle.oak_machine.specs.Runs.{IsRunOf}
-use Rattle.oak_machine.specs.Sessions.{base_of, has_left, has_login, is_attached, last_checkpoint}
+use Rattle.oak_machine.specs.Sessions.{base_of, has_left, has_login, is_attached, is_stopped, is_stopped_under, last_checkpoint}
 use Rattle.oak_node.specs.Pins.{pin_of}
 use Rattle.core_nodes.specs.Nodes.{base_of_pin, pinned_at}
 use Rattle.core_world.specs.Kept.{AreSessionsKept}
 use Rattle.core_world.specs.States.{State, memory_of}
 use Rattle.core_world.proofs.Draws.{its_base}
 use Rattle.core_world.proofs.Flights.{same_number}
+use Rattle.core_world.proofs.Lives.{node_alive}
 use Rattle.core_world.proofs.Truths.{pin_there}
+use Rattle.oak_world.proofs.StepsOf.{none_stopped}
 
 -- a session that hasn't logged in and is attached to nothing has no base
 module _ (starts : Starts) (says : Says) (clusters : ℕ) (sessions : List ℕ) where
@@ -38,13 +40,16 @@ module _ (starts : Starts) (says : Says) (clusters : ℕ) (sessions : List ℕ) 
   no_base (e ∷ past) s run new detached = no_base past s run.1 new detached
 
 -- the base of a session that is attached to nothing and hasn't left is that of its pin
-pub pin_base : (starts : Starts) (says : Says) (proper : StartsProper starts) (w : State) (kept : AreSessionsKept starts says w) (s : ℕ) → is_some (slice_get w.sessions s) ≡ true → is_attached w.past s ≡ false → has_left w.past s ≡ false
+pub pin_base : (starts : Starts) (says : Says) (proper : StartsProper starts) (w : State) (kept : AreSessionsKept starts says w) (s : ℕ) → is_some (slice_get w.sessions s) ≡ true → is_attached w.past s ≡ false → ((k : ℕ) → is_stopped w.past k ≡ false) → has_left w.past s ≡ false
     → option_map (λ pin. pin.base) (pin_of (memory_of w s) s) ≡ base_of w.past s
-pin_base starts says proper w kept s there detached stays = by (has_login w.past s) refl
+pin_base starts says proper w kept s there detached going stays = by (has_login w.past s) refl
   where
+    on : is_stopped_under w.sessions w.past s ≡ false
+    on = none_stopped w.sessions w.past going s
+
     by : (b : Bool) → has_login w.past s ≡ b → base_of_pin (pin_of (memory_of w s) s) ≡ base_of w.past s
-    by true login = let p = pin_there starts says proper w kept s login stays in ap base_of_pin p.1 ∙ (ap Some p.2 ∙ sym (p.3 detached))
+    by true login = let p = pin_there starts says proper w kept s on login stays in ap base_of_pin p.1 ∙ (ap Some p.2 ∙ sym (p.3 detached))
     by false new =
-        its_base starts says proper w kept s there
+        its_base starts says proper w kept s there (node_alive starts says proper w kept s there on)
         ∙ (ap (λ (b : Bool). cond (b && not (has_left w.past s)) (pinned_at w.past s) None) new
         ∙ sym (no_base starts says w.clusters w.sessions w.past s kept.run new detached))

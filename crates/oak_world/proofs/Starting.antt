@@ -67,6 +67,7 @@ start_is_world starts says law clusters sessions few nodes = record {
   table = start_in_order clusters (length sessions);
   few = few;
   detached = λ s. refl;
+  unstopped = λ k. refl;
   unsplit = λ p. ap (λ (f : Path → List PrevEntry). f p) (start_lists clusters (length sessions));
   seats = length-map sessions (λ k. idle);
   may = λ s. subst (λ (v : Work). May starts (live (start_world law clusters sessions).history) s v) (sym (idle_works sessions s)) tt;

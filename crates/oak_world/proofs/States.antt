@@ -75,6 +75,7 @@ module _ {L : Type 0} (w : WorldOf L) (s : ℕ) (there : s < length w.actors) wh
     memories = with_memory w.memories (node_in w.history s) m;
     running = with_session (state_of w).running s x;
     reading = with_session (state_of w).reading s r;
+    formers = (state_of w).formers;
   }
 
   pub moved_is : (p : Parts) (a : ActorState) → state_of (with_parts w s p a) ≡ moved (reverse p.list) p.table p.memory (running_of s a.work) (reading_of a.work)

@@ -22,7 +22,7 @@ use Rattle.oak_node.specs.Heads.{learned, next_draw, with_draw}
 use Rattle.oak_node.specs.Memory.{NodeState}
 use Rattle.oak_node.specs.Notes.{with_notes, without_seen}
 use Rattle.oak_node.specs.Pins.{pin_now, with_pin}
-use Rattle.core_nodes.specs.Nodes.{without_session}
+use Rattle.core_nodes.specs.Nodes.{cursor_owner, without_session}
 use Rattle.oak_read.specs.declared.reader.Reader.{Reader}
 use Rattle.oak_store.specs.Tables.{Table}
 use Rattle.core_clash.specs.Core.{root_of}
@@ -192,6 +192,9 @@ module _ {L : Type 0} (w : WorldOf L) (s : ℕ) (there : s < length w.actors) (q
   upkeep_makes (upkeep.Release i) here (answers.Ready ends.NoCheckpoint) h = (h.0, sets (work.Upkeep (upkeep.Release i)) work.Rest here h.2 refl refl (event.Went s kind.Settings) (after_update w.table (settings_op (change.Release i))) h.1, h.2)
   upkeep_makes (upkeep.Release i) here answers.Memory h = (still (work.Upkeep (upkeep.Release i)) work.Rest here h.1 refl refl h.0, h.1)
   upkeep_makes (upkeep.Release i) here _ h = absurd h
+  upkeep_makes upkeep.Observe here (answers.Ready (ends.Pinned pin)) h = (h.0, tells (work.Upkeep upkeep.Observe) work.Rest here h.2 refl refl (event.Went s kind.Pin) (with_pin memory (cursor_owner s) pin) h.1, h.2)
+  upkeep_makes upkeep.Observe here answers.Memory h = (still (work.Upkeep upkeep.Observe) work.Rest here h.1 refl refl h.0, h.1)
+  upkeep_makes upkeep.Observe here _ h = absurd h
 
   -- ---- all
 

@@ -1,12 +1,13 @@
 -- What a step of a session owes: the events that it adds, what is kept, and what is told of it.
-use Rattle.std.proofs.Common.{◌≡◌, ℕ, Bool, true, false, ◌&&◌, ◌||◌, [], ◌∷◌, ◌++◌, refl, sym, ap, ◌∙◌}
-use Rattle.std.specs.Prelude.{◌==◌}
+use Rattle.std.proofs.Common.{◌≡◌, ℕ, Bool, true, false, ◌&&◌, ◌||◌, Option, Some, None, List, [], ◌∷◌, ◌++◌, refl, sym, ap, ◌∙◌}
+use Rattle.std.specs.Prelude.{◌==◌, slice_get}
+use Rattle.std.specs.Option.{option_map_or}
 use Rattle.std.specs.List.{list_any}
 use Rattle.oak_machine.specs.declared.event.Event.{Event}
 use Rattle.oak_machine.specs.declared.event.StepKind.{StepKind}
 use Rattle.oak_machine.specs.History.{Past}
 use Rattle.oak_machine.specs.Laws.{AreOthers, Says, Starts, after, is_event_of}
-use Rattle.oak_machine.specs.Sessions.{is_attached}
+use Rattle.oak_machine.specs.Sessions.{is_attached, is_stopped, is_stopped_under}
 use Rattle.oak_machine.specs.Steps.{is_kind, kind_number, where_test}
 use Rattle.core_world.specs.Kept.{IsKept}
 use Rattle.core_world.specs.States.{State, history_in, listed_at}
@@ -26,6 +27,7 @@ pub record IsStepOf (starts : Starts) (says : Says) (s : ℕ) (w : State) (v : W
   pub may : May starts (after own (history_in w)) s x
   pub apart : (q : ℕ) → (q == s) ≡ false → AreOthers q own w.past
   pub detached : (q : ℕ) → is_attached w.past q ≡ false → is_attached (own ++ w.past) q ≡ false
+  pub unstopped : (k : ℕ) → is_stopped w.past k ≡ false → is_stopped (own ++ w.past) k ≡ false
   pub same : listed_at u.table ≡ listed_at w.table
   pub tells : Tells (history_in w) s (shown_work v) o own (shown_work x)
   pub of_step : AreOfStep (history_in w) s (shown_work v) o own
@@ -46,6 +48,14 @@ kind_told k b h = ap (λ t. list_any (is_kind k) (where_test t (k ∷ []))) h �
 
 pub with_true : (b : Bool) → b ≡ true → (b && true) ≡ true
 with_true b h = ap (λ t. t && true) h
+
+-- where no cluster node is stopped, no session's is
+pub none_stopped : (sessions : List ℕ) (past : Past) → ((k : ℕ) → is_stopped past k ≡ false) → (s : ℕ) → is_stopped_under sessions past s ≡ false
+none_stopped sessions past going s = by (slice_get sessions s)
+  where
+    by : (o : Option ℕ) → option_map_or (is_stopped past) o false ≡ false
+    by None = refl
+    by (Some k) = going k
 
 -- ---- what one event leaves
 

@@ -23,22 +23,22 @@ use Rattle.oak_machine.specs.Heads.{local}
 use Rattle.oak_machine.specs.History.{History}
 use Rattle.oak_machine.specs.Laws.{Says, Starts, StartsProper}
 use Rattle.oak_machine.specs.Runs.{IsNode}
-use Rattle.oak_machine.specs.Sessions.{is_attached, kept_checkpoint}
+use Rattle.oak_machine.specs.Sessions.{is_attached, is_stopped, is_stopped_under, kept_checkpoint}
 use Rattle.oak_machine.specs.Steps.{is_on}
 use Rattle.oak_node.specs.declared.pending.Pending.{Pending}
 use Rattle.oak_node.specs.Heads.{learned}
 use Rattle.oak_node.specs.Notes.{IsPending}
 use Rattle.oak_node.specs.Pins.{pin_of}
 use Rattle.core_heads.proofs.Orders.{at_most_itself}
-use Rattle.core_nodes.specs.Nodes.{IsMemoryOf, base_of_pin}
+use Rattle.core_nodes.specs.Nodes.{IsMemoryOf, base_of_pin, cursor_owner}
 use Rattle.core_world.specs.Kept.{IsKept, WereOnRoot}
 use Rattle.core_world.specs.States.{State, history_in, memory_of, node_of, nodes_in}
-use Rattle.core_world.specs.Steps.{after_back, after_checkpoint, after_learn, after_out, after_pending, after_release, after_unfound, after_went}
+use Rattle.core_world.specs.Steps.{after_back, after_checkpoint, after_learn, after_observe, after_out, after_pending, after_release, after_unfound, after_went}
 use Rattle.core_world.proofs.Backs.{heard, own_entry_is, told_now}
 use Rattle.core_world.proofs.Draws.{base_is}
 use Rattle.core_world.proofs.Flights.{number_itself}
-use Rattle.core_world.proofs.Lives.{its_node, on_node}
-use Rattle.core_world.proofs.Whole.{back_keeps, checkpoint_keeps, layers_of, learn_keeps, out_keeps, pending_keeps, release_keeps, release_unfound_keeps, went_whole}
+use Rattle.core_world.proofs.Lives.{its_node, on_node, node_alive}
+use Rattle.core_world.proofs.Whole.{back_keeps, checkpoint_keeps, layers_of, learn_keeps, observe_whole, out_keeps, pending_keeps, release_keeps, release_unfound_keeps, went_whole}
 use Rattle.oak_port.specs.declared.task.StepOut.{StepOut}
 use Rattle.oak_port.specs.declared.task.StepOut.TheVariants as answers
 use Rattle.oak_port.specs.declared.task.TaskEnd.TheVariants as ends
@@ -53,9 +53,13 @@ use Rattle.oak_world.specs.Steps.{HasCome, MakesUpkeep, Publishes}
 use Rattle.oak_step.specs.Upkeeps.{set_checkpoint, told_ids}
 use Rattle.oak_world.proofs.Below.{below_parts, told_below}
 use Rattle.oak_world.proofs.Lasting.{local_lasts}
-use Rattle.oak_world.proofs.StepsOf.{IsStepOf, apart_one, flipped, kind_told, with_true}
+use Rattle.oak_world.proofs.StepsOf.{IsStepOf, apart_one, flipped, kind_told, none_stopped, with_true}
 
-module _ (starts : Starts) (says : Says) (proper : StartsProper starts) (w : State) (kept : IsKept starts says w) (s : ℕ) (there : is_some (slice_get w.sessions s) ≡ true) (detached : is_attached w.past s ≡ false) where
+module _ (starts : Starts) (says : Says) (proper : StartsProper starts) (w : State) (kept : IsKept starts says w) (s : ℕ) (there : is_some (slice_get w.sessions s) ≡ true) (detached : is_attached w.past s ≡ false) (none_halted : (k : ℕ) → is_stopped w.past k ≡ false) where
+  -- its cluster node isn't stopped
+  on_now : is_stopped_under w.sessions w.past s ≡ false
+  on_now = none_stopped w.sessions w.past none_halted s
+
   abbrev h : History
   h = history_in w
 
@@ -77,9 +81,9 @@ module _ (starts : Starts) (says : Says) (proper : StartsProper starts) (w : Sta
 
   -- memory was refused
   refused_step : (k : Upkeep) → Tells (history_in w) s (shown_upkeep k) answers.Memory [] Idle → (u : State) (x : Work) → u ≡ w → x ≡ work.Rest → StepOf (work.Upkeep k) u x answers.Memory
-  refused_step k tells u x same is = at_those (work.Upkeep k) answers.Memory w work.Rest u x same is (record { own = []; grown = refl; kept = kept; may = tt; apart = λ q m. refl; detached = λ q m. m; same = refl; tells = tells; of_step = refl; as_due = refl })
+  refused_step k tells u x same is = at_those (work.Upkeep k) answers.Memory w work.Rest u x same is (record { own = []; grown = refl; kept = kept; may = tt; apart = λ q m. refl; detached = λ q m. m; unstopped = λ q m. m; same = refl; tells = tells; of_step = refl; as_due = refl })
 
-  module _ (come : HasCome (history_in w) s) where
+  module _ (come : HasCome (history_in w) s) (few : slice_get w.sessions (cursor_owner s) ≡ None) (unread : w.reading s ≡ None) where
     -- ---- a background write
 
     write_step : (n : Pending) → IsPending (memory_of w s) n → StepOf (work.Upkeep upkeep.Write) (after_pending w s) (work.Upkeep (upkeep.Noted n)) (answers.Went kind.Back)
@@ -90,6 +94,7 @@ module _ (starts : Starts) (says : Says) (proper : StartsProper starts) (w : Sta
       may = (record { login = come.login; stays = come.stays }, (on ∙ ap Some (sym cluster_is), local_lasts starts says w.clusters w.sessions kept.sessions.nodes (event.Went s kind.Back ∷ []) w.past kept_then.sessions.run n.upto n.upto.cluster low));
       apart = apart_one w.past s (event.Went s kind.Back) (λ q m. flipped q s m);
       detached = λ q m. m;
+      unstopped = λ q k. k;
       same = refl;
       tells = (node_of w s, on, refl, refl, ap Publishing upto_is);
       of_step = kind_told kind.Back (s == s && true) (with_true (s == s) (number_itself s));
@@ -124,6 +129,7 @@ module _ (starts : Starts) (says : Says) (proper : StartsProper starts) (w : Sta
         may = (record { login = come.login; stays = come.stays }, ((own.0, local_lasts starts says w.clusters w.sessions kept.sessions.nodes (event.Went s kind.Back ∷ []) w.past kept_then.sessions.run r r.cluster own.1), below));
         apart = apart_one w.past s (event.Went s kind.Back) (λ q m. flipped q s m);
         detached = λ q m. m;
+        unstopped = λ q k. k;
         same = back_lists w.table (names_of i) r;
         tells = subst (λ (y : Shows). Tells (history_in w) s y (answers.Went kind.Back) (event.Went s kind.Back ∷ []) (Publishing r)) (sym shown) (refl, refl, refl);
         of_step = kind_told kind.Back (s == s && true) (with_true (s == s) (number_itself s));
@@ -141,6 +147,7 @@ module _ (starts : Starts) (says : Says) (proper : StartsProper starts) (w : Sta
         may = tt;
         apart = apart_one w.past s (event.Out (node_of w s) r) (λ q m. refl);
         detached = λ q m. m;
+        unstopped = λ q k. k;
         same = back_lists w.table [] r;
         tells = subst (λ (y : Shows). Tells (history_in w) s y (answers.Ready (ends.Published r)) (event.Out (node_of w s) r ∷ []) Idle) (sym shown) (node_of w s, on, refl, refl, refl);
         of_step = subst (λ (y : Shows). AreOfStep (history_in w) s y (answers.Ready (ends.Published r)) (event.Out (node_of w s) r ∷ [])) (sym shown) (kind_told kind.Back (is_on (history_in w) s (node_of w s)) is_mine);
@@ -148,7 +155,7 @@ module _ (starts : Starts) (says : Says) (proper : StartsProper starts) (w : Sta
       }
 
       still_step : (u : State) (x : Work) → u ≡ w → x ≡ work.Rest → StepOf v u x answers.Memory
-      still_step u x same is = at_those v answers.Memory w work.Rest u x same is (record { own = []; grown = refl; kept = kept; may = tt; apart = λ q m. refl; detached = λ q m. m; same = refl; tells = subst (λ (y : Shows). Tells (history_in w) s y answers.Memory [] Idle) (sym shown) (refl, refl); of_step = refl; as_due = refl })
+      still_step u x same is = at_those v answers.Memory w work.Rest u x same is (record { own = []; grown = refl; kept = kept; may = tt; apart = λ q m. refl; detached = λ q m. m; unstopped = λ q m. m; same = refl; tells = subst (λ (y : Shows). Tells (history_in w) s y answers.Memory [] Idle) (sym shown) (refl, refl); of_step = refl; as_due = refl })
 
       publish_step : (ids : List DocId) → AreBelow ids → (u : State) (x : Work) (o : StepOut) → Publishes s w ids r u x o → StepOf v u x o
       publish_step ids below u x (answers.Went kind.Back) m =
@@ -171,6 +178,7 @@ module _ (starts : Starts) (says : Says) (proper : StartsProper starts) (w : Sta
           may = (record { login = come.login; stays = come.stays }, (1, told));
           apart = apart_one w.past s (event.Went s kind.Back) (λ q m. flipped q s m);
           detached = λ q m. m;
+          unstopped = λ q k. k;
           same = refl;
           tells = (d.last_rev, told.public, refl, refl, refl);
           of_step = kind_told kind.Back (s == s && true) (with_true (s == s) (number_itself s));
@@ -181,10 +189,11 @@ module _ (starts : Starts) (says : Says) (proper : StartsProper starts) (w : Sta
     learn_step last sweep were = record {
       own = event.In (node_of w s) (learned (memory_of w s) last sweep).head ∷ [];
       grown = refl;
-      kept = learn_keeps starts says proper w kept s come.login last sweep were;
+      kept = learn_keeps starts says proper w kept s on_now come.login last sweep were;
       may = tt;
       apart = apart_one w.past s (event.In (node_of w s) (learned (memory_of w s) last sweep).head) (λ q m. refl);
       detached = λ q m. m;
+      unstopped = λ q k. k;
       same = refl;
       tells = (node_of w s, on, λ r seen. heard starts says proper w (layers_of starts says w kept) s come.login last sweep were r seen, refl, refl);
       of_step = kind_told kind.Learn (is_on (history_in w) s (node_of w s)) is_mine;
@@ -197,12 +206,13 @@ module _ (starts : Starts) (says : Says) (proper : StartsProper starts) (w : Sta
     checkpoint_step i pin has = record {
       own = event.Checkpoint i pin.base ∷ [];
       grown = refl;
-      kept = checkpoint_keeps starts says proper w kept s i pin come.login come.stays detached has;
+      kept = checkpoint_keeps starts says proper w kept s i pin on_now come.login come.stays detached has;
       may = tt;
       apart = apart_one w.past s (event.Checkpoint i pin.base) (λ q m. refl);
       detached = λ q m. m;
+      unstopped = λ q k. k;
       same = settings_lists w.table (change.Checkpoint i pin);
-      tells = (pin.base, base_is starts says proper w kept.sessions s come.login come.stays detached ∙ ap (λ (o : Option Pin). Some (option_map_or (λ (p : Pin). p.base) o (memory_of w s).head)) has, refl, refl);
+      tells = (pin.base, base_is starts says proper w kept.sessions s (node_alive starts says proper w kept.sessions s there on_now) come.login come.stays detached ∙ ap (λ (o : Option Pin). Some (option_map_or (λ (p : Pin). p.base) o (memory_of w s).head)) has, refl, refl);
       of_step = refl;
       as_due = refl;
     }
@@ -226,6 +236,7 @@ module _ (starts : Starts) (says : Says) (proper : StartsProper starts) (w : Sta
       may = tt;
       apart = apart_one w.past s (event.Release i) (λ q m. refl);
       detached = λ q m. m;
+      unstopped = λ q k. k;
       same = settings_lists w.table (change.Release i);
       tells = (refl, refl);
       of_step = refl;
@@ -242,11 +253,29 @@ module _ (starts : Starts) (says : Says) (proper : StartsProper starts) (w : Sta
           may = tt;
           apart = apart_one w.past s (event.Went s kind.Settings) (λ q m. flipped q s m);
           detached = λ q m. m;
+          unstopped = λ q k. k;
           same = settings_lists w.table (change.Release i);
           tells = (gone, refl, refl);
           of_step = kind_told kind.Settings (s == s && true) (with_true (s == s) (number_itself s));
           as_due = refl;
         }
+
+    -- ---- the cursor
+
+    observe_step : (pin : Pin) → pin_of (memory_of w s) s ≡ Some pin → StepOf (work.Upkeep upkeep.Observe) (after_observe w s pin) work.Rest (answers.Ready (ends.Pinned pin))
+    observe_step pin has = record {
+      own = event.Went s kind.Pin ∷ [];
+      grown = refl;
+      kept = observe_whole starts says proper w kept s pin few come.login come.stays unread has;
+      may = tt;
+      apart = apart_one w.past s (event.Went s kind.Pin) (λ q m. flipped q s m);
+      detached = λ q m. m;
+      unstopped = λ q k. k;
+      same = refl;
+      tells = (base_is starts says proper w kept.sessions s (node_alive starts says proper w kept.sessions s there on_now) come.login come.stays detached ∙ ap (λ (o : Option Pin). Some (option_map_or (λ (p : Pin). p.base) o (memory_of w s).head)) has, refl, refl);
+      of_step = kind_told kind.Pin (s == s && true) (with_true (s == s) (number_itself s));
+      as_due = refl;
+    }
 
     -- ---- all
 
@@ -271,3 +300,6 @@ module _ (starts : Starts) (says : Says) (proper : StartsProper starts) (w : Sta
     upkeep_step (upkeep.Release i) may u x (answers.Ready ends.NoCheckpoint) m = at_those (work.Upkeep (upkeep.Release i)) (answers.Ready ends.NoCheckpoint) (after_unfound w s (change.Release i)) work.Rest u x m.1 m.2 (unfound_step i m.0)
     upkeep_step (upkeep.Release i) may u x answers.Memory m = refused_step (upkeep.Release i) (refl, refl) u x m.0 m.1
     upkeep_step (upkeep.Release i) may u x _ m = absurd m
+    upkeep_step upkeep.Observe may u x (answers.Ready (ends.Pinned pin)) m = at_those (work.Upkeep upkeep.Observe) (answers.Ready (ends.Pinned pin)) (after_observe w s pin) work.Rest u x m.1 m.2 (observe_step pin m.0)
+    upkeep_step upkeep.Observe may u x answers.Memory m = refused_step upkeep.Observe (refl, refl) u x m.0 m.1
+    upkeep_step upkeep.Observe may u x _ m = absurd m

@@ -42,7 +42,7 @@ use Rattle.oak_machine.specs.Commits.{is_ended, tree_at}
 use Rattle.oak_machine.specs.Heads.{head_of, local}
 use Rattle.oak_machine.specs.Laws.{AreOthers, Says, Starts, StartsProper, after, is_revision_of}
 use Rattle.oak_machine.specs.Runs.{IsNode, IsRunOf}
-use Rattle.oak_machine.specs.Sessions.{has_login, is_attached}
+use Rattle.oak_machine.specs.Sessions.{has_login, is_attached, is_stopped, is_stopped_under}
 use Rattle.oak_machine.specs.Steps.{is_appended_by, is_kind, is_moving, where_test}
 use Rattle.oak_node.specs.Heads.{AwaitsEarlier, finished, next_draw}
 use Rattle.oak_node.specs.Memory.{NodeState, own_entry}
@@ -96,7 +96,7 @@ use Rattle.oak_world.specs.Steps.{HasCome, Makes, MakesCommit, MakesUpdate}
 use Rattle.oak_world.specs.Worlds.{reading_of, running_as, running_of}
 use Rattle.oak_step.proofs.Feeding.{stage_last, stage_mark, stage_write}
 use Rattle.oak_step.proofs.Stages.{finish_stage}
-use Rattle.oak_world.proofs.StepsOf.{IsStepOf, apart_one, flipped, kind_told, with_true}
+use Rattle.oak_world.proofs.StepsOf.{IsStepOf, apart_one, flipped, kind_told, none_stopped, with_true}
 use Rattle.oak_world.proofs.Upkeeping.{upkeep_step}
 use Rattle.oak_world.proofs.Staying.{come_left, same_roots}
 
@@ -121,6 +121,10 @@ ends_apart false k v r past q = refl
 ends_detached : (b : Bool) (k : ℕ) (v : RevVec) (r : Revision) (past : Past) (q : ℕ) → is_attached past q ≡ false → is_attached (ends_with b k v r ++ past) q ≡ false
 ends_detached true k v r past q h = h
 ends_detached false k v r past q h = h
+
+ends_unstopped : (b : Bool) (k : ℕ) (v : RevVec) (r : Revision) (past : Past) (q : ℕ) → is_stopped past q ≡ false → is_stopped (ends_with b k v r ++ past) q ≡ false
+ends_unstopped true k v r past q h = h
+ends_unstopped false k v r past q h = h
 
 ends_by_due : (b : Bool) (k : ℕ) (v : RevVec) (r : Revision) (due : Option StepKind) → is_by_due due (ends_with b k v r) ≡ true
 ends_by_due true k v r due = refl
@@ -195,7 +199,11 @@ same_end a b h = cc
 
 -- ---- a step
 
-module _ (starts : Starts) (says : Says) (proper : StartsProper starts) (w : State) (kept : IsKept starts says w) (s : ℕ) (there : is_some (slice_get w.sessions s) ≡ true) (few : slice_get w.sessions (cursor_owner s) ≡ None) (apart_now : is_attached w.past s ≡ false) where
+module _ (starts : Starts) (says : Says) (proper : StartsProper starts) (w : State) (kept : IsKept starts says w) (s : ℕ) (there : is_some (slice_get w.sessions s) ≡ true) (few : slice_get w.sessions (cursor_owner s) ≡ None) (apart_now : is_attached w.past s ≡ false) (none_halted : (k : ℕ) → is_stopped w.past k ≡ false) where
+  -- its cluster node isn't stopped
+  on_now : is_stopped_under w.sessions w.past s ≡ false
+  on_now = none_stopped w.sessions w.past none_halted s
+
   abbrev h : History
   h = history_in w
 
@@ -208,10 +216,11 @@ module _ (starts : Starts) (says : Says) (proper : StartsProper starts) (w : Sta
   login_step pin is first = record {
     own = event.Login s (memory_of w s).head ∷ [];
     grown = refl;
-    kept = login_whole starts says proper w kept s there first;
+    kept = login_whole starts says proper w kept s on_now there first;
     may = tt;
     apart = apart_one w.past s (event.Login s (memory_of w s).head) (λ q k. flipped q s k);
     detached = λ q k. chosen_false (s == q) (is_attached w.past q) k;
+    unstopped = λ q k. k;
     same = refl;
     tells = (ap (λ (p : Pin). event.Login s p.base ∷ []) (sym is), refl);
     of_step = kind_told kind.Login (s == s) (number_itself s);
@@ -222,10 +231,11 @@ module _ (starts : Starts) (says : Says) (proper : StartsProper starts) (w : Sta
   leave_step come idle unread = record {
     own = event.Went s kind.End ∷ [];
     grown = refl;
-    kept = leave_whole starts says proper w kept s few come.login come.stays idle unread;
+    kept = leave_whole starts says proper w kept s on_now few come.login come.stays idle unread;
     may = tt;
     apart = apart_one w.past s (event.Went s kind.End) (λ q k. flipped q s k);
     detached = λ q k. k;
+    unstopped = λ q k. k;
     same = refl;
     tells = (refl, refl);
     of_step = kind_told kind.End (s == s && true) (with_true (s == s) (number_itself s));
@@ -236,10 +246,11 @@ module _ (starts : Starts) (says : Says) (proper : StartsProper starts) (w : Sta
   refresh_step pin is come idle unread = record {
     own = event.Refresh s (memory_of w s).head ∷ [];
     grown = refl;
-    kept = refresh_whole starts says proper w kept s come.login come.stays idle unread;
+    kept = refresh_whole starts says proper w kept s on_now come.login come.stays idle unread;
     may = tt;
     apart = apart_one w.past s (event.Refresh s (memory_of w s).head) (λ q k. flipped q s k);
     detached = λ q k. chosen_false (s == q) (is_attached w.past q) k;
+    unstopped = λ q k. k;
     same = refl;
     tells = (ap (λ (p : Pin). event.Refresh s p.base ∷ []) (sym is), refl);
     of_step = kind_told kind.Pin (s == s) (number_itself s);
@@ -268,6 +279,7 @@ module _ (starts : Starts) (says : Says) (proper : StartsProper starts) (w : Sta
     may = (come, ended, on);
     apart = λ q k. refl;
     detached = λ q k. k;
+    unstopped = λ q k. k;
     same = refl;
     tells = (refl, refl, ap (λ (v : RevVec). sees v r) (sym (head_is r on)) ∙ awaits.unseen, held_back r q awaits on);
     of_step = refl;
@@ -278,10 +290,11 @@ module _ (starts : Starts) (says : Says) (proper : StartsProper starts) (w : Sta
   moves_step r o is seen come on idle unread = record {
     own = event.Refresh s (memory_of w s).head ∷ [];
     grown = refl;
-    kept = refresh_whole starts says proper w kept s come.login come.stays idle unread;
+    kept = refresh_whole starts says proper w kept s on_now come.login come.stays idle unread;
     may = tt;
     apart = apart_one w.past s (event.Refresh s (memory_of w s).head) (λ q k. flipped q s k);
     detached = λ q k. chosen_false (s == q) (is_attached w.past q) k;
+    unstopped = λ q k. k;
     same = refl;
     tells = (ap end.Committed is, ap (λ (v : RevVec). sees v r) (sym (head_is r on)) ∙ seen, (memory_of w s).head, seen, refl, refl);
     of_step = kind_told kind.Pin (s == s) (number_itself s);
@@ -315,6 +328,7 @@ module _ (starts : Starts) (says : Says) (proper : StartsProper starts) (w : Sta
       may = come;
       apart = λ q k. refl;
       detached = λ q k. k;
+      unstopped = λ q k. k;
       same = refl;
       tells = goes_on r.parent (path_read r) (shown_work (work.Read next)) same_task;
       of_step = refl;
@@ -333,6 +347,7 @@ module _ (starts : Starts) (says : Says) (proper : StartsProper starts) (w : Sta
       may = tt;
       apart = λ q k. refl;
       detached = λ q k. k;
+      unstopped = λ q k. k;
       same = refl;
       tells = gone_tells r.parent (path_read r);
       of_step = refl;
@@ -380,6 +395,7 @@ module _ (starts : Starts) (says : Says) (proper : StartsProper starts) (w : Sta
         may = tt;
         apart = λ q k. refl;
         detached = λ q k. k;
+        unstopped = λ q k. k;
         same = refl;
         tells = given r.parent for_same.same_kind next.step refl gives;
         of_step = last_read r.parent (path_read r);
@@ -393,10 +409,11 @@ module _ (starts : Starts) (says : Says) (proper : StartsProper starts) (w : Sta
   draw_step edit marks come lawful idle = record {
     own = event.Draw (draw_in w s edit marks) ∷ [];
     grown = refl;
-    kept = draw_whole starts says proper w kept s edit marks (marked_paths marks) come.login come.stays apart_now idle lawful;
+    kept = draw_whole starts says proper w kept s edit marks (marked_paths marks) on_now come.login come.stays apart_now idle lawful;
     may = record { come = record { login = come.login; stays = come.stays }; unended = refl; roots = refl; looked = refl };
     apart = apart_one w.past s (event.Draw (draw_in w s edit marks)) (λ q k. flipped q s k);
     detached = λ q k. k;
+    unstopped = λ q k. k;
     same = refl;
     tells = (draw_in w s edit marks, record { session = refl; edit_is = refl; marks_are = refl }, refl, refl, refl);
     of_step = kind_told kind.Draw (s == s) (number_itself s);
@@ -453,6 +470,7 @@ module _ (starts : Starts) (says : Says) (proper : StartsProper starts) (w : Sta
         may = record { come = at.come; unended = at.unended; roots = refl; looked = refl };
         apart = λ q k. refl;
         detached = λ q k. k;
+        unstopped = λ q k. k;
         same = refl;
         tells = writing answers.Memory [] (shown_work (work.Commit (wanting c))) (refl, refl);
         of_step = refl;
@@ -479,6 +497,7 @@ module _ (starts : Starts) (says : Says) (proper : StartsProper starts) (w : Sta
           may = record { come = record { login = at.come.login; stays = at.come.stays }; unended = at.unended; roots = ap (drop 1) at.roots ∙ ap (λ (fs : List Met). drop 1 (map (λ m. root_of w.past m.other) fs)) due_is; looked = at.looked };
           apart = apart_went kind.Mark;
           detached = λ q k. k;
+          unstopped = λ q k. k;
           same = mark_lists w s x f rest;
           tells = writing (answers.Went kind.Mark) (event.Went s kind.Mark ∷ []) (shown_work (work.Commit (marked c rest))) (inr (inl (refl, refl, still_writing (marked c rest) refl refl)));
           of_step = kind_told kind.Mark (s == s && true) (with_true (s == s) (number_itself s));
@@ -493,6 +512,7 @@ module _ (starts : Starts) (says : Says) (proper : StartsProper starts) (w : Sta
           may = record { come = record { login = at.come.login; stays = at.come.stays }; unended = at.unended; roots = refl; looked = at.looked };
           apart = apart_refusal f.mine f.other;
           detached = λ q k. k;
+          unstopped = λ q k. k;
           same = mark_lists w s x f rest;
           tells = refusal_tells kind.Mark f.mine f.other (refused c f.mine f.other) refl;
           of_step = ap (λ t. list_any (is_kind kind.Mark) (where_test t (kind.Mark ∷ kind.Last ∷ []))) revision_mine;
@@ -512,6 +532,7 @@ module _ (starts : Starts) (says : Says) (proper : StartsProper starts) (w : Sta
           may = record { come = record { login = at.come.login; stays = at.come.stays }; unended = at.unended; roots = roots_met c.base c.revision p c.marks (root_of w.past) (nodes_in w.table p) (λ f i. met_here starts says proper w kept.sessions s x here p f i); looked = refl };
           apart = apart_went kind.Write;
           detached = λ q k. k;
+          unstopped = λ q k. k;
           same = write_lists w s x p rest;
           tells = writing (answers.Went kind.Write) (event.Went s kind.Write ∷ []) (shown_work (work.Commit (written_alone c p rest (nodes_in w.table p)))) (inl (refl, refl, inl (still_writing (written_alone c p rest (nodes_in w.table p)) refl refl)));
           of_step = kind_told kind.Write (s == s && true) (with_true (s == s) (number_itself s));
@@ -526,6 +547,7 @@ module _ (starts : Starts) (says : Says) (proper : StartsProper starts) (w : Sta
           may = record { come = record { login = at.come.login; stays = at.come.stays }; unended = at.unended; roots = refl; looked = refl };
           apart = apart_went kind.Write;
           detached = λ q k. k;
+          unstopped = λ q k. k;
           same = want_lists w s x p rest;
           tells = writing (answers.Went kind.Write) (event.Went s kind.Write ∷ []) (shown_work (work.Commit (wanting (written_alone c p rest (nodes_in w.table p))))) (inl (refl, refl, inr refl));
           of_step = kind_told kind.Write (s == s && true) (with_true (s == s) (number_itself s));
@@ -556,6 +578,7 @@ module _ (starts : Starts) (says : Says) (proper : StartsProper starts) (w : Sta
           may = record { come = record { login = at.come.login; stays = at.come.stays }; unended = at.unended; roots = at.roots; looked = at.looked };
           apart = apart_one w.past s (event.Commit c.revision) (λ q k. its_session q false (flipped q s k));
           detached = λ q k. k;
+          unstopped = λ q k. k;
           same = last_lists w s x;
           tells = writing (answers.Went kind.Last) (event.Commit c.revision ∷ []) (shown_work (work.Commit (committed c))) (inr (inr (inl (refl, refl, refl))));
           of_step = kind_told kind.Last (is_revision_of w.past s c.revision) revision_mine;
@@ -570,6 +593,7 @@ module _ (starts : Starts) (says : Says) (proper : StartsProper starts) (w : Sta
           may = record { come = record { login = at.come.login; stays = at.come.stays }; unended = at.unended; roots = refl; looked = at.looked };
           apart = apart_refusal item o;
           detached = λ q k. k;
+          unstopped = λ q k. k;
           same = last_lists w s x;
           tells = refusal_tells kind.Last item o (refused c item o) refl;
           of_step = ap (λ t. list_any (is_kind kind.Last) (where_test t (kind.Mark ∷ kind.Last ∷ []))) revision_mine;
@@ -586,6 +610,7 @@ module _ (starts : Starts) (says : Says) (proper : StartsProper starts) (w : Sta
       may = record { come = record { login = at.come.login; stays = at.come.stays }; unended = at.unended; roots = at.roots; looked = at.looked };
       apart = apart_went kind.Undo;
       detached = λ q k. k;
+      unstopped = λ q k. k;
       same = undoing_lists w s x p rest;
       tells = undoing_tells h s c.revision c.outcome undoing;
       of_step = kind_told kind.Undo (s == s && true) (with_true (s == s) (number_itself s));
@@ -676,6 +701,7 @@ module _ (starts : Starts) (says : Says) (proper : StartsProper starts) (w : Sta
         may = (come_on, ended_now moved (node_of w s) done.head c.revision w.past, on);
         apart = λ q k. ends_apart moved (node_of w s) done.head c.revision w.past q;
         detached = ends_detached moved (node_of w s) done.head c.revision w.past;
+        unstopped = ends_unstopped moved (node_of w s) done.head c.revision w.past;
         same = refl;
         tells = deciding_tells h s c.revision c.outcome own_ends ends_so.0 (is_finish moved (node_of w s) done.head c.revision);
         of_step = finish_told;
@@ -690,6 +716,7 @@ module _ (starts : Starts) (says : Says) (proper : StartsProper starts) (w : Sta
             may = tt;
             apart = λ q k. ends_apart moved (node_of w s) done.head c.revision w.past q;
             detached = ends_detached moved (node_of w s) done.head c.revision w.past;
+            unstopped = ends_unstopped moved (node_of w s) done.head c.revision w.past;
             same = refl;
             tells = subst (λ (y : Option CommitEnd). Tells h s (shown_by c.revision y) (answers.Ready (ends.Commit e)) own_ends Idle) (sym ends_so.0) (undone_tells h s c.revision e own_ends past (is_finish moved (node_of w s) done.head c.revision));
             of_step = subst (λ (y : Option CommitEnd). AreOfStep h s (shown_by c.revision y) (answers.Ready (ends.Commit e)) own_ends) (sym ends_so.0) (undone_of_step h s c.revision e own_ends past finish_told);
@@ -745,7 +772,7 @@ module _ (starts : Starts) (says : Says) (proper : StartsProper starts) (w : Sta
 
   -- nothing is done
   still_step : (v : Work) → Tells h s (shown_work v) answers.Memory [] Idle → is_by_due (kind_due v) [] ≡ true → (u : State) (x : Work) → u ≡ w → x ≡ work.Rest → StepOf v u x answers.Memory
-  still_step v tells due u x same is = at_those v answers.Memory w work.Rest u x same is (record { own = []; grown = refl; kept = kept; may = tt; apart = λ q k. refl; detached = λ q k. k; same = refl; tells = tells; of_step = refl; as_due = due })
+  still_step v tells due u x same is = at_those v answers.Memory w work.Rest u x same is (record { own = []; grown = refl; kept = kept; may = tt; apart = λ q k. refl; detached = λ q k. k; unstopped = λ q k. k; same = refl; tells = tells; of_step = refl; as_due = due })
 
   -- a step of a session that may do what it does
   pub any_step : IsTable w.table.documents → (v : Work) → w.running s ≡ running_of s v → w.reading s ≡ reading_of v → May starts h s v → (u : State) (x : Work) (o : StepOut) → Makes s w v u x o → StepOf v u x o
@@ -770,5 +797,5 @@ module _ (starts : Starts) (says : Says) (proper : StartsProper starts) (w : Sta
   any_step table (work.Move r) runs reads may u x (answers.Wait q) m = at_those (work.Move r) (answers.Wait q) w (work.Move r) u x m.0 m.1 (waits_step r q m.2 may.0 may.1 may.2)
   any_step table (work.Move r) runs reads may u x (answers.Ready (ends.Commit (end.Committed o))) m = at_those (work.Move r) (answers.Ready (ends.Commit (end.Committed o))) (after_refresh w s) work.Rest u x m.0 m.1 (moves_step r o m.2 m.3 may.0 may.2 runs reads)
   any_step table (work.Move r) runs reads may u x _ m = absurd m
-  any_step table (work.Upkeep k) runs reads may u x o m = upkeep_step starts says proper w kept s there apart_now may.0 k may.1 u x o m
+  any_step table (work.Upkeep k) runs reads may u x o m = upkeep_step starts says proper w kept s there apart_now none_halted may.0 few reads k may.1 u x o m
   any_step table work.Rest runs reads may u x o m = absurd m

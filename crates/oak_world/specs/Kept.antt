@@ -6,7 +6,7 @@ use Rattle.oak_commit.specs.Committing.{Committing}
 use Rattle.oak_machine.specs.History.{History}
 use Rattle.oak_machine.specs.Commits.{is_ended}
 use Rattle.oak_machine.specs.Laws.{Says, Starts}
-use Rattle.oak_machine.specs.Sessions.{has_login, is_attached}
+use Rattle.oak_machine.specs.Sessions.{has_login, is_attached, is_stopped}
 use Rattle.oak_read.specs.Reading.{IsTable}
 use Rattle.core_clash.specs.Core.{root_of}
 use Rattle.core_world.specs.Kept.{IsKept, WereOnRoot}
@@ -63,12 +63,13 @@ May starts h s (work.Upkeep u) = HasCome h s × MayKeepUp h s u
 May starts h s (work.Move r) =
     HasCome h s × IsTrue (is_ended h.past r) × (slice_get h.sessions s ≡ Some r.cluster)
 
--- the state is kept by its law, the documents are in store order, there are at most 64 sessions, none is attached to a checkpoint, no document lists a previous one, and each may do what it does
+-- the state is kept by its law, the documents are in store order, there are at most 64 sessions, none is attached to a checkpoint, no cluster node is stopped, no document lists a previous one, and each may do what it does
 pub record IsWorld (starts : Starts) (says : Says) {L : Type 0} (w : WorldOf L) : Type 0 where
   pub kept : IsKept starts says (state_of w)
   pub table : IsTable w.table.documents
   pub few : length w.history.sessions ≤ 64
   pub detached : (s : ℕ) → IsFalse (is_attached w.history.past s)
+  pub unstopped : (k : ℕ) → IsFalse (is_stopped w.history.past k)
   pub unsplit : (p : Path) → listed_at w.table p ≡ []
   pub seats : length w.actors ≡ length w.history.sessions
   pub may : (s : ℕ) → May starts (live w.history) s (work_in w.actors s)

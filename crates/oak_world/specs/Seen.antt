@@ -36,6 +36,7 @@ shown_upkeep upkeep.Read = Starting task.BackRead
 shown_upkeep (upkeep.Learn last sweep) = Learning last
 shown_upkeep (upkeep.Checkpoint i) = Starting (task.Checkpoint i)
 shown_upkeep (upkeep.Release i) = Starting (task.Release i)
+shown_upkeep upkeep.Observe = Starting task.Observe
 
 -- what is shown of what a session does
 abbrev pub shown_work : Work → Shows

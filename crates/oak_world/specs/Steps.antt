@@ -32,7 +32,7 @@ use Rattle.oak_node.specs.Heads.{AwaitsEarlier, learned, next_draw}
 use Rattle.oak_node.specs.Pins.{pin_now}
 use Rattle.oak_read.specs.Reading.{due}
 use Rattle.core_world.specs.States.{State, base_in, memory_of, nodes_in}
-use Rattle.core_world.specs.Steps.{after_back, after_checkpoint, after_learn, after_out, after_pending, after_release, after_unfound, after_went, after_draw, after_finish, after_last, after_leave, after_login, after_mark, after_refresh, after_undoing, after_want, after_write, after_write_in_want, with_reader}
+use Rattle.core_world.specs.Steps.{after_back, after_checkpoint, after_learn, after_observe, after_out, after_pending, after_release, after_unfound, after_went, after_draw, after_finish, after_last, after_leave, after_login, after_mark, after_refresh, after_undoing, after_want, after_write, after_write_in_want, with_reader}
 use Rattle.oak_port.specs.declared.task.StepOut.{StepOut}
 use Rattle.oak_port.specs.declared.task.StepOut.TheVariants as answers
 use Rattle.oak_port.specs.declared.task.TaskEnd.TheVariants as ends
@@ -138,6 +138,10 @@ MakesUpkeep s w (upkeep.Release i) u v (answers.Ready ends.NoCheckpoint) =
     (set_checkpoint w.table i ≡ None) × (u ≡ after_unfound w s (change.Release i)) × (v ≡ work.Rest)
 MakesUpkeep s w (upkeep.Release i) u v answers.Memory = (u ≡ w) × (v ≡ work.Rest)
 MakesUpkeep s w (upkeep.Release i) u v _ = ⊥
+MakesUpkeep s w upkeep.Observe u v (answers.Ready (ends.Pinned pin)) =
+    (pin_of (memory_of w s) s ≡ Some pin) × (u ≡ after_observe w s pin) × (v ≡ work.Rest)
+MakesUpkeep s w upkeep.Observe u v answers.Memory = (u ≡ w) × (v ≡ work.Rest)
+MakesUpkeep s w upkeep.Observe u v _ = ⊥
 
 -- how a step of session s goes, by what it does: the state after it, what it does then, and the answer
 abbrev pub Makes : ℕ → State → Work → State → Work → StepOut → Type 0

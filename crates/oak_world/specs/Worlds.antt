@@ -118,6 +118,7 @@ state_with h t ms actors = record {
   memories = ms;
   running = λ s. running_of s (work_in actors s);
   reading = λ s. reading_of (work_in actors s);
+  formers = λ p k. None;
 }
 
 -- all but the law and what is kept for replies

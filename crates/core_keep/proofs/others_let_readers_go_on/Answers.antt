@@ -11,7 +11,7 @@ pub returns-clause-removed : goal.returns-clause-removed
 returns-clause-removed c = λ ds now k v t p copy asked at old keeps course held is elsewhere gone stay unwanted. removed_goes ds now k keeps course v t held p copy asked at old is elsewhere gone stay unwanted
 
 pub returns-clause-previous : goal.returns-clause-previous
-returns-clause-previous c = λ ds now k v t p copy asked at j keeps course held change unlisted way. previous_goes ds now k keeps course v t held p copy asked at j change unlisted way
+returns-clause-previous c = λ ds now k v t p copy asked at j keeps course held change unlisted. previous_goes ds now k keeps course v t held p copy asked at j change unlisted
 
 pub returns-clause-besides : goal.returns-clause-besides
 returns-clause-besides c = λ ds now k v t p copy asked at d own keeps course held main open_ unseen same. besides_goes ds now k keeps course v t held p copy asked at d main own open_ unseen same

@@ -1,5 +1,6 @@
 use Rattle.core_keep.proofs.Collecting.{world_copy, known_tree}
 use Rattle.core_keep.proofs.Readers.{reads_previous, reads_on}
+use Rattle.core_keep.proofs.Formers.{reads_found, shown_copy}
 use Rattle.core_keep.proofs.readers_go_on.Goals as goal
 
 pub returns-clause-begins : goal.returns-clause-begins
@@ -13,3 +14,9 @@ returns-clause-lasts c = λ ds now old later v t p copy asked look reads goes. r
 
 pub returns-clause-ends : goal.returns-clause-ends
 returns-clause-ends c = known_tree
+
+pub returns-clause-finds : goal.returns-clause-finds
+returns-clause-finds c = λ ds k v t p copy asked look j f reads fall held former copied shown way. reads_found ds k v t p copy asked look reads fall held j f former copied shown way
+
+pub returns-clause-shows : goal.returns-clause-shows
+returns-clause-shows c = λ ds k v t p copy f held is followed. shown_copy ds k v t p copy f held is followed

@@ -1,4 +1,6 @@
+use Rattle.core_read.specs.Holds.{the_start}
 use Rattle.core_keep.proofs.Collecting.{split_writes, split_lists}
+use Rattle.core_keep.proofs.Splits.{split_copies}
 use Rattle.core_keep.proofs.splits_move.Goals as goal
 
 pub returns-clause-write : goal.returns-clause-write
@@ -6,3 +8,6 @@ returns-clause-write c = split_writes
 
 pub returns-clause-list : goal.returns-clause-list
 returns-clause-list c = split_lists
+
+pub returns-clause-copies : goal.returns-clause-copies
+returns-clause-copies c = λ read pin old number p f order named same counted. split_copies read pin old (record { number = old.mod_count; high = the_start; low = the_start }) number number order p named f same counted

@@ -4,6 +4,7 @@ use Rattle.jr_rev.specs.Vectors.{sees}
 use Rattle.oak_node.proofs.Places.{insert_sorted, remove_sorted}
 use Rattle.core_nodes.proofs.memories_follow_the_journal.Goals as goal
 use Rattle.core_nodes.proofs.Learning.{learn_run}
+use Rattle.core_nodes.proofs.Recovering.{flying_all, recovery_apart, recovery_run, stop_kept}
 use Rattle.core_nodes.proofs.Events.{apart_run, begun_is, draw_run, end_flies, end_run, moved_run, next_is, notes_kept, pins_kept}
 
 pub returns-clause-begun : goal.returns-clause-begun
@@ -44,3 +45,15 @@ returns-clause-pinned g c = λ clusters past k s owner pin is. pins_kept cluster
 
 pub returns-clause-unpinned : goal.returns-clause-unpinned
 returns-clause-unpinned g c = λ clusters past k s owner is. pins_kept clusters past k s _ is (remove_sorted owner s.pins is.memory.owners)
+
+pub returns-clause-stopped : goal.returns-clause-stopped
+returns-clause-stopped g c = stop_kept
+
+pub returns-clause-in_flight : goal.returns-clause-in_flight
+returns-clause-in_flight g c = λ clusters sessions past k s nodes run node is. flying_all (g.L.Law.may_start c.args.law.now) (g.L.Law.may_say c.args.law.now) clusters sessions nodes k node past s run is
+
+pub returns-clause-recovered : goal.returns-clause-recovered
+returns-clause-recovered g c = λ clusters sessions past k s nodes run node stopped is. recovery_run (g.L.Law.may_start c.args.law.now) (g.L.Law.may_say c.args.law.now) clusters sessions nodes k node past s run stopped is
+
+pub returns-clause-recovered_apart : goal.returns-clause-recovered_apart
+returns-clause-recovered_apart g c = λ clusters sessions past m k s nodes run other is. recovery_apart (g.L.Law.may_start c.args.law.now) (g.L.Law.may_say c.args.law.now) clusters sessions nodes past m k s run other is

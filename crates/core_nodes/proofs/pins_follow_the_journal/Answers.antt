@@ -1,6 +1,7 @@
 -- By the events of a run.
 use Rattle.core_nodes.proofs.pins_follow_the_journal.Goals as goal
 use Rattle.core_nodes.proofs.Events.{begun_pins, leave_run, login_run, refresh_run}
+use Rattle.core_nodes.proofs.Recovering.{recovered_pins, recovered_pins_apart}
 use Rattle.core_nodes.proofs.Pins.{cursor_put, has_cursor, has_pin, pinned, pins_kept}
 
 pub returns-clause-begun : goal.returns-clause-begun
@@ -44,3 +45,12 @@ returns-clause-published g c = λ sessions past k s are. record { bases = are.ba
 
 pub returns-clause-learned : goal.returns-clause-learned
 returns-clause-learned g c = λ sessions past k s last sweep are. record { bases = are.bases; pairs = are.pairs }
+
+pub returns-clause-stopped : goal.returns-clause-stopped
+returns-clause-stopped g c = λ sessions past k s are. record { bases = are.bases; pairs = are.pairs }
+
+pub returns-clause-recovered : goal.returns-clause-recovered
+returns-clause-recovered g c = λ sessions past k s. recovered_pins sessions past k s
+
+pub returns-clause-recovered_apart : goal.returns-clause-recovered_apart
+returns-clause-recovered_apart g c = λ sessions past m k s other are. recovered_pins_apart sessions past m k s other are

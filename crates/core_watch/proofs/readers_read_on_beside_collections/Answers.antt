@@ -4,7 +4,7 @@ use Rattle.core_watch.proofs.Lasting.{reading_lasts}
 use Rattle.core_watch.proofs.readers_read_on_beside_collections.Goals as goal
 
 pub returns-clause-begins : goal.returns-clause-begins
-returns-clause-begins c = λ ds past ever a pin p. (begins_node ds past ever a pin p, begins_children ds past ever a pin p)
+returns-clause-begins c = λ ds past formers a pin p. (begins_node ds past formers a pin p, begins_children ds past formers a pin p)
 
 pub returns-clause-feeds : goal.returns-clause-feeds
 returns-clause-feeds c = reading_feeds

@@ -14,7 +14,7 @@ pub returns-clause-out : goal.returns-clause-out
 returns-clause-out g c = λ w s r kept login of low. out_keeps (g.L.Law.may_start c.args.law.now) (g.L.Law.may_say c.args.law.now) (g.L.Law.proper c.args.law.now) w kept s login r of low
 
 pub returns-clause-learn : goal.returns-clause-learn
-returns-clause-learn g c = λ w s last sweep kept login were. learn_keeps (g.L.Law.may_start c.args.law.now) (g.L.Law.may_say c.args.law.now) (g.L.Law.proper c.args.law.now) w kept s login last sweep were
+returns-clause-learn g c = λ w s last sweep kept on login were. learn_keeps (g.L.Law.may_start c.args.law.now) (g.L.Law.may_say c.args.law.now) (g.L.Law.proper c.args.law.now) w kept s on login last sweep were
 
 pub returns-clause-swept : goal.returns-clause-swept
 returns-clause-swept g c = λ w s r kept login of low. sweep_keeps (g.L.Law.may_start c.args.law.now) (g.L.Law.may_say c.args.law.now) (g.L.Law.proper c.args.law.now) w kept s login r of low

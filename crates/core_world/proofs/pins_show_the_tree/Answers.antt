@@ -5,7 +5,7 @@ use Rattle.core_world.proofs.Whole.{pin_above}
 use Rattle.core_world.proofs.Truths.{pin_closed, pin_settled, pin_shows, pin_there, time_known}
 
 pub returns-clause-pinned : goal.returns-clause-pinned
-returns-clause-pinned g c = λ w s kept login stays. pin_there (g.L.Law.may_start c.args.law.now) (g.L.Law.may_say c.args.law.now) (g.L.Law.proper c.args.law.now) w kept.sessions s login stays
+returns-clause-pinned g c = λ w s kept on login stays. pin_there (g.L.Law.may_start c.args.law.now) (g.L.Law.may_say c.args.law.now) (g.L.Law.proper c.args.law.now) w kept.sessions s on login stays
 
 pub returns-clause-settled : goal.returns-clause-settled
 returns-clause-settled g c = λ w s pin kept there has. pin_settled (g.L.Law.may_start c.args.law.now) (g.L.Law.may_say c.args.law.now) (g.L.Law.proper c.args.law.now) w kept.sessions s there pin has

@@ -6,13 +6,13 @@ pub returns-clause-start : goal.returns-clause-start
 returns-clause-start g c = λ clusters sessions nodes. start_whole (g.L.Law.may_start c.args.law.now) (g.L.Law.may_say c.args.law.now) clusters sessions nodes
 
 pub returns-clause-login : goal.returns-clause-login
-returns-clause-login g c = λ w s kept there first. login_whole (g.L.Law.may_start c.args.law.now) (g.L.Law.may_say c.args.law.now) (g.L.Law.proper c.args.law.now) w kept s there first
+returns-clause-login g c = λ w s kept on there first. login_whole (g.L.Law.may_start c.args.law.now) (g.L.Law.may_say c.args.law.now) (g.L.Law.proper c.args.law.now) w kept s on there first
 
 pub returns-clause-refresh : goal.returns-clause-refresh
-returns-clause-refresh g c = λ w s kept login stays none unread. refresh_whole (g.L.Law.may_start c.args.law.now) (g.L.Law.may_say c.args.law.now) (g.L.Law.proper c.args.law.now) w kept s login stays none unread
+returns-clause-refresh g c = λ w s kept on login stays none unread. refresh_whole (g.L.Law.may_start c.args.law.now) (g.L.Law.may_say c.args.law.now) (g.L.Law.proper c.args.law.now) w kept s on login stays none unread
 
 pub returns-clause-leave : goal.returns-clause-leave
-returns-clause-leave g c = λ w s kept few login stays none unread. leave_whole (g.L.Law.may_start c.args.law.now) (g.L.Law.may_say c.args.law.now) (g.L.Law.proper c.args.law.now) w kept s few login stays none unread
+returns-clause-leave g c = λ w s kept on few login stays none unread. leave_whole (g.L.Law.may_start c.args.law.now) (g.L.Law.may_say c.args.law.now) (g.L.Law.proper c.args.law.now) w kept s on few login stays none unread
 
 pub returns-clause-observe : goal.returns-clause-observe
 returns-clause-observe g c = λ w s pin kept few login stays unread has. observe_whole (g.L.Law.may_start c.args.law.now) (g.L.Law.may_say c.args.law.now) (g.L.Law.proper c.args.law.now) w kept s pin few login stays unread has
@@ -24,10 +24,10 @@ pub returns-clause-went : goal.returns-clause-went
 returns-clause-went g c = λ w s k kept other apart login stays. went_whole (g.L.Law.may_start c.args.law.now) (g.L.Law.may_say c.args.law.now) (g.L.Law.proper c.args.law.now) w kept s k other apart login stays
 
 pub returns-clause-load : goal.returns-clause-load
-returns-clause-load g c = λ w s a pin p kept login stays has. load_whole (g.L.Law.may_start c.args.law.now) (g.L.Law.may_say c.args.law.now) (g.L.Law.proper c.args.law.now) w kept s a pin p login stays has
+returns-clause-load g c = λ w s a pin p kept on login stays has. load_whole (g.L.Law.may_start c.args.law.now) (g.L.Law.may_say c.args.law.now) (g.L.Law.proper c.args.law.now) w kept s a pin p on login stays has
 
 pub returns-clause-list : goal.returns-clause-list
-returns-clause-list g c = λ w s a pin p kept login stays has. list_whole (g.L.Law.may_start c.args.law.now) (g.L.Law.may_say c.args.law.now) (g.L.Law.proper c.args.law.now) w kept s a pin p login stays has
+returns-clause-list g c = λ w s a pin p kept on login stays has. list_whole (g.L.Law.may_start c.args.law.now) (g.L.Law.may_say c.args.law.now) (g.L.Law.proper c.args.law.now) w kept s a pin p on login stays has
 
 pub returns-clause-read : goal.returns-clause-read
 returns-clause-read g c = λ w s r kept here table. read_whole (g.L.Law.may_start c.args.law.now) (g.L.Law.may_say c.args.law.now) (g.L.Law.proper c.args.law.now) w kept s r here table

@@ -3,16 +3,16 @@ use Rattle.core_world.proofs.what_is_held_rises.Goals as goal
 use Rattle.core_world.specs.Held.{holding_in}
 use Rattle.core_world.proofs.Held.{still_holding}
 use Rattle.core_world.proofs.Whole.{base_above, bound_keeps, layers_of}
-use Rattle.core_world.proofs.Rising.{attach_rises, attach_unfound_rises, back_rises, bound_rises, checkpoint_rises, detach_rises, draw_rises, finish_rises, last_rises, learn_rises, learn_swept_rises, leave_rises, login_rises, mark_rises, observe_rises, out_rises, pending_rises, refresh_rises, release_rises, release_unfound_rises, said_rises, sweep_rises, undo_rises, went_rises, write_in_want_rises, write_rises}
+use Rattle.core_world.proofs.Rising.{attach_rises, attach_unfound_rises, back_rises, checkpoint_rises, detach_rises, draw_rises, finish_rises, last_rises, learn_rises, learn_swept_rises, leave_rises, login_rises, mark_rises, observe_rises, out_rises, pending_rises, refresh_rises, release_rises, release_unfound_rises, said_rises, sweep_rises, undo_rises, went_rises, write_in_want_rises, write_rises}
 
 pub returns-clause-login : goal.returns-clause-login
-returns-clause-login g c = λ w s kept there first. login_rises (g.L.Law.may_start c.args.law.now) (g.L.Law.may_say c.args.law.now) (g.L.Law.proper c.args.law.now) w (layers_of (g.L.Law.may_start c.args.law.now) (g.L.Law.may_say c.args.law.now) w kept) s there first
+returns-clause-login g c = λ w s kept on there first. login_rises (g.L.Law.may_start c.args.law.now) (g.L.Law.may_say c.args.law.now) (g.L.Law.proper c.args.law.now) w (layers_of (g.L.Law.may_start c.args.law.now) (g.L.Law.may_say c.args.law.now) w kept) s on there first
 
 pub returns-clause-refresh : goal.returns-clause-refresh
-returns-clause-refresh g c = λ w s kept login stays none unread. refresh_rises (g.L.Law.may_start c.args.law.now) (g.L.Law.may_say c.args.law.now) (g.L.Law.proper c.args.law.now) w (layers_of (g.L.Law.may_start c.args.law.now) (g.L.Law.may_say c.args.law.now) w kept) s login stays none unread
+returns-clause-refresh g c = λ w s kept on login stays none unread. refresh_rises (g.L.Law.may_start c.args.law.now) (g.L.Law.may_say c.args.law.now) (g.L.Law.proper c.args.law.now) w (layers_of (g.L.Law.may_start c.args.law.now) (g.L.Law.may_say c.args.law.now) w kept) s login on stays none unread
 
 pub returns-clause-leave : goal.returns-clause-leave
-returns-clause-leave g c = λ w s kept few login stays none unread. leave_rises (g.L.Law.may_start c.args.law.now) (g.L.Law.may_say c.args.law.now) (g.L.Law.proper c.args.law.now) w (layers_of (g.L.Law.may_start c.args.law.now) (g.L.Law.may_say c.args.law.now) w kept) s login few stays none unread
+returns-clause-leave g c = λ w s kept on few login stays none unread. leave_rises (g.L.Law.may_start c.args.law.now) (g.L.Law.may_say c.args.law.now) (g.L.Law.proper c.args.law.now) w (layers_of (g.L.Law.may_start c.args.law.now) (g.L.Law.may_say c.args.law.now) w kept) s login on few stays none unread
 
 pub returns-clause-observe : goal.returns-clause-observe
 returns-clause-observe g c = λ w s pin kept few login stays unread has. observe_rises (g.L.Law.may_start c.args.law.now) (g.L.Law.may_say c.args.law.now) (g.L.Law.proper c.args.law.now) w (layers_of (g.L.Law.may_start c.args.law.now) (g.L.Law.may_say c.args.law.now) w kept) s login pin few stays unread has
@@ -27,7 +27,7 @@ pub returns-clause-reader : goal.returns-clause-reader
 returns-clause-reader g c = λ w s r. still_holding (holding_in w)
 
 pub returns-clause-draw : goal.returns-clause-draw
-returns-clause-draw g c = λ w s edit marks paths kept login stays detached none lawful. draw_rises (g.L.Law.may_start c.args.law.now) (g.L.Law.may_say c.args.law.now) (g.L.Law.proper c.args.law.now) w (layers_of (g.L.Law.may_start c.args.law.now) (g.L.Law.may_say c.args.law.now) w kept) s edit marks paths login stays detached none lawful (base_above (g.L.Law.may_start c.args.law.now) (g.L.Law.may_say c.args.law.now) (g.L.Law.proper c.args.law.now) w kept s login stays)
+returns-clause-draw g c = λ w s edit marks paths kept on login stays detached none lawful. draw_rises (g.L.Law.may_start c.args.law.now) (g.L.Law.may_say c.args.law.now) (g.L.Law.proper c.args.law.now) w (layers_of (g.L.Law.may_start c.args.law.now) (g.L.Law.may_say c.args.law.now) w kept) s edit marks paths on login stays detached none lawful (base_above (g.L.Law.may_start c.args.law.now) (g.L.Law.may_say c.args.law.now) (g.L.Law.proper c.args.law.now) w kept s on login stays)
 
 pub returns-clause-write : goal.returns-clause-write
 returns-clause-write g c = λ w s x p rest kept here uncommitted going unmet next. write_rises (g.L.Law.may_start c.args.law.now) (g.L.Law.may_say c.args.law.now) (g.L.Law.proper c.args.law.now) w (layers_of (g.L.Law.may_start c.args.law.now) (g.L.Law.may_say c.args.law.now) w kept) s x here uncommitted going p rest unmet next
@@ -60,7 +60,7 @@ pub returns-clause-out : goal.returns-clause-out
 returns-clause-out g c = λ w s r kept login of low. out_rises (g.L.Law.may_start c.args.law.now) (g.L.Law.may_say c.args.law.now) (g.L.Law.proper c.args.law.now) w (layers_of (g.L.Law.may_start c.args.law.now) (g.L.Law.may_say c.args.law.now) w kept) s login r of low
 
 pub returns-clause-learn : goal.returns-clause-learn
-returns-clause-learn g c = λ w s last sweep kept login were. learn_rises (g.L.Law.may_start c.args.law.now) (g.L.Law.may_say c.args.law.now) (g.L.Law.proper c.args.law.now) w (layers_of (g.L.Law.may_start c.args.law.now) (g.L.Law.may_say c.args.law.now) w kept) s login last sweep were
+returns-clause-learn g c = λ w s last sweep kept on login were. learn_rises (g.L.Law.may_start c.args.law.now) (g.L.Law.may_say c.args.law.now) (g.L.Law.proper c.args.law.now) w (layers_of (g.L.Law.may_start c.args.law.now) (g.L.Law.may_say c.args.law.now) w kept) s login on last sweep were
 
 pub returns-clause-swept : goal.returns-clause-swept
 returns-clause-swept g c = λ w s r kept login of low. sweep_rises (g.L.Law.may_start c.args.law.now) (g.L.Law.may_say c.args.law.now) (g.L.Law.proper c.args.law.now) w (layers_of (g.L.Law.may_start c.args.law.now) (g.L.Law.may_say c.args.law.now) w kept) s login r of low
@@ -69,13 +69,13 @@ pub returns-clause-learn_swept : goal.returns-clause-learn_swept
 returns-clause-learn_swept g c = λ w s r kept login stays of low. learn_swept_rises (g.L.Law.may_start c.args.law.now) (g.L.Law.may_say c.args.law.now) (g.L.Law.proper c.args.law.now) w (layers_of (g.L.Law.may_start c.args.law.now) (g.L.Law.may_say c.args.law.now) w kept) s login r stays of low
 
 pub returns-clause-checkpoint : goal.returns-clause-checkpoint
-returns-clause-checkpoint g c = λ w s i pin kept login stays detached has. checkpoint_rises (g.L.Law.may_start c.args.law.now) (g.L.Law.may_say c.args.law.now) (g.L.Law.proper c.args.law.now) w (layers_of (g.L.Law.may_start c.args.law.now) (g.L.Law.may_say c.args.law.now) w kept) s login i pin stays detached has
+returns-clause-checkpoint g c = λ w s i pin kept on login stays detached has. checkpoint_rises (g.L.Law.may_start c.args.law.now) (g.L.Law.may_say c.args.law.now) (g.L.Law.proper c.args.law.now) w (layers_of (g.L.Law.may_start c.args.law.now) (g.L.Law.may_say c.args.law.now) w kept) s login i pin on stays detached has
 
 pub returns-clause-release : goal.returns-clause-release
 returns-clause-release g c = λ w i kept has. release_rises (g.L.Law.may_start c.args.law.now) (g.L.Law.may_say c.args.law.now) (g.L.Law.proper c.args.law.now) w (layers_of (g.L.Law.may_start c.args.law.now) (g.L.Law.may_say c.args.law.now) w kept) i has
 
 pub returns-clause-attach : goal.returns-clause-attach
-returns-clause-attach g c = λ w s i v kept login stays detached unread has. attach_rises (g.L.Law.may_start c.args.law.now) (g.L.Law.may_say c.args.law.now) (g.L.Law.proper c.args.law.now) w (layers_of (g.L.Law.may_start c.args.law.now) (g.L.Law.may_say c.args.law.now) w kept) s login i v stays detached unread has
+returns-clause-attach g c = λ w s i v kept on login stays detached unread has. attach_rises (g.L.Law.may_start c.args.law.now) (g.L.Law.may_say c.args.law.now) (g.L.Law.proper c.args.law.now) w (layers_of (g.L.Law.may_start c.args.law.now) (g.L.Law.may_say c.args.law.now) w kept) s login i v on stays detached unread has
 
 pub returns-clause-detach : goal.returns-clause-detach
 returns-clause-detach g c = λ w s kept login stays detached reads. detach_rises (g.L.Law.may_start c.args.law.now) (g.L.Law.may_say c.args.law.now) (g.L.Law.proper c.args.law.now) w (layers_of (g.L.Law.may_start c.args.law.now) (g.L.Law.may_say c.args.law.now) w kept) s login stays detached reads

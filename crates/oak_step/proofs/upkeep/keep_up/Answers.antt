@@ -20,3 +20,6 @@ returns-in-Checkpoint-clause-made c = rw c.in-Checkpoint.is (c.checkpoint_on.ens
 
 pub returns-in-Release-clause-made : goal.returns-in-Release-clause-made
 returns-in-Release-clause-made c = rw c.in-Release.is (c.release_on.ensures.made c.args.node c.args.memory.now)
+
+pub returns-in-Observe-clause-made : goal.returns-in-Observe-clause-made
+returns-in-Observe-clause-made c = rw c.in-Observe.is (c.observe_on.ensures.made c.args.node c.args.table.now)

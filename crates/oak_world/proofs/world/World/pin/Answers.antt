@@ -24,7 +24,7 @@ returns-clause-pin g c =
 pub returns-clause-base : goal.returns-clause-base
 returns-clause-base g c = λ stays.
     ap (option_map (λ (p : Pin). p.base)) (returns-clause-pin g c)
-    ∙ pin_base (g.L.Law.may_start c.args.self.now.law) (g.L.Law.may_say c.args.self.now.law) (g.L.Law.proper c.args.self.now.law) (state_of c.args.self.now) (world_is g.L.Law.may_start g.L.Law.may_say _ c.args.self.now c.self.view_is c.self.invariant.0.0).kept.sessions c.args.actor c.requires ((world_is g.L.Law.may_start g.L.Law.may_say _ c.args.self.now c.self.view_is c.self.invariant.0.0).detached c.args.actor) stays
+    ∙ pin_base (g.L.Law.may_start c.args.self.now.law) (g.L.Law.may_say c.args.self.now.law) (g.L.Law.proper c.args.self.now.law) (state_of c.args.self.now) (world_is g.L.Law.may_start g.L.Law.may_say _ c.args.self.now c.self.view_is c.self.invariant.0.0).kept.sessions c.args.actor c.requires ((world_is g.L.Law.may_start g.L.Law.may_say _ c.args.self.now c.self.view_is c.self.invariant.0.0).detached c.args.actor) (world_is g.L.Law.may_start g.L.Law.may_say _ c.args.self.now c.self.view_is c.self.invariant.0.0).unstopped stays
 
 pub returns-clause-below : goal.returns-clause-below
 returns-clause-below g c = λ pin is.

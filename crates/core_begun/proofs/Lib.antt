@@ -1,0 +1,11 @@
+pub mod Committed
+pub mod Told
+pub mod Bases
+pub mod Runs
+pub mod Sound
+pub mod Course
+pub mod World
+pub mod Events
+pub mod Collecting
+pub mod Beginning
+pub mod Start

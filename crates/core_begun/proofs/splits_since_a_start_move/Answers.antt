@@ -1,0 +1,8 @@
+use Rattle.core_begun.proofs.Collecting.{split_writes, split_lists}
+use Rattle.core_begun.proofs.splits_since_a_start_move.Goals as goal
+
+pub returns-clause-write : goal.returns-clause-write
+returns-clause-write c = split_writes
+
+pub returns-clause-list : goal.returns-clause-list
+returns-clause-list c = split_lists

@@ -1,0 +1,13 @@
+pub mod Members
+pub mod Cuts
+pub mod Below
+pub mod Item
+pub mod Telling
+pub mod Saying
+pub mod Grouping
+pub mod First
+pub mod Walk
+pub mod Lasting
+pub mod Instants
+pub mod Steps
+pub mod Ending

@@ -1,0 +1,4 @@
+pub mod Feeding
+pub mod Resting
+pub mod Gathering
+pub mod Putting

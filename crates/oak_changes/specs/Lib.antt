@@ -1,0 +1,3 @@
+pub mod Saying
+pub mod Reading
+pub mod Resting

@@ -1,0 +1,29 @@
+-- A reader of changes over documents at rest.
+use Rattle.std.specs.Prelude.{◌≡◌, ℕ, zero, suc, List}
+use Rattle.std.specs.Map.{keys_of}
+use Rattle.std.specs.declared.alloc.Global.{Global}
+use Rattle.jr_path.specs.declared.path.DocId.{DocId}
+use Rattle.jr_rev.specs.declared.vector.Pin.{Pin}
+use Rattle.jr_rev.specs.declared.vector.RevVec.{RevVec}
+use Rattle.jr_tree.specs.declared.shared.CommitChanges.{CommitChanges}
+use Rattle.oak_doc.specs.declared.document.Document.{Document}
+use Rattle.oak_read.specs.Meaning.{documents_in}
+use Rattle.oak_read.specs.Reading.{IsTable, answer}
+use Rattle.oak_changes.specs.Saying.{changes_said}
+use Rattle.oak_changes.specs.Reading.{changes_reader, due, fed}
+use Rattle.oak_changes.specs.declared.changes.ChangesReader.{ChangesReader}
+use Rattle.oak_changes.specs.declared.changes.Step.TheVariants as step
+
+-- a reader after n replies of documents at rest, each to what is due
+abbrev pub after_replies : List (DocId × Document) → ℕ → ChangesReader → ChangesReader
+after_replies table zero r = r
+after_replies table (suc n) r = after_replies table n (fed r (answer table (due r)))
+
+-- after some replies of documents at rest the reader gives this
+abbrev pub EndsIn : List (DocId × Document) → ChangesReader → List CommitChanges → Type 0
+EndsIn table r o = (n : ℕ) × ((after_replies table n r).step ≡ step.Done o)
+
+-- a reader ends in what the documents say of the commits that its pin's base sees and the vector doesn't
+abbrev pub ReadsChanges : Type 0
+ReadsChanges = (table : List (DocId × Document)) (a : Global) (from : RevVec) (pin : Pin) → IsTable table
+    → EndsIn table (changes_reader a from pin) (changes_said (documents_in table) pin.sweep from pin.base (keys_of table))

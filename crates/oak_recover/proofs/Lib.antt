@@ -1,0 +1,4 @@
+pub mod Feeding
+pub mod Asking
+pub mod Greatest
+pub mod Ending

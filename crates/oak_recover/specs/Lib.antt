@@ -1,0 +1,4 @@
+pub mod Dead
+pub mod Ending
+pub mod Reading
+pub mod Recovering
