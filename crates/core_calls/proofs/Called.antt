@@ -33,9 +33,17 @@ use Rattle.core_calls.specs.Events.{is_attach_of, is_calling, state_at_login}
 own : {A : Type 0} (s : ℕ) (x y : A) → cond (s == s) x y ≡ x
 own s x y = ap (λ (b : Bool). cond b x y) (number_itself s)
 
-or_neither : (a b : Bool) → a ≡ false → b ≡ false → (a || b) ≡ false
+pub or_neither : (a b : Bool) → a ≡ false → b ≡ false → (a || b) ≡ false
 or_neither true b h k = h
 or_neither false b h k = k
+
+-- events that don't call s leave its base as it was
+pub base_same : (added past : Past) (s : ℕ) → list_any (is_calling s) added ≡ false → base_of (added ++ past) s ≡ base_of past s
+base_same [] past s h = refl
+base_same (event.Login t v ∷ added) past s h = let n = neither (t == s) _ h in other (t == s) _ _ _ n.0 (base_same added past s n.1)
+base_same (event.Refresh t v ∷ added) past s h = let n = neither (t == s) _ h in other (t == s) _ _ _ n.0 (base_same added past s n.1)
+base_same (event.Attach t id ∷ added) past s h = let n = neither (t == s) _ h in other (t == s) _ _ _ n.0 (base_same added past s n.1)
+base_same (e ∷ added) past s h = base_same added past s (neither (is_calling s e) _ h).1
 
 module _ (law : JcrLaw) (begin : Begin) where
   -- ---- a call is made at the base
@@ -83,13 +91,6 @@ module _ (law : JcrLaw) (begin : Begin) where
       ∙ ap (λ (x : Call). Some (call_after ok drew x m)) b.2)))
 
   -- ---- other events
-
-  pub base_same : (added past : Past) (s : ℕ) → list_any (is_calling s) added ≡ false → base_of (added ++ past) s ≡ base_of past s
-  base_same [] past s h = refl
-  base_same (event.Login t v ∷ added) past s h = let n = neither (t == s) _ h in other (t == s) _ _ _ n.0 (base_same added past s n.1)
-  base_same (event.Refresh t v ∷ added) past s h = let n = neither (t == s) _ h in other (t == s) _ _ _ n.0 (base_same added past s n.1)
-  base_same (event.Attach t id ∷ added) past s h = let n = neither (t == s) _ h in other (t == s) _ _ _ n.0 (base_same added past s n.1)
-  base_same (e ∷ added) past s h = base_same added past s (neither (is_calling s e) _ h).1
 
   pub state_same : (added past : Past) (s : ℕ) → list_any (is_calling s) added ≡ false → state_of law begin (added ++ past) s ≡ state_of law begin past s
   state_same [] past s h = refl

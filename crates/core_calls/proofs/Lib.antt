@@ -3,3 +3,4 @@ pub mod Alone
 pub mod Beginning
 pub mod Called
 pub mod Draws
+pub mod Unmoved

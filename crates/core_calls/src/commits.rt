@@ -8,15 +8,17 @@ ghost use Rattle.oak_machine.specs.declared.event.Draw.{Draw};
 ghost use Rattle.oak_machine.specs.Commits.{draw_of, is_committed, tree_at};
 ghost use Rattle.oak_machine.specs.History.{History, Past};
 ghost use Rattle.oak_machine.specs.Laws.{after};
-ghost use Rattle.oak_machine.specs.Sessions.{drawn_since};
+ghost use Rattle.oak_machine.specs.Runs.{IsRun};
+ghost use Rattle.oak_machine.specs.Sessions.{base_of, drawn_since};
 ghost use Rattle.core_heads.specs.Sound.{IsNodesRun};
 ghost use Rattle.jcr_law.specs.declared.law.JcrLaw.{JcrLaw};
 ghost use Rattle.jcr_law.specs.Lasting.{says_of, starts_of};
-ghost use Rattle.jcr_law.specs.Since.{draw_since};
+ghost use Rattle.jcr_law.specs.Since.{before_turn, draw_since};
 ghost use Rattle.jr_rev.specs.Alone.{IsNextAlone};
 
 /// What a session drew for the command that it has not answered yet is a draw of that session, the
-/// one of its revision; and the tree at its base stays as it is.
+/// one of its revision; it was drawn at the base at which the command began, and the tree there
+/// stays as it is.
 pub fn draws_are_known()
     ensures revision { (past : Past) (s : ℕ)
         → drawn_since past s ≡ option_map (λ d. d.revision) (draw_since past s) }
@@ -26,6 +28,9 @@ pub fn draws_are_known()
     ensures known { (law : JcrLaw) (h : History) (s : ℕ) (d : Draw)
         → IsNodesRun (starts_of law) (says_of law) h → draw_since h.past s ≡ Some d
         → draw_of h.past d.revision ≡ Some d }
+    ensures begun { (law : JcrLaw) (h : History) (s : ℕ) (d : Draw)
+        → IsRun (starts_of law) (says_of law) h → draw_since h.past s ≡ Some d
+        → base_of (before_turn h.past s) s ≡ Some d.base }
     ensures tree { (law : JcrLaw) (h : History) (added : Past) (s : ℕ) (d : Draw)
         → IsNodesRun (starts_of law) (says_of law) (after added h) → draw_since h.past s ≡ Some d
         → tree_at h.begin (added ++ h.past) d.base ≡ tree_at h.begin h.past d.base }

@@ -14,4 +14,7 @@ pub use calls::{
 };
 pub use commits::{draws_are_known, own_commit_alone, set_entries_are_alone};
 pub use replies::replies_begin_with_ok;
-pub use turns::{commands_begin_behind_replies, commands_tell_what_came, sessions_stay_unattached};
+pub use turns::{
+    bases_stand_until_they_move, commands_begin_behind_replies, commands_tell_what_came,
+    sessions_stay_unattached,
+};

@@ -1,5 +1,5 @@
 // When the command begins that a session has not answered yet.
-ghost use Rattle.std.specs.Prelude.{◌≡◌, ℕ, ◌+◌, List, [], ◌∷◌, ◌++◌, false, Some, IsFalse};
+ghost use Rattle.std.specs.Prelude.{◌≡◌, ℕ, ◌+◌, List, [], ◌∷◌, ◌++◌, false, None, Some, IsFalse, IsTrue};
 ghost use Rattle.std.specs.List.{list_any};
 ghost use Rattle.jr_rev.specs.declared.vector.RevVec.{RevVec};
 ghost use Rattle.oak_machine.specs.declared.event.Draw.{Draw};
@@ -7,11 +7,15 @@ ghost use Rattle.oak_machine.specs.declared.event.Event.{Event};
 ghost use Rattle.oak_machine.specs.declared.event.Event.TheVariants as event;
 ghost use Rattle.oak_machine.specs.History.{History, Past};
 ghost use Rattle.oak_machine.specs.Laws.{AreOthers};
-ghost use Rattle.oak_machine.specs.Sessions.{next_index, refreshed_since, since};
+ghost use Rattle.oak_machine.specs.Sessions.{base_of, next_index, refreshed_since, since};
+ghost use Rattle.core_heads.specs.Sound.{IsNodesRun};
 ghost use Rattle.jcr_trans.specs.declared.command.Command.{Command};
 ghost use Rattle.jcr_law.specs.Built.{asked};
+ghost use Rattle.jcr_law.specs.declared.law.JcrLaw.{JcrLaw};
+ghost use Rattle.jcr_law.specs.Lasting.{says_of, starts_of};
 ghost use Rattle.jcr_law.specs.Law.{asked_by};
-ghost use Rattle.jcr_law.specs.Since.{before_turn, draw_since, is_beginning};
+ghost use Rattle.jcr_law.specs.Since.{before_turn, detached_among, draw_since, is_beginning, is_move_of, is_unmoved};
+ghost use Rattle.jcr_law.specs.State.{call_of};
 ghost use Rattle.core_calls.specs.Events.{IsUnattached, is_attach_of};
 
 /// The command that a session has not answered yet began with its last reply, or with its login; no
@@ -26,7 +30,8 @@ pub fn commands_begin_behind_replies()
 {}
 
 /// Behind a reply or a login nothing came for the next command yet, and a reply counts it on; a
-/// draw and a refresh of the session are told from then on.
+/// draw and a refresh of the session are told from then on. The base hasn't moved behind a reply or
+/// a login, has behind a refresh of the session, and else as before; so events of others leave it.
 pub fn commands_tell_what_came()
     ensures reply { (past : Past) (s i : ℕ) (text : List ℕ)
         → since (event.Said s i text ∷ past) s ≡ [] }
@@ -36,6 +41,33 @@ pub fn commands_tell_what_came()
     ensures draw { (past : Past) (d : Draw) → draw_since (event.Draw d ∷ past) d.session ≡ Some d }
     ensures refresh { (past : Past) (s : ℕ) (v : RevVec)
         → refreshed_since (event.Refresh s v ∷ past) s ≡ Some v }
+    ensures unmoved_reply { (past : Past) (s i : ℕ) (text : List ℕ)
+        → IsTrue (is_unmoved (event.Said s i text ∷ past) s) }
+    ensures unmoved_login { (past : Past) (s : ℕ) (v : RevVec)
+        → IsTrue (is_unmoved (event.Login s v ∷ past) s) }
+    ensures moved { (past : Past) (s : ℕ) (v : RevVec)
+        → IsFalse (is_unmoved (event.Refresh s v ∷ past) s) }
+    ensures other { (e : Event) (past : Past) (s : ℕ) → IsFalse (is_move_of s e)
+        → IsFalse (is_beginning s e) → is_unmoved (e ∷ past) s ≡ is_unmoved past s }
+    ensures still { (added past : Past) (s : ℕ) → IsFalse (list_any (is_move_of s) added)
+        → IsTrue (is_unmoved past s) → IsTrue (is_unmoved (added ++ past) s) }
+    ensures others { (added past : Past) (s : ℕ) → AreOthers s added past
+        → is_unmoved (added ++ past) s ≡ is_unmoved past s }
+{}
+
+/// Where the base of a session hasn't moved since its command began, it stands where it stood then,
+/// and the command is run with what it would have been run with then: on the same tree, with the
+/// same pending (JSR 283, 10.11 Saving). No refresh of the session came, nor a detaching.
+pub fn bases_stand_until_they_move()
+    ensures base { (past : Past) (s : ℕ) → IsTrue (is_unmoved past s)
+        → base_of past s ≡ base_of (before_turn past s) s }
+    ensures call { (law : JcrLaw) (h : History) (s : ℕ)
+        → IsNodesRun (starts_of law) (says_of law) h → IsTrue (is_unmoved h.past s)
+        → call_of law h.begin h.past s ≡ call_of law h.begin (before_turn h.past s) s }
+    ensures unrefreshed { (past : Past) (s : ℕ) → IsTrue (is_unmoved past s)
+        → refreshed_since past s ≡ None }
+    ensures undetached { (past : Past) (s : ℕ) → IsTrue (is_unmoved past s)
+        → detached_among (since past s) s ≡ None }
 {}
 
 /// A session begins unattached, and stays so where it attaches to no checkpoint; then its command

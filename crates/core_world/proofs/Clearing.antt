@@ -1,5 +1,5 @@
 -- A recovery undoes what is dead in a document.
-use Rattle.std.proofs.Common.{◌≡◌, ℕ, true, false, cond, not, Option, Some, None, [], ◌∷◌, refl, ap}
+use Rattle.std.proofs.Common.{◌≡◌, ℕ, Bool, true, false, cond, not, Option, Some, None, [], ◌∷◌, refl, ap}
 use Rattle.std.specs.Option.{option_map_or}
 use Rattle.jr_path.specs.declared.path.Path.{Path}
 use Rattle.jr_path.specs.declared.path.DocId.TheVariants as id
@@ -10,28 +10,31 @@ use Rattle.oak_machine.specs.declared.event.Draw.{Draw}
 use Rattle.oak_machine.specs.declared.event.Event.{Event}
 use Rattle.oak_machine.specs.declared.event.Event.TheVariants as event
 use Rattle.oak_machine.specs.declared.event.StepKind.TheVariants as kind
-use Rattle.oak_store.specs.Tables.{after_undo}
+use Rattle.oak_store.specs.Tables.{Table, after_undo}
 use Rattle.core_keep.specs.Holding.{IsHoldingStep}
 use Rattle.core_clash.specs.Core.{IsDead}
 use Rattle.core_nodes.specs.Nodes.{is_of_node}
 use Rattle.core_nodes.proofs.Pins.{leaves_both}
 use Rattle.core_world.specs.Held.{holding_in}
-use Rattle.core_world.specs.Kept.{AreLayersKept, AreSessionsKept, IsKept, IsPinned}
+use Rattle.core_world.specs.Kept.{AreCommitting, AreLayersKept, AreSessionsKept, IsKept, IsPinned}
 use Rattle.core_world.specs.States.{State, memory_at}
 use Rattle.core_world.specs.Steps.{after_clear}
+use Rattle.core_world.proofs.Again.{IsAgain, again_commits, again_lets}
 use Rattle.core_world.proofs.Flights.{work_quiet}
 use Rattle.core_world.proofs.Held.{holding, memory_still, same_kept}
+use Rattle.core_world.proofs.Letting.{LetsRead}
 use Rattle.core_world.proofs.Lives.{reader_held, told}
 use Rattle.core_world.proofs.Memories.{aside}
 use Rattle.core_world.proofs.Readers.{event_reads}
 use Rattle.core_world.proofs.Roots.{root_quiet, undo_root}
 use Rattle.core_world.proofs.Seated.{quiet_pinned}
 use Rattle.core_world.proofs.Setting.{settings_quiet, undo_apart}
+use Rattle.core_world.proofs.Truths.{leaves_nothing}
 use Rattle.core_world.proofs.Undoing.{clear_commits, clear_lets}
 use Rattle.core_world.proofs.Whole.{goes, layers_of}
 
 module _ (starts : Starts) (says : Says) (proper : StartsProper starts) (w : State) (s : ℕ) (login : has_login w.past s ≡ true) (stays : has_left w.past s ≡ false)
-    (d : Draw) (dead : IsDead w.past d) (unended : is_ended w.past d.revision ≡ false) (p : Path) where
+    (d : Draw) (dead : IsDead w.past d) (p : Path) where
   abbrev e : Event
   e = event.Went s kind.Undo
 
@@ -39,15 +42,34 @@ module _ (starts : Starts) (says : Says) (proper : StartsProper starts) (w : Sta
   u = after_clear w s p d.revision
 
   module _ (kept : AreSessionsKept starts says w) where
+    abbrev then : Table
+    then = after_undo w.table (id.Node p) d.revision
+
+    again : is_ended w.past d.revision ≡ true → IsAgain w d p
+    again ended = record {
+      dead = dead;
+      ended = ended;
+      free = leaves_nothing starts says proper w kept d.revision ended dead.uncommitted p;
+    }
+
+    -- whether it is in flight still, or has ended already and the document has nothing of it
+    commits : (b : Bool) → is_ended w.past d.revision ≡ b → AreCommitting (e ∷ w.past) then w.running
+    commits false open_ = clear_commits w.past w.table w.running kept.committing (told starts says proper w kept) d dead open_ p s
+    commits true ended = again_commits w kept.committing d p (again ended) s
+
+    lets : (b : Bool) → is_ended w.past d.revision ≡ b → LetsRead w.table then w.past (e ∷ w.past)
+    lets false open_ = clear_lets w.past w.table w.running kept.committing (told starts says proper w kept) d dead open_ p s
+    lets true ended = again_lets w kept.committing d p (again ended) s
+
     pub clear_sessions : AreSessionsKept starts says (after_clear w s p d.revision)
     clear_sessions = record {
       nodes = kept.nodes;
       run = ((login, stays), kept.run);
-      committing = clear_commits w.past w.table w.running kept.committing (told starts says proper w kept) d dead unended p s;
+      committing = commits (is_ended w.past d.revision) refl;
       working = work_quiet w.sessions w.past w.running w.reading kept.working e refl (λ q. refl) (λ k. refl);
       memories = aside starts says w.clusters w.sessions kept.nodes w.past w.memories kept.memories e ((login, stays), kept.run) (λ j. refl) (λ j. leaves_both w.sessions j e refl refl);
       readers = event_reads w.past w.table w.formers w.reading kept.readers (reader_held starts says proper w kept) e (after_undo w.table (id.Node p) d.revision)
-          (clear_lets w.past w.table w.running kept.committing (told starts says proper w kept) d dead unended p s) (λ q r h. refl);
+          (lets (is_ended w.past d.revision) refl) (λ q r h. refl);
     }
 
   module _ (kept : AreLayersKept starts says w) where
@@ -66,7 +88,7 @@ module _ (starts : Starts) (says : Says) (proper : StartsProper starts) (w : Sta
     pub clear_pinned : IsPinned w → IsPinned (after_clear w s p d.revision)
     clear_pinned pinned = quiet_pinned starts says proper w kept pinned u refl refl refl (λ q. refl) (undo_apart w.table p d.revision)
 
-  -- what is dead and still in flight is undone
+  -- what is dead is undone, also where it has ended
   pub clear_whole : IsKept starts says w → IsKept starts says (after_clear w s p d.revision)
   clear_whole kept =
       let layers = layers_of starts says w kept in

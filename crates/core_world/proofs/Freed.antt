@@ -1,7 +1,8 @@
 -- What has nothing of a revision gets nothing of it by others' updates and undoings.
 use Rattle.std.proofs.Common.{◌≡◌, ◌⊎◌, inl, inr, ℕ, Bool, true, false, cond, not, ◌&&◌, Some, None, Option, List, [], ◌∷◌, fold, is_some, is_none, refl, sym, ap, subst, ◌∙◌}
 use Rattle.std.specs.Prelude.{Err, Ok}
-use Rattle.std.specs.List.{list_all}
+use Rattle.std.specs.List.{filter_map, list_all}
+use Rattle.std.specs.Option.{option_map_or}
 use Rattle.std.specs.Ordering.{eq_by_cmp}
 use mathlib.Core.Bool.{false≢true}
 use Rattle.jr_path.proofs.Orders.{id_exact, id_total, tested}
@@ -16,18 +17,20 @@ use Rattle.oak_clash.specs.declared.mark.Mark.TheVariants as mark
 use Rattle.oak_clash.specs.declared.mark.MarkAt.{MarkAt}
 use Rattle.jr_tree.specs.declared.edit.Write.{Write}
 use Rattle.oak_commit.specs.Writing.{write_op}
-use Rattle.oak_commit.specs.Clashing.{has_mark, marked, undo_op}
+use Rattle.oak_commit.specs.Clashing.{Writer, has_mark, marked, undo_op}
 use Rattle.oak_doc.specs.declared.document.Document.{Document}
 use Rattle.oak_doc.specs.declared.update.Change.{Change}
 use Rattle.oak_doc.specs.declared.update.Change.TheVariants as change
 use Rattle.oak_doc.specs.declared.update.OpFault.{OpFault}
 use Rattle.oak_doc.specs.declared.update.OpFault.TheVariants as fault
 use Rattle.oak_doc.specs.declared.update.UpdateOp.{UpdateOp}
-use Rattle.oak_doc.specs.Updates.{after_changes, changed, document_of, is_met, of_revision, refusal, updated}
+use Rattle.oak_doc.specs.Updates.{after_changes, changed, document_of, is_met, of_revision, refusal, undone, updated}
+use Rattle.oak_machine.specs.History.{Past}
 use Rattle.oak_read.specs.Meaning.{documents_in}
 use Rattle.oak_store.specs.Tables.{Table, after_undo, found, next_number, with_document}
 use Rattle.core_read.specs.Holds.{root_entry}
 use Rattle.core_clash.specs.Core.{Docs, docs_after}
+use Rattle.core_clash.specs.Sound.{Sound}
 use Rattle.core_clash.specs.Views.{AreOrdered}
 use Rattle.core_clash.proofs.Basics.{not_both, other_revision}
 use Rattle.core_clash.proofs.Documents.{AreEntries, IsEntry, Leaves, leaves_all, write_entries}
@@ -35,11 +38,11 @@ use Rattle.core_clash.proofs.Effects.{Undoes}
 use Rattle.core_clash.proofs.Undoing.{undoes}
 use Rattle.core_clash.proofs.Updates.{empty_marks}
 use Rattle.core_world.specs.Freed.{HasNothing, brings_nothing}
-use Rattle.core_world.specs.States.{nodes_in}
+use Rattle.core_world.specs.States.{core_in, moved_in, nodes_in}
 use Rattle.core_world.specs.Steps.{after_update, with_result}
-use Rattle.core_world.proofs.Tables.{put_is, undo_node, undo_none}
+use Rattle.core_world.proofs.Tables.{moved_stays, put_is, undo_main, undo_node, undo_none}
 
-false_where : (b : Bool) → (b ≡ true → ⊥) → b ≡ false
+pub false_where : (b : Bool) → (b ≡ true → ⊥) → b ≡ false
 false_where true h = absurd (h refl)
 false_where false h = refl
 
@@ -208,14 +211,32 @@ module _ (t : Table) (ordered : (q : Path) → AreOrdered q (nodes_in t q)) (q :
   abbrev after : Docs
   after = docs_after (nodes_in t) q (updated (nodes_in t q) (undo_op o q) (next_number t))
 
-  nodes_now : nodes_in (after_undo t (id.Node q) o) ≡ after
+  pub nodes_now : nodes_in (after_undo t (id.Node q) o) ≡ after
   nodes_now = by (nodes_in t q) refl
     where
       by : (x : Option Document) → nodes_in t q ≡ x → nodes_in (after_undo t (id.Node q) o) ≡ docs_after (nodes_in t) q (updated x (undo_op o q) (next_number t))
       by None is = ap (λ (es : List (DocId × Document)). λ (p : Path). documents_in es (id.Node p)) (undo_none t q o is)
       by (Some d) is = undo_node t q o d is
 
-  effect : Undoes (nodes_in t) after q o
+  -- what documents list stays
+  moved_now : moved_in (after_undo t (id.Node q) o) ≡ moved_in t
+  moved_now = by (nodes_in t q) refl
+    where
+      by : (x : Option Document) → nodes_in t q ≡ x → moved_in (after_undo t (id.Node q) o) ≡ moved_in t
+      by None is = ap (λ (es : List (DocId × Document)). λ (p : Path). option_map_or (λ d. filter_map (λ e. documents_in es (id.Prev e.number p)) d.prev) (documents_in es (id.Node p)) [])
+          (undo_none t q o is)
+      by (Some d) is = moved_stays t (after_undo t (id.Node q) o) q (undone d o (next_number t)) (undo_main t q o d is)
+          (sym (ap (λ (x : Option Document). option_map_or (λ d. d.prev) x []) is))
+
+  -- the core of the table then
+  pub sound_undone : (past : Past) (writers : Revision → Writer)
+      → Sound (record { number = next_number t; docs = docs_after (nodes_in t) q (updated (nodes_in t q) (undo_op o q) (next_number t)); moved = moved_in t; past = past; writers = writers })
+      → Sound (core_in past (after_undo t (id.Node q) o) writers)
+  sound_undone past writers sound =
+      subst (λ (docs : Docs). Sound (record { number = next_number t; docs = docs; moved = moved_in (after_undo t (id.Node q) o); past = past; writers = writers })) (sym nodes_now)
+      (subst (λ (moved : Path → List Document). Sound (record { number = next_number t; docs = after; moved = moved; past = past; writers = writers })) (sym moved_now) sound)
+
+  pub effect : Undoes (nodes_in t) (docs_after (nodes_in t) q (updated (nodes_in t q) (undo_op o q) (next_number t))) q o
   effect = undoes (nodes_in t) q o (next_number t) (ordered q)
 
   pub undo_brings : (p : Path) (r : Revision) → HasNothing (nodes_in t p) r → HasNothing (nodes_in (after_undo t (id.Node q) o) p) r

@@ -46,11 +46,13 @@ pub mod Splitting
 pub mod Seated
 pub mod Whole
 pub mod Stopping
+pub mod Again
 pub mod Clearing
 pub mod Recovered
 pub mod Publishing
 pub mod Dropping
 pub mod Freed
+pub mod Cleared
 pub mod Deciding
 pub mod Collected
 pub mod Unsplit

@@ -12,7 +12,7 @@ use Rattle.jr_tree.specs.declared.edit.Write.{Write}
 use Rattle.oak_clash.specs.Clashes.{commit_root}
 use Rattle.oak_commit.specs.Clashing.{Writer, undo_op}
 use Rattle.oak_doc.specs.declared.document.Document.{Document}
-use Rattle.oak_doc.specs.Updates.{updated, undone}
+use Rattle.oak_doc.specs.Updates.{undone}
 use Rattle.oak_machine.specs.Sessions.{is_stopped}
 use Rattle.oak_machine.specs.declared.event.Draw.{Draw}
 use Rattle.oak_machine.specs.declared.event.Event.TheVariants as event
@@ -22,9 +22,8 @@ use Rattle.oak_machine.specs.Commits.{draw_of, is_ended, is_in_flight}
 use Rattle.oak_read.specs.Meaning.{Documents, documents_in}
 use Rattle.oak_store.specs.Tables.{Table, after_undo, next_number}
 use Rattle.core_read.specs.Committing.{IsPartly, IsUnwritten}
-use Rattle.core_read.specs.Holds.{IsSameBut, edit_of}
+use Rattle.core_read.specs.Holds.{edit_of}
 use Rattle.core_read.specs.Told.{IsTold}
-use Rattle.core_read.proofs.Updates.{undo_same}
 use Rattle.core_keep.specs.Journal.{course_of, with_progress, IsKeptWorld}
 use Rattle.core_keep.proofs.Events.{kept_idle}
 use Rattle.core_keep.proofs.World.{kept_undo_op}
@@ -33,25 +32,21 @@ use Rattle.core_watch.specs.Reading.{IsReading}
 use Rattle.core_watch.proofs.GoingOn.{on_undo}
 use Rattle.core_watch.proofs.StayingOn.{formers_undo}
 use Rattle.core_world.proofs.Letting.{LetsRead, lets_event, lets_on, lets_then}
-use Rattle.std.specs.List.{filter_map}
-use Rattle.std.specs.Option.{option_map_or}
-use Rattle.core_clash.specs.Core.{Docs, IsDead, MayUndo, cleared, docs_after, with_writer, without_path}
+use Rattle.core_clash.specs.Core.{IsDead, MayUndo, cleared, with_writer, without_path}
 use Rattle.core_clash.specs.Sessions.{IsTheirs, Running}
-use Rattle.core_clash.specs.Sound.{Sound}
 use Rattle.core_clash.specs.Views.{AreOrdered, In, Once}
 use Rattle.core_clash.proofs.Basics.{In-left, decide, same_path, writer_other}
-use Rattle.core_clash.proofs.Effects.{Undoes}
 use Rattle.core_clash.proofs.Finished.{event_keeps}
 use Rattle.core_clash.proofs.Pasts.{in_flight}
 use Rattle.core_read.proofs.Told.{no_edit}
-use Rattle.core_clash.proofs.Undoing.{undoes}
 use Rattle.core_clash.proofs.Undone.{clear_keeps, undo_keeps}
-use Rattle.core_world.specs.States.{core_in, moved_in, nodes_in, with_session}
+use Rattle.core_world.specs.States.{core_in, nodes_in, with_session}
 use Rattle.core_world.specs.Steps.{paths_to_write}
 use Rattle.core_world.specs.Kept.{AreCommitting}
 use Rattle.core_world.proofs.Committers.{at_session, theirs_step}
 use Rattle.core_world.proofs.Progress.{among_less, is_among, progress_with}
-use Rattle.core_world.proofs.Tables.{moved_stays, undo_main, undo_node, undo_none}
+use Rattle.core_world.proofs.Freed.{effect, sound_undone}
+use Rattle.core_world.proofs.Tables.{undo_main, undo_none}
 use Rattle.core_world.proofs.Working.{flies, mine, pending, world_by, world_of}
 
 once_first : (p : Path) (rest left : List Path) → Once ((p ∷ rest) ++ left) → In p rest → ⊥
@@ -84,41 +79,9 @@ module _ (past : Past) (t : Table) (running : ℕ → Option Running) (a : AreCo
   abbrev now : Table
   now = after_undo t (id.Node p) d.revision
 
-  abbrev docs_now : Docs
-  docs_now = docs_after (nodes_in t) p (updated (nodes_in t p) (undo_op r p) n)
-
-  nodes_now : nodes_in now ≡ docs_now
-  nodes_now = by (nodes_in t p) refl
-    where
-      by : (o : Option Document) → nodes_in t p ≡ o → nodes_in now ≡ docs_after (nodes_in t) p (updated o (undo_op r p) n)
-      by None is = ap (λ (es : List (DocId × Document)). λ (q : Path). documents_in es (id.Node q)) (undo_none t p r is)
-      by (Some f) is = undo_node t p r f is
-
   -- the document is in order, where it is there
   sorted_at : (f : Document) → nodes_in t p ≡ Some f → AreOrdered p (Some f)
   sorted_at f is = subst (λ (o : Option Document). AreOrdered p o) is (a.sound.ordered p)
-
-  same_but : (f : Document) → nodes_in t p ≡ Some f → IsSameBut r p (nodes_in t p) (undone f r n)
-  same_but f is =
-      let o = sorted_at f is in
-      let same = undo_same r p f o.0 o.1 in
-      subst (λ (before : Option Document). IsSameBut r p before (undone f r n)) (sym is) (record { at = λ q k. record { here = (same.at q k).here; prop = (same.at q k).prop; root = (same.at q k).root }; said = same.said; whole = same.whole; named = same.named })
-
-  -- what documents list stays
-  moved_now : moved_in now ≡ moved_in t
-  moved_now = by (nodes_in t p) refl
-    where
-      by : (o : Option Document) → nodes_in t p ≡ o → moved_in now ≡ moved_in t
-      by None is = ap (λ (es : List (DocId × Document)). λ (q : Path). option_map_or (λ d. filter_map (λ e. documents_in es (id.Prev e.number q)) d.prev) (documents_in es (id.Node q)) []) (undo_none t p r is)
-      by (Some f) is = moved_stays t now p (undone f r n) (undo_main t p r f is) (same_but f is).whole
-
-  -- the core of the table then
-  pub sound_now : (later : Past) (writers : Revision → Writer) → Sound (record { number = n; docs = docs_now; moved = moved_in t; past = later; writers = writers }) → Sound (core_in later now writers)
-  sound_now later writers sound = subst (λ (docs : Docs). Sound (record { number = n; docs = docs; moved = moved_in now; past = later; writers = writers })) (sym nodes_now)
-      (subst (λ (moved : Path → List Document). Sound (record { number = n; docs = docs_now; moved = moved; past = later; writers = writers })) (sym moved_now) sound)
-
-  pub undoes_now : Undoes (nodes_in t) docs_now p r
-  undoes_now = undoes (nodes_in t) p r n (a.sound.ordered p)
 
   abbrev pub less_at : Path → Bool
   less_at q = not (eq_by_cmp path_cmp q p) && is_among (a.writers r).written q
@@ -198,7 +161,8 @@ module _ (past : Past) (t : Table) (running : ℕ → Option Running) (a : AreCo
   pub undo_commits : AreCommitting later left_table (with_session running s (Some (record { draw = x.draw; writer = less_done x.writer; committed = x.committed })))
   undo_commits = record {
     writers = with_writer a.writers o (less_done (a.writers o));
-    sound = sound_now past t running a told x.draw its.draw in_air open_draw p later _ (undo_keeps (core_in past t a.writers) x.draw p rest (next_number t) _ a.sound may (undoes_now past t running a told x.draw its.draw in_air open_draw p));
+    sound = sound_undone t a.sound.ordered p x.draw.revision later _
+        (undo_keeps (core_in past t a.writers) x.draw p rest (next_number t) _ a.sound may (effect t a.sound.ordered p x.draw.revision));
     theirs = theirs_step past a.writers running a.theirs s x here (less_done (a.writers o)) (less_done x.writer) (ap less_done its.writer) x.committed later (λ q. refl) (λ q. refl) (λ q k. refl) its.committed;
     listed = at_session (λ q (y : Running). y.writer.paths ≡ paths_to_write y.draw.marks) running s _ (a.listed s x here) (λ q y f h. a.listed q y h);
     kept = world_by (documents_in left_table.documents) later _ (λ q. is_among (with_writer a.writers o (less_done (a.writers o)) q).written) (progress_with a.writers o (less_done (a.writers o)) _ shrinks) (world_undone past t running a told x.draw its.draw in_air open_draw p x.draw.session);
@@ -232,6 +196,15 @@ among_without p (x ∷ ps) q = by (eq_by_cmp path_cmp x p) refl (eq_by_cmp path_
     by false e true f more = ap (λ b. not b && true) (ap (λ (y : Path). eq_by_cmp path_cmp y p) (same_path q x f) ∙ e) ∙ sym (ap (λ b. b || is_among (without_path p ps) q) f)
     by false e false f more = more ∙ sym (ap (λ b. b || is_among (without_path p ps) q) f)
 
+-- no committer at work is that of a stopped node
+module _ (past : Past) (t : Table) (running : ℕ → Option Running) (a : AreCommitting past t running) (d : Draw) (dead : IsDead past d) where
+  pub not_dead : (q : ℕ) (y : Running) → running q ≡ Some y → is_same y.draw.revision d.revision ≡ false
+  not_dead q y h = by (decide y.draw.revision d.revision)
+    where
+      by : (y.draw.revision ≡ d.revision) ⊎ (is_same y.draw.revision d.revision ≡ false) → is_same y.draw.revision d.revision ≡ false
+      by (inl e) = absurd (false≢true (sym (a.unstopped q y h) ∙ (ap (λ (r : Revision). is_stopped past r.cluster) e ∙ dead.stopped)))
+      by (inr f) = f
+
 module _ (past : Past) (t : Table) (running : ℕ → Option Running) (a : AreCommitting past t running) (told : IsTold past) (d : Draw) (dead : IsDead past d) (unended : is_ended past d.revision ≡ false) (p : Path) (s : ℕ) where
   abbrev v : Revision
   v = d.revision
@@ -251,22 +224,15 @@ module _ (past : Past) (t : Table) (running : ℕ → Option Running) (a : AreCo
   abbrev clear_writers : Revision → Writer
   clear_writers = with_writer a.writers v (cleared (a.writers v) p)
 
-  -- no committer at work is that of a stopped node
-  not_theirs : (q : ℕ) (y : Running) → running q ≡ Some y → is_same y.draw.revision v ≡ false
-  not_theirs q y h = by (decide y.draw.revision v)
-    where
-      by : (y.draw.revision ≡ v) ⊎ (is_same y.draw.revision v ≡ false) → is_same y.draw.revision v ≡ false
-      by (inl e) = absurd (false≢true (sym (a.unstopped q y h) ∙ (ap (λ (r : Revision). is_stopped past r.cluster) e ∙ dead.stopped)))
-      by (inr f) = f
-
   pub clear_commits : AreCommitting clear_past clear_table running
   clear_commits = record {
     writers = clear_writers;
-    sound = sound_now past t running a told d dead.draw flew never_said p clear_past clear_writers
-        (event_keeps _ (event.Went s kind.Undo) refl (clear_keeps (core_in past t a.writers) d a.sound dead p (next_number t) _ (undoes_now past t running a told d dead.draw flew never_said p)));
+    sound = sound_undone t a.sound.ordered p d.revision clear_past clear_writers
+        (event_keeps _ (event.Went s kind.Undo) refl
+        (clear_keeps (core_in past t a.writers) d a.sound dead p (next_number t) _ (effect t a.sound.ordered p d.revision)));
     theirs = λ q y h.
         let theirs = a.theirs q y h in
-        record { session = theirs.session; draw = theirs.draw; unended = theirs.unended; committed = theirs.committed; writer = writer_other a.writers v (cleared (a.writers v) p) y.draw.revision (not_theirs q y h) ∙ theirs.writer };
+        record { session = theirs.session; draw = theirs.draw; unended = theirs.unended; committed = theirs.committed; writer = writer_other a.writers v (cleared (a.writers v) p) y.draw.revision (not_dead past t running a d dead q y h) ∙ theirs.writer };
     listed = a.listed;
     kept = world_by (documents_in clear_table.documents) clear_past _ (λ q. is_among (clear_writers q).written) (progress_with a.writers v (cleared (a.writers v) p) _ (among_without p (a.writers v).written)) (world_undone past t running a told d dead.draw flew never_said p s);
     unstopped = a.unstopped;

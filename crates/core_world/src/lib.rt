@@ -223,7 +223,8 @@ pub fn what_is_held_rises<L: Law>(law: &L)
 {}
 
 /// Cluster nodes may be stopped between any two steps of their sessions, and recovered by others. The world is kept by a stop; by
-/// an undoing of what is dead in a document, whoever does it; by the end of all that a stopped node's memory has in flight,
+/// an undoing of what is dead in a document, whoever does it, and also where it has ended already, as by the slower of two
+/// recoveries; by the end of all that a stopped node's memory has in flight,
 /// once no document has anything of what isn't committed; by the update that tells the root what is published and swept; and by
 /// that by which the settings drop the readers of sessions of stopped nodes.
 /// Once a node is recovered, nothing of it is in flight, and no document has anything of a draw of it that isn't committed.
@@ -232,14 +233,14 @@ pub fn what_is_held_rises<L: Law>(law: &L)
 /// that stands there tell together what the journal tells: what a recovery finds dead is dead.
 pub fn stops_and_recoveries_keep_the_world<L: Law>(law: &L)
     ensures stop { (w : State) (k : ℕ) → IsKept (L.may_start law.now) (L.may_say law.now) w → IsNode w.clusters k → IsFalse (is_stopped w.past k) → IsKept (L.may_start law.now) (L.may_say law.now) (after_stop w k) }
-    ensures clear { (w : State) (s : ℕ) (d : Draw) (p : Path) → IsKept (L.may_start law.now) (L.may_say law.now) w → IsTrue (has_login w.past s) → IsFalse (has_left w.past s) → IsDead w.past d → IsFalse (is_ended w.past d.revision) → IsKept (L.may_start law.now) (L.may_say law.now) (after_clear w s p d.revision) }
+    ensures clear { (w : State) (s : ℕ) (d : Draw) (p : Path) → IsKept (L.may_start law.now) (L.may_say law.now) w → IsTrue (has_login w.past s) → IsFalse (has_left w.past s) → IsDead w.past d → IsKept (L.may_start law.now) (L.may_say law.now) (after_clear w s p d.revision) }
     ensures recover { (w : State) (k : ℕ) → IsKept (L.may_start law.now) (L.may_say law.now) w → IsNode w.clusters k → IsTrue (is_stopped w.past k) → IsClearedOf w k → IsKept (L.may_start law.now) (L.may_say law.now) (after_recover w k) }
     ensures publish { (w : State) (k : ℕ) (r : Revision) → IsKept (L.may_start law.now) (L.may_say law.now) w → IsNode w.clusters k → r.cluster ≡ k → IsTrue (is_at_most r (local None w.past k)) → IsKept (L.may_start law.now) (L.may_say law.now) (after_publish w k r) }
     ensures drop { (w : State) (s : ℕ) (sessions : List ℕ) → IsKept (L.may_start law.now) (L.may_say law.now) w → IsTrue (has_login w.past s) → IsFalse (has_left w.past s) → ((q : ℕ) → IsIn q sessions → IsTrue (is_stopped_under w.sessions w.past q)) → IsKept (L.may_start law.now) (L.may_say law.now) (after_drop_readers w s sessions) }
     ensures ended { (w : State) (k : ℕ) (r : Revision) → IsKept (L.may_start law.now) (L.may_say law.now) w → IsTrue (is_recovered w.past k) → r.cluster ≡ k → IsFalse (is_in_flight w.past r) }
     ensures left { (w : State) (k : ℕ) (r : Revision) (p : Path) (d : Document) → IsKept (L.may_start law.now) (L.may_say law.now) w → IsTrue (is_recovered w.past k) → r.cluster ≡ k → IsTrue (is_drawn w.past r) → IsFalse (is_committed w.past r) → nodes_in w.table p ≡ Some d → IsFreeOf r d }
     ensures stop_holds { (w : State) (k : ℕ) → IsKept (L.may_start law.now) (L.may_say law.now) w → IsNode w.clusters k → IsFalse (is_stopped w.past k) → IsHoldingStep (holding_in w) (holding_in (after_stop w k)) }
-    ensures clear_holds { (w : State) (s : ℕ) (d : Draw) (p : Path) → IsKept (L.may_start law.now) (L.may_say law.now) w → IsTrue (has_login w.past s) → IsFalse (has_left w.past s) → IsDead w.past d → IsFalse (is_ended w.past d.revision) → IsHoldingStep (holding_in w) (holding_in (after_clear w s p d.revision)) }
+    ensures clear_holds { (w : State) (s : ℕ) (d : Draw) (p : Path) → IsKept (L.may_start law.now) (L.may_say law.now) w → IsTrue (has_login w.past s) → IsFalse (has_left w.past s) → IsDead w.past d → IsHoldingStep (holding_in w) (holding_in (after_clear w s p d.revision)) }
     ensures recover_holds { (w : State) (k : ℕ) → IsKept (L.may_start law.now) (L.may_say law.now) w → IsNode w.clusters k → IsTrue (is_stopped w.past k) → IsClearedOf w k → IsHoldingStep (holding_in w) (holding_in (after_recover w k)) }
     ensures publish_holds { (w : State) (k : ℕ) (r : Revision) → IsKept (L.may_start law.now) (L.may_say law.now) w → IsNode w.clusters k → r.cluster ≡ k → IsTrue (is_at_most r (local None w.past k)) → IsHoldingStep (holding_in w) (holding_in (after_publish w k r)) }
     ensures drop_holds { (w : State) (s : ℕ) (sessions : List ℕ) → IsKept (L.may_start law.now) (L.may_say law.now) w → IsTrue (has_login w.past s) → IsFalse (has_left w.past s) → ((q : ℕ) → IsIn q sessions → IsTrue (is_stopped_under w.sessions w.past q)) → IsHoldingStep (holding_in w) (holding_in (after_drop_readers w s sessions)) }
@@ -248,12 +249,40 @@ pub fn stops_and_recoveries_keep_the_world<L: Law>(law: &L)
 {}
 
 /// What a recovery undoes in a document is gone there, and stays gone: a document that has nothing of a revision gets nothing of
-/// it by updates that have no entry of it, undo nothing and prune nothing, nor by an undoing.
+/// it by updates that have no entry of it, undo nothing and prune nothing, nor by an undoing; nor by what a collection prunes,
+/// by either write of a split, or where a document goes. What is dead stays so, whatever follows; and once no document has
+/// anything of what is dead of a stopped cluster node, the memory of that node may be recovered. A document that a committer
+/// at work hasn't written has nothing of its draw, and so it is where its cluster node was stopped: what is dead has entries
+/// in no document but those that its committer had written and nobody has undone since.
 pub fn what_is_undone_stays_undone<L: Law>(law: &L)
     ensures undone { (w : State) (p : Path) (r : Revision) → IsKept (L.may_start law.now) (L.may_say law.now) w → HasNothing (nodes_in (after_undo w.table (id.Node p) r) p) r }
     ensures by_undo { (w : State) (q p : Path) (o r : Revision) → IsKept (L.may_start law.now) (L.may_say law.now) w → HasNothing (nodes_in w.table p) r → HasNothing (nodes_in (after_undo w.table (id.Node q) o) p) r }
     ensures by_write { (q r : Revision) (writes : List Write) (marks : List MarkAt) (p : Path) → IsFalse (is_same r q) → IsTrue (list_all (brings_nothing r) (write_op q writes marks p).changes) }
     ensures by_update { (t : Table) (op : UpdateOp) (p : Path) (r : Revision) → IsTrue (list_all (brings_nothing r) op.changes) → HasNothing (nodes_in t p) r → HasNothing (nodes_in (after_update t op) p) r }
+    ensures by_prune { (w : State) (s : ℕ) (m t : RevVec) (q p : Path) (old : Document) (op : UpdateOp) (r : Revision) → MayPrune w m t q old op → HasNothing (nodes_in w.table p) r → HasNothing (nodes_in (after_pruned w s q old op).table p) r }
+    ensures by_split { (w : State) (s : ℕ) (read : Documents) (pin : Pin) (q p : Path) (old : Document) (e : PrevEntry) (r : Revision) → MaySplit w read pin q old e → HasNothing (nodes_in w.table p) r → HasNothing (nodes_in (after_split w s read pin q old e).table p) r }
+    ensures by_copy { (w : State) (s : ℕ) (q p : Path) (k : ℕ) (x : Document) (r : Revision) → HasNothing (nodes_in w.table p) r → HasNothing (nodes_in (after_copied w s q k x).table p) r }
+    ensures by_removal { (w : State) (s : ℕ) (i : DocId) (p : Path) (r : Revision) → IsTrue (is_sorted id_cmp w.table.documents) → HasNothing (nodes_in w.table p) r → HasNothing (nodes_in (after_removed w s i).table p) r }
+    ensures dead { (u : State) (e : Event) (past : Past) (d : Draw) → IsKept (L.may_start law.now) (L.may_say law.now) u → u.past ≡ e ∷ past → IsDead past d → IsDead u.past d }
+    ensures clears { (w : State) (k : ℕ) → IsKept (L.may_start law.now) (L.may_say law.now) w → IsTrue (is_stopped w.past k) → ((d : Draw) (p : Path) → IsDead w.past d → d.revision.cluster ≡ k → HasNothing (nodes_in w.table p) d.revision) → IsClearedOf w k }
+    ensures at_work { (w : State) (s : ℕ) (x : Running) (p : Path) → IsKept (L.may_start law.now) (L.may_say law.now) w → w.running s ≡ Some x → IsFalse (has_written x.writer p) → HasNothing (nodes_in w.table p) x.draw.revision }
+    ensures written { (w : State) (d : Draw) (p : Path) (kept : IsKept (L.may_start law.now) (L.may_say law.now) w) → IsDead w.past d → IsFalse (has_written (kept.sessions.committing.writers d.revision) p) → HasNothing (nodes_in w.table p) d.revision }
+{}
+
+/// No step of a world that changes documents brings back what is dead: the write of a committer brings nothing of it, as none at
+/// work is that of a stopped cluster node, and the others bring nothing of any revision. Those of splits and collections
+/// are clauses of `what_is_undone_stays_undone`.
+pub fn no_step_brings_back_what_is_dead<L: Law>(law: &L)
+    ensures write { (w : State) (s : ℕ) (x : Running) (q p : Path) (rest : List Path) (d : Draw) → IsKept (L.may_start law.now) (L.may_say law.now) w → w.running s ≡ Some x → IsDead w.past d → HasNothing (nodes_in w.table p) d.revision → HasNothing (nodes_in (after_write w s x q rest).table p) d.revision × HasNothing (nodes_in (after_write_in_want w s x q rest).table p) d.revision }
+    ensures mark { (w : State) (s : ℕ) (x : Running) (f : Met) (rest : List Met) (p : Path) (r : Revision) → HasNothing (nodes_in w.table p) r → HasNothing (nodes_in (after_mark w s x f rest).table p) r }
+    ensures last { (w : State) (s : ℕ) (x : Running) (p : Path) (r : Revision) → HasNothing (nodes_in w.table p) r → HasNothing (nodes_in (after_last w s x).table p) r }
+    ensures undo { (w : State) (s : ℕ) (x : Running) (q p : Path) (rest : List Path) (r : Revision) → IsKept (L.may_start law.now) (L.may_say law.now) w → HasNothing (nodes_in w.table p) r → HasNothing (nodes_in (after_undoing w s x q rest).table p) r }
+    ensures clear { (w : State) (s : ℕ) (q p : Path) (o r : Revision) → IsKept (L.may_start law.now) (L.may_say law.now) w → HasNothing (nodes_in w.table p) r → HasNothing (nodes_in (after_clear w s q o).table p) r }
+    ensures back { (w : State) (s : ℕ) (q p : Path) (o r : Revision) → HasNothing (nodes_in w.table p) r → HasNothing (nodes_in (after_back w s q o).table p) r × HasNothing (nodes_in (after_out w s o).table p) r × HasNothing (nodes_in (after_sweep w s o).table p) r }
+    ensures publish { (w : State) (k : ℕ) (o : Revision) (p : Path) (r : Revision) → HasNothing (nodes_in w.table p) r → HasNothing (nodes_in (after_publish w k o).table p) r }
+    ensures settings { (w : State) (s : ℕ) (i : Text) (pin : Pin) (p : Path) (r : Revision) → HasNothing (nodes_in w.table p) r → HasNothing (nodes_in (after_checkpoint w s i pin).table p) r × HasNothing (nodes_in (after_release w i).table p) r × HasNothing (nodes_in (after_attach w s i).table p) r × HasNothing (nodes_in (after_detach w s).table p) r }
+    ensures unfound { (w : State) (s : ℕ) (c : Change) (p : Path) (r : Revision) → HasNothing (nodes_in w.table p) r → HasNothing (nodes_in (after_unfound w s c).table p) r }
+    ensures drop { (w : State) (s : ℕ) (sessions : List ℕ) (p : Path) (r : Revision) → HasNothing (nodes_in w.table p) r → HasNothing (nodes_in (after_drop_readers w s sessions).table p) r }
 {}
 
 /// Splits keep the world: the write of a previous document, which is a copy of what the former document of its number had,

@@ -1,5 +1,5 @@
 -- What a refusal that was made tells of a text.
-use Rattle.std.proofs.Common.{◌≡◌, Bool, false, List, ℕ, Option, sym, ap, ◌∙◌}
+use Rattle.std.proofs.Common.{◌≡◌, Bool, List, ℕ, Option, sym, ap, ◌∙◌}
 use Rattle.std.specs.Prelude.{IfOk, Result}
 use Rattle.std.specs.Option.{option_map_or}
 use Rattle.std.proofs.lemmas.Result.{IfOk-weaker}
@@ -17,11 +17,11 @@ pub refused : {E : Type 0} (text : List ℕ) (cause r : Refusal) (result : Resul
 refused text cause r result made told =
     IfOk-weaker result _ _ (λ b h. h.1 ∙ ap (is_refusal text) (made h.0)) told
 
--- it is one that is due
-pub refused_due : {E : Type 0} (text : List ℕ) (due : Option Refusal) (r : Refusal)
+-- it is one that is due, whatever is told where none is
+pub refused_due : {E : Type 0} (text : List ℕ) (due : Option Refusal) (other : Bool) (r : Refusal)
     (result : Result Bool E) → IsTheRefusal due r → IfOk result (Told text r)
-    → IfOk result (λ b. b ≡ option_map_or (is_refusal text) due false)
-refused_due text due r result made told =
+    → IfOk result (λ b. b ≡ option_map_or (is_refusal text) due other)
+refused_due text due other r result made told =
     IfOk-weaker result _ _
     (λ b h. h.1 ∙ sym
-    (ap (λ (o : Option Refusal). option_map_or (is_refusal text) o false) (made h.0))) told
+    (ap (λ (o : Option Refusal). option_map_or (is_refusal text) o other) (made h.0))) told

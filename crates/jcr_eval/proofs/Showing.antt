@@ -55,10 +55,10 @@ number_same m k h = (Decides-eqb m k).0 h
 number_itself : (k : ℕ) → (k == k) ≡ true
 number_itself k = (Decides-eqb k k).1 refl
 
-vector_same : (w v : RevVec) → same_vector w v ≡ true → w ≡ v
+pub vector_same : (w v : RevVec) → same_vector w v ≡ true → w ≡ v
 vector_same w v h = (same_vectors w v (same_vector w v) refl).0 h
 
-vector_itself : (v : RevVec) → same_vector v v ≡ true
+pub vector_itself : (v : RevVec) → same_vector v v ≡ true
 vector_itself v = (same_vectors v v (same_vector v v) refl).1 refl
 
 module _ (k : ℕ) (least : Revision) (text : List ℕ) where

@@ -1,38 +1,40 @@
 -- The causes of replies of commands of the cluster and of observation, decided of what came since
 -- they began.
-use Rattle.std.proofs.Common.{◌≡◌, ℕ, ◌+◌, Bool, true, false, not, ◌&&◌, ◌||◌, inl, inr, List, Option, None, Some, refl, sym, ap, subst, ◌∙◌}
+use Rattle.std.proofs.Common.{◌≡◌, ◌⊎◌, ℕ, ◌+◌, Bool, true, false, not, ◌&&◌, ◌||◌, inl, inr, List, Option, None, Some, refl, sym, ap, subst, ◌∙◌}
 use Rattle.std.specs.Prelude.{◌↔◌, ◌==◌, slice_get, Contains, IfOk, IsTrue, Result, is_none}
 use Rattle.std.specs.Option.{option_map_or}
 use Rattle.std.proofs.lemmas.Bool.{true≢false}
 use Rattle.std.proofs.lemmas.Bool.Decides.{Decides-eqb}
+use Rattle.std.proofs.lemmas.Option.{none-some, same_Some}
 use Rattle.std.proofs.lemmas.Result.{IfOk-weaker}
 use Rattle.std.proofs.lemmas.Slice.Eq.{bytes_eq-Decides}
 use Rattle.jr_path.specs.declared.path.Path.{Path}
 use Rattle.jr_path.specs.Lists.{Text}
 use Rattle.jr_tree.specs.declared.shared.Refusal.{Refusal}
-use Rattle.jr_items.specs.Refusals.{no_checkpoint}
+use Rattle.jr_items.specs.Refusals.{limit_refusal, no_checkpoint}
 use Rattle.oak_machine.specs.declared.event.Event.{Event}
 use Rattle.oak_machine.specs.declared.event.Event.TheVariants as event
 use Rattle.oak_machine.specs.Heads.{local, published}
 use Rattle.oak_machine.specs.History.{History}
-use Rattle.oak_machine.specs.Sessions.{base_of, is_stop_of, is_stopped, since}
+use Rattle.oak_machine.specs.Sessions.{is_stop_of, is_stopped, since}
 use Rattle.jcr_ref.specs.Drawn.{too_many_ids}
-use Rattle.jcr_trans.specs.Answers.{Done, ShowsText, ShowsVector}
+use Rattle.jcr_trans.specs.Answers.{Done, ShowsText}
+use Rattle.jcr_trans.specs.Texts.{answer_text}
 use Rattle.jcr_trans.specs.declared.command.Command.{Command}
 use Rattle.jcr_trans.specs.declared.command.Command.TheVariants as command
 use Rattle.jcr_law.specs.declared.law.JcrLaw.{JcrLaw}
 use Rattle.jcr_law.specs.declared.state.Cursor.{Cursor}
 use Rattle.jcr_law.specs.Law.{no_support, no_text}
 use Rattle.jcr_law.specs.Queries.{events_reply, events_since}
-use Rattle.jcr_law.specs.Since.{before_turn, came, detached_among, is_pinning}
+use Rattle.jcr_law.specs.Since.{before_turn, came, is_pinning}
 use Rattle.jcr_law.specs.State.{call_of, next_id}
 use Rattle.jcr_law.specs.Tasks.{finds_stopped, is_out, is_recovering, is_sweep, misses, split_refusal}
 use Rattle.jcr_eval.proofs.Passing.{and_parts, and_whole, came_any, came_contains, came_some, contains_came, false_of, or_left, or_parts, or_right, some_came}
-use Rattle.jcr_eval.proofs.Showing.{attach_is, attach_passes, collection_is, collection_shown, in_is, in_shown, is_shown, keep_is, keep_passes, out_is, out_shown, recovery_is, recovery_shown, release_is, release_passes, shown_is, split_is, split_shown, sweep_is, sweep_shown}
+use Rattle.jcr_eval.proofs.Showing.{collection_is, collection_shown, in_is, in_shown, is_shown, keep_is, keep_passes, out_is, out_shown, recovery_is, recovery_shown, release_is, release_passes, shown_is, split_is, split_shown, sweep_is, sweep_shown}
 use Rattle.jcr_eval.proofs.Options.{some_passed}
-use Rattle.jcr_eval.specs.Said.{has_in, has_out, has_sweep, is_own, refuses_checkpoint, refuses_id, refuses_split, says_attach, says_checkpoint, says_collect, says_detach, says_events, says_in, says_observe, says_out, says_recover, says_release, says_split, says_stop, says_sweep, shows_checkpoint, shows_events, shows_vector}
-use Rattle.jcr_past.specs.Shown.{attaches, is_answer, is_refusal, keeps, releases, shows_collection, shows_in, shows_out, shows_recovery, shows_split, shows_sweep}
-use Rattle.jcr_eval.specs.TaskCauses.{AttachCause, CheckpointCause, CollectCause, DetachCause, EventsCause, InCause, ObserveCause, OutCause, RecoverCause, ReleaseCause, SplitCause, StopCause, SweepCause, TaskCause}
+use Rattle.jcr_eval.specs.Said.{has_in, has_out, has_sweep, is_own, refuses_checkpoint, refuses_id, refuses_split, says_checkpoint, says_collect, says_events, says_in, says_observe, says_out, says_recover, says_release, says_split, says_stop, says_sweep, shows_checkpoint, shows_events}
+use Rattle.jcr_past.specs.Shown.{is_answer, is_refusal, keeps, releases, shows_collection, shows_in, shows_out, shows_recovery, shows_split, shows_sweep}
+use Rattle.jcr_eval.specs.TaskCauses.{CheckpointCause, CollectCause, EventsCause, InCause, MissCause, ObserveCause, OutCause, RecoverCause, ReleaseCause, SplitCause, StopCause, SweepCause, TaskCause}
 
 abbrev Said : Bool → Type 0 → Type 0
 Said b P = IsTrue b ↔ P
@@ -50,6 +52,27 @@ is_refused text r h = (bytes_eq-Decides text (no_text r)).0 h
 
 refused_is : (text : List ℕ) (r : Refusal) → text ≡ no_text r → is_refusal text r ≡ true
 refused_is text r h = (bytes_eq-Decides text (no_text r)).1 h
+
+-- `ok` where nothing refuses and a test holds, or else the refusal
+done_or_refused : (text : List ℕ) (due : Option Refusal) (b : Bool)
+    → Said (option_map_or (is_refusal text) due (b && is_answer text Done))
+    (((due ≡ None) × IsTrue b × (text ≡ answer_text Done))
+    ⊎ ((r : Refusal) × (due ≡ Some r) × (text ≡ no_text r)))
+done_or_refused text None b = (
+  λ t. let p = and_parts b _ t in inl (refl, p.0, is_shown text Done p.1),
+  λ c. elim c [
+    | inl here ↦ and_whole b _ here.1 (shown_is text Done here.2)
+    | inr there ↦ absurd (none-some there.0 there.1)
+  ],
+)
+done_or_refused text (Some r) b = (
+  λ t. inr (r, refl, is_refused text r t),
+  λ c. elim c [
+    | inl here ↦ absurd (none-some r (sym here.0))
+    | inr there ↦
+        refused_is text r (there.2 ∙ ap no_text (sym (same_Some r there.0 there.1)))
+  ],
+)
 
 module _ (h : History) (s : ℕ) (text : List ℕ) where
   pub out_said : Said (says_out h s text) (OutCause h s text)
@@ -142,59 +165,14 @@ module _ (h : History) (s : ℕ) (text : List ℕ) where
         (collection_shown s text c.0 c.2),
   )
 
-  pub detach_said : Said (says_detach h s text) (DetachCause h s text)
-  detach_said = (
-    λ t.
-        let o = some_passed (λ v. is_answer text (ShowsVector v))
-        (detached_among (since h.past s) s) t in
-        (o.0, o.1, is_shown text (ShowsVector o.0) o.2),
-    λ c. there_some (λ v. is_answer text (ShowsVector v)) (detached_among (since h.past s) s) c.0
-        c.1 (shown_is text (ShowsVector c.0) c.2),
-  )
+  pub observe_said : (p : Path) → Said (says_observe h s p text) (ObserveCause h s p text)
+  observe_said p = done_or_refused text (limit_refusal p) (came s (λ earlier e. is_pinning s e) h.past)
 
-  pub observe_said : Said (says_observe h s text) (ObserveCause h s text)
-  observe_said = (
-    λ t. let p = and_parts (came s (λ earlier e. is_pinning s e) h.past) _ t in
-        (p.0, is_shown text Done p.1),
-    λ c. and_whole (came s (λ earlier e. is_pinning s e) h.past) _ c.0 (shown_is text Done c.1),
-  )
-
-  pub attach_said : (id : Text) → Said (says_attach h s id text) (AttachCause h s id text)
-  attach_said id = (
-    λ t. elim (or_parts
-        (came s (λ earlier e. attaches s id e) h.past && shows_vector text (base_of h.past s))
-        (refuses_checkpoint h s id text) t) [
-          | inl here ↦
-              let p = and_parts (came s (λ earlier e. attaches s id e) h.past) _ here in
-              let q = came_some s (λ earlier e. attaches s id e) h.past p.0 in
-              let o = some_passed (λ v. is_answer text (ShowsVector v)) (base_of h.past s) p.1 in
-              inl (
-                o.0,
-                subst (λ (x : Event). Contains (since h.past s) x)
-                    (attach_is s id q.which q.passes)
-                    (came_contains s h.past q.earlier q.which q.at),
-                o.1,
-                is_shown text (ShowsVector o.0) o.2,
-              )
-          | inr there ↦ let p = and_parts (came s (misses s id) h.past) _ there in
-              inr (p.0, is_refused text (no_checkpoint id) p.1)
-        ],
-    λ c. elim c [
-      | inl here ↦
-          let p = contains_came s h.past (event.Attach s id) here.1 in
-          or_left _ (refuses_checkpoint h s id text)
-          (and_whole (came s (λ earlier e. attaches s id e) h.past)
-          (shows_vector text (base_of h.past s))
-          (some_came s (λ earlier e. attaches s id e) h.past p.0 (event.Attach s id) p.1
-          (attach_passes s id))
-          (there_some (λ v. is_answer text (ShowsVector v)) (base_of h.past s) here.0 here.2
-          (shown_is text (ShowsVector here.0) here.3)))
-      | inr there ↦
-          or_right (came s (λ earlier e. attaches s id e) h.past
-          && shows_vector text (base_of h.past s)) _
-          (and_whole (came s (misses s id) h.past) _ there.0
-          (refused_is text (no_checkpoint id) there.1))
-    ],
+  pub missed_said : (id : Text) → Said (refuses_checkpoint h s id text) (MissCause h s id text)
+  missed_said id = (
+    λ t. let p = and_parts (came s (misses s id) h.past) _ t in
+        (p.0, is_refused text (no_checkpoint id) p.1),
+    λ c. and_whole (came s (misses s id) h.past) _ c.0 (refused_is text (no_checkpoint id) c.1),
   )
 
   pub release_said : (id : Text) → Said (says_release h s id text) (ReleaseCause h s id text)
@@ -209,8 +187,7 @@ module _ (h : History) (s : ℕ) (text : List ℕ) where
                     (came_contains s h.past q.earlier q.which q.at),
                 is_shown text Done p.1,
               )
-          | inr there ↦ let p = and_parts (came s (misses s id) h.past) _ there in
-              inr (p.0, is_refused text (no_checkpoint id) p.1)
+          | inr there ↦ inr ((missed_said id).0 there)
         ],
     λ c. elim c [
       | inl here ↦
@@ -221,8 +198,7 @@ module _ (h : History) (s : ℕ) (text : List ℕ) where
           (release_passes id)) (shown_is text Done here.1))
       | inr there ↦
           or_right (came s (λ earlier e. releases id e) h.past && is_answer text Done) _
-          (and_whole (came s (misses s id) h.past) _ there.0
-          (refused_is text (no_checkpoint id) there.1))
+          ((missed_said id).1 there)
     ],
   )
 

@@ -6,22 +6,22 @@ use Rattle.jr_path.specs.Lists.{Text}
 use Rattle.jr_rev.specs.declared.vector.RevVec.{RevVec}
 use Rattle.jr_tree.specs.declared.shared.Who.{Who}
 use Rattle.jr_tree.specs.Trees.{Nodes}
-use Rattle.jr_items.specs.Refusals.{no_checkpoint}
+use Rattle.jr_items.specs.Refusals.{limit_refusal, no_checkpoint}
 use Rattle.oak_machine.specs.Heads.{local, published}
 use Rattle.oak_machine.specs.History.{History, Past}
-use Rattle.oak_machine.specs.Sessions.{base_of, is_stop_of, is_stopped, since}
+use Rattle.oak_machine.specs.Sessions.{is_stop_of, is_stopped}
 use Rattle.jcr_ref.specs.Drawn.{too_many_ids}
-use Rattle.jcr_trans.specs.Answers.{Done, ShowsText, ShowsVector}
+use Rattle.jcr_trans.specs.Answers.{Done, ShowsText}
 use Rattle.jcr_trans.specs.declared.command.Command.{Command}
 use Rattle.jcr_trans.specs.declared.command.Command.TheVariants as command
 use Rattle.jcr_law.specs.declared.law.JcrLaw.{JcrLaw}
 use Rattle.jcr_law.specs.declared.state.Cursor.{Cursor}
 use Rattle.jcr_law.specs.Law.{no_support}
 use Rattle.jcr_law.specs.Queries.{events_reply, events_since}
-use Rattle.jcr_law.specs.Since.{before_turn, came, detached_among, is_pinning}
+use Rattle.jcr_law.specs.Since.{before_turn, came, is_pinning}
 use Rattle.jcr_law.specs.State.{call_of, next_id}
 use Rattle.jcr_law.specs.Tasks.{finds_stopped, misses, split_refusal}
-use Rattle.jcr_past.specs.Shown.{attaches, is_answer, is_refusal, keeps, releases, shows_collection, shows_in, shows_out, shows_recovery, shows_split, shows_sweep}
+use Rattle.jcr_past.specs.Shown.{is_answer, is_refusal, keeps, releases, shows_collection, shows_in, shows_out, shows_recovery, shows_split, shows_sweep}
 
 -- cluster node k of s published what is shown, and at least what was its own when the command began
 abbrev pub has_out : History → (s : ℕ) → List ℕ → (k : ℕ) → Bool
@@ -71,30 +71,16 @@ says_checkpoint law h s text = option_map_or
     (λ c. shows_checkpoint h.past s text c.who || refuses_id text c.who)
     (call_of law h.begin h.past s) false
 
--- the text shows the vector, if there is one
-abbrev pub shows_vector : List ℕ → Option RevVec → Bool
-shows_vector text found = option_map_or (λ v. is_answer text (ShowsVector v)) found false
-
 -- a step on the settings found no checkpoint of that id, which is told
 abbrev pub refuses_checkpoint : History → ℕ → Text → List ℕ → Bool
 refuses_checkpoint h s id text =
     came s (misses s id) h.past && is_refusal text (no_checkpoint id)
-
--- the text is a reply to `attach` of that id
-abbrev pub says_attach : History → ℕ → Text → List ℕ → Bool
-says_attach h s id text =
-    (came s (λ earlier e. attaches s id e) h.past && shows_vector text (base_of h.past s))
-    || refuses_checkpoint h s id text
 
 -- the text is a reply to `release` of that id
 abbrev pub says_release : History → ℕ → Text → List ℕ → Bool
 says_release h s id text =
     (came s (λ earlier e. releases id e) h.past && is_answer text Done)
     || refuses_checkpoint h s id text
-
--- the text is a reply to `detach`
-abbrev pub says_detach : History → ℕ → List ℕ → Bool
-says_detach h s text = shows_vector text (detached_among (since h.past s) s)
 
 -- the text says why the document can't be split
 abbrev pub refuses_split : Path → List ℕ → Nodes → Bool
@@ -129,10 +115,10 @@ says_recover h s k text = came s (shows_recovery k text) h.past
     || (not (is_stopped (before_turn h.past s) k)
     && is_unsupported text (command.Recover (Some k)))
 
--- the text is a reply to `observe`
-abbrev pub says_observe : History → ℕ → List ℕ → Bool
-says_observe h s text =
-    came s (λ earlier e. is_pinning s e) h.past && is_answer text Done
+-- the text is a reply to `observe` of that path
+abbrev pub says_observe : History → ℕ → Path → List ℕ → Bool
+says_observe h s p text = option_map_or (is_refusal text) (limit_refusal p)
+    (came s (λ earlier e. is_pinning s e) h.past && is_answer text Done)
 
 -- the text shows the events since a cursor, with a pin moved if there is one
 abbrev pub shows_events : History → ℕ → List ℕ → RevVec → Option Cursor → Bool

@@ -1,4 +1,5 @@
--- The causes of a reply by the commands of the cluster, by queries and by those of observation.
+-- The causes of a reply by the commands of the cluster, by queries and by those of observation, for
+-- which the base stays.
 use Rattle.std.specs.Prelude.{◌≡◌, ◌⊎◌, ℕ, ◌+◌, List, [], slice_get, Contains, None, Some, IsTrue, IsFalse}
 use Rattle.jr_path.specs.declared.name.Name.{Name}
 use Rattle.jr_path.specs.declared.path.Path.{Path}
@@ -8,13 +9,13 @@ use Rattle.jr_rev.specs.declared.vector.RevVec.{RevVec}
 use Rattle.jr_rev.specs.Revisions.{is_at_most}
 use Rattle.jr_value.specs.declared.value.Value.{Value}
 use Rattle.jr_tree.specs.declared.shared.Refusal.{Refusal}
-use Rattle.jr_items.specs.Refusals.{no_checkpoint}
+use Rattle.jr_items.specs.Refusals.{limit_refusal, no_checkpoint}
 use Rattle.oak_doc.specs.declared.asks.Collected.{Collected}
 use Rattle.oak_doc.specs.declared.asks.SplitEnd.{SplitEnd}
 use Rattle.oak_machine.specs.declared.event.Event.TheVariants as event
 use Rattle.oak_machine.specs.Heads.{local, published}
 use Rattle.oak_machine.specs.History.{History}
-use Rattle.oak_machine.specs.Sessions.{base_of, is_stopped, since}
+use Rattle.oak_machine.specs.Sessions.{is_stopped, since}
 use Rattle.jcr_ref.specs.Drawn.{too_many_ids}
 use Rattle.jcr_trans.specs.Answers.{Done, ShowsRevision, ShowsText, ShowsVector}
 use Rattle.jcr_trans.specs.Texts.{answer_text, ok_text}
@@ -23,7 +24,7 @@ use Rattle.jcr_trans.specs.declared.command.Command.TheVariants as command
 use Rattle.jcr_law.specs.declared.law.JcrLaw.{JcrLaw}
 use Rattle.jcr_law.specs.Law.{no_support, no_text}
 use Rattle.jcr_law.specs.Queries.{QueryAnswers, events_reply, events_since}
-use Rattle.jcr_law.specs.Since.{before_turn, came, detached_among, is_pinning}
+use Rattle.jcr_law.specs.Since.{before_turn, came, is_pinning}
 use Rattle.jcr_law.specs.State.{Call, call_of, next_id}
 use Rattle.jcr_law.specs.Tasks.{collected_data, finds_stopped, is_out, is_recovering, is_sweep, knows_published, misses, split_data, split_refusal}
 
@@ -61,24 +62,16 @@ CheckpointCause law h s text =
     ⊎ ((c : Call) × (r : Refusal) × (call_of law h.begin h.past s ≡ Some c)
     × (too_many_ids (c.who.ids + 1) ≡ Some r) × (text ≡ no_text r))
 
--- the text shows the base of s, which is attached to the checkpoint; or there was no such
--- checkpoint
-abbrev pub AttachCause : History → ℕ → Text → List ℕ → Type 0
-AttachCause h s id text =
-    ((v : RevVec) × Contains (since h.past s) (event.Attach s id) × (base_of h.past s ≡ Some v)
-    × (text ≡ answer_text (ShowsVector v)))
-    ⊎ (IsTrue (came s (misses s id) h.past) × (text ≡ no_text (no_checkpoint id)))
+-- there was no checkpoint of that id when the settings were looked at
+abbrev pub MissCause : History → ℕ → Text → List ℕ → Type 0
+MissCause h s id text =
+    IsTrue (came s (misses s id) h.past) × (text ≡ no_text (no_checkpoint id))
 
 -- the checkpoint is released; or there was no such checkpoint
 abbrev pub ReleaseCause : History → ℕ → Text → List ℕ → Type 0
 ReleaseCause h s id text =
     (Contains (since h.past s) (event.Release id) × (text ≡ answer_text Done))
-    ⊎ (IsTrue (came s (misses s id) h.past) × (text ≡ no_text (no_checkpoint id)))
-
--- the text shows the head for which s left its checkpoint
-abbrev pub DetachCause : History → ℕ → List ℕ → Type 0
-DetachCause h s text = (v : RevVec) × (detached_among (since h.past s) s ≡ Some v)
-    × (text ≡ answer_text (ShowsVector v))
+    ⊎ MissCause h s id text
 
 -- the text shows how a split of the document ended; or the document can't be split
 abbrev pub SplitCause : JcrLaw → History → ℕ → Path → List ℕ → Type 0
@@ -108,10 +101,12 @@ RecoverCause h s k text =
     ⊎ (IsFalse (is_stopped (before_turn h.past s) k)
     × (text ≡ no_support (command.Recover (Some k))))
 
--- a cursor is set, once it is pinned
-abbrev pub ObserveCause : History → ℕ → List ℕ → Type 0
-ObserveCause h s text = IsTrue (came s (λ earlier e. is_pinning s e) h.past)
-    × (text ≡ answer_text Done)
+-- a cursor is set, once it is pinned, on a path within the limits; or the path is beyond them
+abbrev pub ObserveCause : History → ℕ → Path → List ℕ → Type 0
+ObserveCause h s p text =
+    ((limit_refusal p ≡ None) × IsTrue (came s (λ earlier e. is_pinning s e) h.past)
+    × (text ≡ answer_text Done))
+    ⊎ ((r : Refusal) × (limit_refusal p ≡ Some r) × (text ≡ no_text r))
 
 -- there are no events without a cursor; or the text shows those since the cursor, once it is pinned
 -- anew
@@ -134,14 +129,13 @@ TaskCause law h s command.BackWrite text = OutCause h s text
 TaskCause law h s command.BackRead text = InCause h s text
 TaskCause law h s command.Sweep text = SweepCause h s text
 TaskCause law h s command.Checkpoint text = CheckpointCause law h s text
-TaskCause law h s (command.Attach id) text = AttachCause h s id text
+TaskCause law h s (command.Attach id) text = MissCause h s id text
 TaskCause law h s (command.Release id) text = ReleaseCause h s id text
-TaskCause law h s command.Detach text = DetachCause h s text
 TaskCause law h s (command.Split p) text = SplitCause law h s p text
 TaskCause law h s command.Collect text = CollectCause h s text
 TaskCause law h s (command.Stop (Some k)) text = StopCause h s k text
 TaskCause law h s (command.Recover (Some k)) text = RecoverCause h s k text
-TaskCause law h s (command.Observe p deep mask) text = ObserveCause h s text
+TaskCause law h s (command.Observe p deep mask) text = ObserveCause h s p text
 TaskCause law h s command.Events text = EventsCause law h s text
 TaskCause law h s (command.Query query vars) text = QueryCause law h s query vars text
 TaskCause law h s _ text = ⊥

@@ -14,12 +14,12 @@ ghost use Rattle.jcr_call.specs.Comings.{reply_to_due};
 ghost use Rattle.jcr_call.specs.Dues.{due_of};
 ghost use Rattle.jcr_call.specs.Footings.{IsAsKnown, IsOn};
 ghost use Rattle.jcr_past.specs.Calls.{called};
-ghost use Rattle.jcr_eval.specs.Causes.{CommitCause, clash_reply, committed_reply, due_reply, is_seen_commit, reply_to_draw, uncommitted_reply};
+ghost use Rattle.jcr_eval.specs.Causes.{UncommittedCause, clash_reply, committed_reply, due_reply, is_begun_there, is_seen_commit, reply_to_draw, uncommitted_reply};
 
 use crate::replies::{cause_reply, is_reply};
 use jcr_call::{Coming, Due, Footing, come, next_id, version_reply};
 use jcr_law::JcrLaw;
-use jcr_past::{Call, call_of, draw_since};
+use jcr_past::{Call, before_turn, call_of, draw_since};
 use jcr_plan::Assured;
 use jcr_trans::{Command, revision_reply, text_reply};
 use jr_items::clash;
@@ -28,11 +28,13 @@ use jr_rev::Revision;
 use jr_tree::changes;
 use jr_types::Registry;
 use oak_machine::{Draw, Journal};
-use oak_past::{drawn_since, is_committed, is_ended, refreshed_since, refusal_of, tree_at};
+use oak_past::{
+    base_of, drawn_since, is_committed, is_ended, refreshed_since, refusal_of, tree_at,
+};
 use std::alloc::{AllocError, Global};
 
-// Whether a text is what a command that commits is answered with.
-pub(crate) fn commit_says(
+// Whether a text is what a command is answered with by its commit.
+pub(crate) fn committed_says(
     alloc: Global,
     law: &JcrLaw,
     journal: &Journal,
@@ -41,14 +43,27 @@ pub(crate) fn commit_says(
     text: &str,
 ) -> Result<bool, AllocError>
     ensures { IfOk result (λ b. IsTrue b
-        ↔ CommitCause law.now (history_of journal.now) session command.now text.now) }
+        ↔ (committed_reply law.now (history_of journal.now) session command.now
+        ≡ Some text.now)) }
+{
+    let committed = committed_reply(alloc, law, journal, session, command)?;
+    Ok(is_reply(committed, text))
+}
+
+// Whether a text is what a command that commits is answered with where nothing is committed.
+pub(crate) fn uncommitted_says(
+    alloc: Global,
+    law: &JcrLaw,
+    journal: &Journal,
+    session: u32,
+    command: &Command,
+    text: &str,
+) -> Result<bool, AllocError>
+    ensures { IfOk result (λ b. IsTrue b
+        ↔ UncommittedCause law.now (history_of journal.now) session command.now text.now) }
 {
     let due = due_reply(alloc, law, journal, session, command)?;
     if is_reply(due, text) {
-        return Ok(true);
-    }
-    let committed = committed_reply(alloc, law, journal, session, command)?;
-    if is_reply(committed, text) {
         return Ok(true);
     }
     let clash = clash_reply(alloc, journal, session)?;
@@ -190,10 +205,24 @@ fn reply_to_draw(
     }
 }
 
-// Whether a draw is committed, and the base sees it.
+// Whether a draw was made at the base at which the command of a session began.
+fn is_begun_there(journal: &Journal, session: u32, draw: &Draw) -> bool
+    ensures { result ≡ is_begun_there (history_of journal.now) session draw.now }
+{
+    let before = before_turn(journal.events.as_slice(), session);
+    match base_of(before, session) {
+        Some(v) => v == draw.base,
+        None => false,
+    }
+}
+
+// Whether such a draw is committed, and the base sees it.
 fn is_seen_commit(journal: &Journal, session: u32, draw: &Draw) -> bool
     ensures { result ≡ is_seen_commit (history_of journal.now) session draw.now }
 {
+    if !is_begun_there(journal, session, draw) {
+        return false;
+    }
     let events = journal.events.as_slice();
     if !is_ended(events, draw.revision) || !is_committed(events, draw.revision) {
         return false;

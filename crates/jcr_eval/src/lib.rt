@@ -5,6 +5,7 @@
 
 mod commits;
 mod events;
+mod moves;
 mod queries;
 mod replies;
 mod say;

@@ -2,29 +2,28 @@
 ghost use Rattle.std.specs.Prelude.{◌≡◌, ◌↔◌, cond, IfOk, IsTrue, Some, option_and_then, option_map, slice_get, string_bytes};
 ghost use Rattle.oak_machine.specs.History.{history_of};
 ghost use Rattle.oak_machine.specs.Sessions.{is_attached};
-ghost use Rattle.jr_rev.specs.declared.vector.RevVec.{RevVec};
 ghost use Rattle.jcr_view.specs.Outcomes.{is_viewed};
 ghost use Rattle.jcr_law.specs.Built.{Allowed, Unsupported};
-ghost use Rattle.jcr_law.specs.Law.{MaySay, SaysBy, asked_by, no_support, no_text};
+ghost use Rattle.jcr_law.specs.Law.{IsUnmoved, MaySay, SaysBy, asked_by, no_support, no_text};
 ghost use Rattle.jcr_law.specs.Since.{before_turn, stop_position};
 ghost use Rattle.jcr_law.specs.Tasks.{stopped_at};
-ghost use Rattle.jcr_eval.specs.Causes.{AllowedCause, AnyCause, OwnCause, may_want_memory, memory_reply, stopped_reply, vector_text, ViewCause};
+ghost use Rattle.jcr_eval.specs.Causes.{AllowedCause, AnyCause, MovedCause, OwnCause, StillCause, may_want_memory, memory_reply, stopped_reply, ViewCause};
 
-use crate::commits::commit_says;
+use crate::commits::{committed_says, uncommitted_says};
+use crate::moves::{move_says, vector_says};
 use crate::replies::{cause_reply, is_reply, refusal_reply};
 use crate::tasks::task_says;
 use crate::view::view_says;
 use jcr_call::is_allowed;
 use jcr_law::JcrLaw;
-use jcr_past::{before_turn, command_at, stop_position};
-use jcr_trans::{Command, vector_reply};
+use jcr_past::{before_turn, command_at, is_unmoved, stop_position};
+use jcr_trans::Command;
 use jcr_view::is_viewed;
 use jr_items::unsupported;
 use jr_path::List;
-use jr_rev::RevVec;
 use jr_tree::{Datum, Refusal};
 use oak_machine::Journal;
-use oak_past::{base_of, drawn_since, is_attached, is_committed, is_drawing, refreshed_since};
+use oak_past::{base_of, drawn_since, is_attached, is_committed, is_drawing};
 use std::alloc::{AllocError, Global};
 
 /// Whether the law lets a text be said as the reply of that index of a session at a journal. It
@@ -65,7 +64,7 @@ fn may_say(
     if is_asked(journal, session, command) {
         allowed_says(alloc, law, journal, session, command, text)
     } else {
-        barred_says(alloc, command, text)
+        barred_says(alloc, journal, session, command, text)
     }
 }
 
@@ -149,11 +148,15 @@ fn memory_reply(
     }
 }
 
-// Whether nothing of a session is in flight, and nothing was committed for its command.
+// Whether the base of a session hasn't moved, nothing of it is in flight, and nothing was committed
+// for its command.
 fn may_want_memory(journal: &Journal, session: u32) -> bool
     ensures { result ≡ may_want_memory (history_of journal.now) session }
 {
     let events = journal.events.as_slice();
+    if !is_unmoved(events, session) {
+        return false;
+    }
     if is_drawing(events, session) {
         return false;
     }
@@ -163,10 +166,21 @@ fn may_want_memory(journal: &Journal, session: u32) -> bool
     }
 }
 
-// Whether a text refuses a command that isn't built or that the session may not run.
-fn barred_says(alloc: Global, command: &Command, text: &str) -> Result<bool, AllocError>
-    ensures { IfOk result (λ b. IsTrue b ↔ (text.now ≡ no_support command.now)) }
+// Whether the base of a session hasn't moved, and a text refuses a command that isn't built or that
+// the session may not run.
+fn barred_says(
+    alloc: Global,
+    journal: &Journal,
+    session: u32,
+    command: &Command,
+    text: &str,
+) -> Result<bool, AllocError>
+    ensures { IfOk result (λ b. IsTrue b ↔ (IsUnmoved (history_of journal.now) session
+        × (text.now ≡ no_support command.now))) }
 {
+    if !is_unmoved(journal.events.as_slice(), session) {
+        return Ok(false);
+    }
     let reply = cause_reply(alloc, &unsupported(alloc, command.word()))?;
     Ok(is_reply(reply, text))
 }
@@ -184,10 +198,65 @@ fn allowed_says(
     ensures { IfOk result (λ b. IsTrue b
         ↔ AllowedCause law.now (history_of journal.now) session command.now text.now) }
 {
+    if moved_says(alloc, law, journal, session, command, text)? {
+        return Ok(true);
+    }
+    unmoved_says(alloc, law, journal, session, command, text)
+}
+
+// Whether a text is a reply to a command behind the move of the base.
+fn moved_says(
+    alloc: Global,
+    law: &JcrLaw,
+    journal: &Journal,
+    session: u32,
+    command: &Command,
+    text: &str,
+) -> Result<bool, AllocError>
+    ensures { IfOk result (λ b. IsTrue b
+        ↔ MovedCause law.now (history_of journal.now) session command.now text.now) }
+{
+    if committed_says(alloc, law, journal, session, command, text)? {
+        return Ok(true);
+    }
+    move_says(alloc, journal, session, command, text)
+}
+
+// Whether the base hasn't moved, and a text is a reply that a command may have then.
+fn unmoved_says(
+    alloc: Global,
+    law: &JcrLaw,
+    journal: &Journal,
+    session: u32,
+    command: &Command,
+    text: &str,
+) -> Result<bool, AllocError>
+    ensures { let h = history_of journal.now in IfOk result (λ b. IsTrue b
+        ↔ (IsUnmoved h session × StillCause law.now h session command.now text.now)) }
+{
+    if is_unmoved(journal.events.as_slice(), session) {
+        still_says(alloc, law, journal, session, command, text)
+    } else {
+        Ok(false)
+    }
+}
+
+// Whether a text is a reply to a command for which the base stays.
+fn still_says(
+    alloc: Global,
+    law: &JcrLaw,
+    journal: &Journal,
+    session: u32,
+    command: &Command,
+    text: &str,
+) -> Result<bool, AllocError>
+    ensures { IfOk result (λ b. IsTrue b
+        ↔ StillCause law.now (history_of journal.now) session command.now text.now) }
+{
     if viewed_says(alloc, law, journal, session, command, text)? {
         return Ok(true);
     }
-    if commit_says(alloc, law, journal, session, command, text)? {
+    if uncommitted_says(alloc, law, journal, session, command, text)? {
         return Ok(true);
     }
     own_says(alloc, law, journal, session, command, text)
@@ -212,7 +281,8 @@ fn viewed_says(
     }
 }
 
-// Whether a text is a reply of a command's own, beside the view's and those of commits.
+// Whether a text is a reply of a command's own, beside the view's, those of commits and those behind
+// the move of the base.
 fn own_says(
     alloc: Global,
     law: &JcrLaw,
@@ -224,27 +294,8 @@ fn own_says(
     ensures { IfOk result (λ b. IsTrue b
         ↔ OwnCause law.now (history_of journal.now) session command.now text.now) }
 {
-    let events = journal.events.as_slice();
     match command {
-        Command::Head => vector_says(alloc, base_of(events, session), text),
-        Command::Refresh(_) => vector_says(alloc, refreshed_since(events, session), text),
+        Command::Head => vector_says(alloc, base_of(journal.events.as_slice(), session), text),
         _ => task_says(alloc, law, journal, session, command, text),
     }
-}
-
-// Whether a text shows a vector, where there is one.
-fn vector_says(alloc: Global, vector: Option<RevVec>, text: &str) -> Result<bool, AllocError>
-    ensures { IfOk result (λ b. IsTrue b ↔ (option_map vector_text vector ≡ Some text.now)) }
-{
-    match vector {
-        Some(v) => shows_vector(alloc, &v, text),
-        None => Ok(false),
-    }
-}
-
-fn shows_vector(alloc: Global, v: &RevVec, text: &str) -> Result<bool, AllocError>
-    ensures { IfOk result (λ b. IsTrue b ↔ (text.now ≡ vector_text v.now)) }
-{
-    let shown = vector_reply(alloc, v)?;
-    Ok(shown.as_str() == text)
 }

@@ -1,4 +1,5 @@
-// What the commands of the cluster, queries and those of observation may be answered with.
+// What the commands of the cluster, queries and those of observation may be answered with, where the
+// base hasn't moved.
 ghost use Rattle.std.specs.Prelude.{◌≡◌, ◌↔◌, ◌+◌, ◌||◌, IfErr, IfOk, IsTrue, None, OnOk, false, reverse, slice_get};
 ghost use Rattle.std.specs.Option.{option_map_or};
 ghost use Rattle.jr_items.specs.Refusals.{IsTheRefusal, no_checkpoint, unsupported};
@@ -7,7 +8,7 @@ ghost use Rattle.jcr_law.specs.State.{call_of};
 ghost use Rattle.jcr_law.specs.Tasks.{split_refusal};
 ghost use Rattle.jcr_past.specs.Shown.{is_refusal};
 ghost use Rattle.oak_machine.specs.History.{history_of};
-ghost use Rattle.jcr_eval.specs.Said.{has_in, has_out, has_sweep, is_own, refuses_checkpoint, refuses_id, refuses_split, says_attach, says_checkpoint, says_collect, says_detach, says_in, says_observe, says_out, says_recover, says_release, says_split, says_stop, says_sweep, shows_checkpoint, shows_kept, shows_vector};
+ghost use Rattle.jcr_eval.specs.Said.{has_in, has_out, has_sweep, is_own, refuses_checkpoint, refuses_id, refuses_split, says_checkpoint, says_collect, says_in, says_observe, says_out, says_recover, says_release, says_split, says_stop, says_sweep, shows_checkpoint, shows_kept};
 ghost use Rattle.jcr_eval.specs.TaskCauses.{TaskCause};
 
 use crate::events::events_says;
@@ -15,9 +16,9 @@ use crate::queries::query_says;
 use jcr_call::next_id;
 use jcr_law::JcrLaw;
 use jcr_past::{
-    before_turn, call_of, detached_since, has_attached, has_collection, has_found_stopped, has_in,
-    has_kept, has_missed, has_out, has_pin, has_recovery, has_released, has_split, has_stop,
-    has_sweep, is_done, is_refusal, is_text, is_vector,
+    before_turn, call_of, has_collection, has_found_stopped, has_in, has_kept, has_missed, has_out,
+    has_pin, has_recovery, has_released, has_split, has_stop, has_sweep, is_done, is_refusal,
+    is_text,
 };
 use jcr_ref::MAX_IDS;
 use jcr_trans::Command;
@@ -26,7 +27,7 @@ use jr_path::{Path, Text};
 use jr_rev::RevVec;
 use jr_tree::{Refusal, Tree, Who};
 use oak_machine::{Event, Journal};
-use oak_past::{base_of, local, published, was_stopped};
+use oak_past::{local, published, was_stopped};
 use std::alloc::{AllocError, Global};
 
 // Whether a text is a reply to such a command, whose causes are its own.
@@ -46,14 +47,13 @@ pub(crate) fn task_says(
         Command::BackRead => in_says(alloc, journal, session, text),
         Command::Sweep => Ok(sweep_says(journal, session, text)),
         Command::Checkpoint => checkpoint_says(alloc, law, journal, session, text),
-        Command::Attach(id) => attach_says(alloc, journal, session, id, text),
+        Command::Attach(id) => refuses_checkpoint(alloc, journal, session, id, text),
         Command::Release(id) => release_says(alloc, journal, session, id, text),
-        Command::Detach => detach_says(alloc, journal, session, text),
         Command::Split(path) => split_says(alloc, law, journal, session, path, text),
         Command::Collect => collect_says(alloc, journal, session, text),
         Command::Stop(cluster) => any_stop_says(alloc, journal, session, *cluster, text),
         Command::Recover(cluster) => any_recover_says(alloc, journal, session, *cluster, text),
-        Command::Observe(_, _, _) => Ok(observe_says(journal, session, text)),
+        Command::Observe(path, _, _) => observe_says(alloc, journal, session, path, text),
         Command::Events => events_says(alloc, law, journal, session, text),
         Command::Query(query, vars) => query_says(alloc, law, journal, session, query, vars, text),
         _ => Ok(false),
@@ -198,31 +198,6 @@ fn check_id(alloc: Global, who: &Who) -> Result<(), Refusal>
     Ok(())
 }
 
-fn attach_says(
-    alloc: Global,
-    journal: &Journal,
-    session: u32,
-    id: &Text,
-    text: &str,
-) -> Result<bool, AllocError>
-    ensures { IfOk result (λ b. b ≡ says_attach (history_of journal.now) session id.now text.now) }
-{
-    let events = journal.events.as_slice();
-    let shown = shows_vector(alloc, text, base_of(events, session))?;
-    let refused = refuses_checkpoint(alloc, journal, session, id, text)?;
-    Ok((has_attached(events, session, id) && shown) || refused)
-}
-
-// Whether the text shows the vector, if there is one.
-fn shows_vector(alloc: Global, text: &str, found: Option<RevVec>) -> Result<bool, AllocError>
-    ensures { IfOk result (λ b. b ≡ shows_vector text.now found) }
-{
-    match found {
-        Some(v) => is_vector(alloc, text, &v),
-        None => Ok(false),
-    }
-}
-
 fn refuses_checkpoint(
     alloc: Global,
     journal: &Journal,
@@ -257,21 +232,6 @@ fn release_says(
     let events = journal.events.as_slice();
     let refused = refuses_checkpoint(alloc, journal, session, id, text)?;
     Ok((has_released(events, session, id) && is_done(text)) || refused)
-}
-
-fn detach_says(
-    alloc: Global,
-    journal: &Journal,
-    session: u32,
-    text: &str,
-) -> Result<bool, AllocError>
-    ensures { IfOk result (λ b. b ≡ says_detach (history_of journal.now) session text.now) }
-{
-    shows_vector(
-        alloc,
-        text,
-        detached_since(journal.events.as_slice(), session),
-    )
 }
 
 fn split_says(
@@ -425,8 +385,18 @@ fn recover_says(
     Ok(has_recovery(events, session, cluster, text) || refused)
 }
 
-fn observe_says(journal: &Journal, session: u32, text: &str) -> bool
-    ensures { result ≡ says_observe (history_of journal.now) session text.now }
+fn observe_says(
+    alloc: Global,
+    journal: &Journal,
+    session: u32,
+    path: &Path,
+    text: &str,
+) -> Result<bool, AllocError>
+    ensures { IfOk result (λ b. b
+        ≡ says_observe (history_of journal.now) session path.now text.now) }
 {
-    has_pin(journal.events.as_slice(), session) && is_done(text)
+    match check_limits(alloc, path) {
+        Ok(()) => Ok(has_pin(journal.events.as_slice(), session) && is_done(text)),
+        Err(refusal) => is_refusal(alloc, text, &refusal),
+    }
 }

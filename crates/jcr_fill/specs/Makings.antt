@@ -39,9 +39,10 @@ with_node steps p f = record { steps = with_step steps p (Some f.node); ids = f.
 abbrev pub unknown_type : List TypeDef → Name → Option Refusal
 unknown_type types n = when (is_none (type_named types n)) (no_type n)
 
--- why a child of that type can't be made at a path
+-- why a child of that type can't be made at a path: nobody registered the type, or else the path is
+-- over a limit
 abbrev pub child_refusal : List TypeDef → Path → (type : Name) → Option Refusal
-child_refusal types p type = first_some (too_deep p ∷ too_long p ∷ unknown_type types type ∷ [])
+child_refusal types p type = first_some (unknown_type types type ∷ too_deep p ∷ too_long p ∷ [])
 
 -- a child of that name and type, where it isn't there
 abbrev pub absent_child : View → Steps → Path → Name → (type : Name) → Option MissingChild

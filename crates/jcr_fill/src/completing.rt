@@ -36,8 +36,8 @@ impl Drop for MissingChild {
     }
 }
 
-/// Puts a node with all that belongs to it (JSR 283, 3.7.2.3 Auto-Created). Refused with 15 where an identifier or the
-/// path of a child is over a limit, with 3 where nobody registered a child's type.
+/// Puts a node with all that belongs to it (JSR 283, 3.7.2.3 Auto-Created). Refused with 15 where an identifier is over
+/// the limit; for a child with 3 where nobody registered its type, then with 15 where its path is over a limit.
 pub fn complete(
     alloc: Global,
     types: &Registry,
@@ -397,14 +397,15 @@ fn absent_child(
     Ok(Some(MissingChild { path, node_type }))
 }
 
-// What is asked of a child that is to be made.
+// What is asked of a child that is to be made: its type first, the limits of its path last.
+#[tactic(auto, using(jcr_write::proofs::Due::first_here, jcr_write::proofs::Due::rest_result, jcr_write::proofs::Due::rest_none))]
 fn check_child(alloc: Global, types: &Registry, child: &MissingChild) -> Result<(), Refusal>
     ensures ok { OnOk result (child_refusal types.now child.now.path child.now.node_type ≡ None) }
     ensures err { IfErr result (IsTheRefusal
         (child_refusal types.now child.now.path child.now.node_type)) }
 {
-    match check_limits(alloc, &child.path) {
-        Ok(()) => check_type(alloc, types, &child.node_type),
+    match check_type(alloc, types, &child.node_type) {
+        Ok(()) => check_limits(alloc, &child.path),
         Err(refusal) => Err(refusal),
     }
 }

@@ -13,7 +13,7 @@ use Rattle.jr_value.specs.declared.value.Value.TheVariants as value
 use Rattle.jr_tree.specs.declared.tree.Node.{Node}
 use Rattle.jr_tree.specs.Trees.{Nodes, subtree_of}
 use Rattle.jr_items.specs.Names.{primary_type, mixin_types, uuid, frozen_type, frozen_primary_type, frozen_mixin_types, frozen_uuid}
-use Rattle.jr_items.specs.Items.{first_of, is_versionable, one_text, property_of, same_name, same_path}
+use Rattle.jr_items.specs.Items.{first_of, is_versionable, property_of, same_name, same_path}
 use Rattle.jr_types.specs.declared.TypeDef.{TypeDef}
 use Rattle.jcr_frozen.specs.declared.attributes.Asked.TheVariants as asked
 use Rattle.jcr_frozen.specs.declared.frozen.Share.{Share}
@@ -70,16 +70,13 @@ abbrev pub with_property : List (Name × Property) → Name → Option Property 
 with_property props n None = props
 with_property props n (Some x) = insert_entry name_cmp props n x
 
--- a node's identifier, where its `jcr:uuid` is one text
-abbrev pub frozen_identifier : Node → Option Property
-frozen_identifier node = option_map (λ id. Single (value.Str id)) (one_text (property_of node uuid))
-
--- what each frozen node has for itself: its type, and the node's type, mixins and identifier under other names
+-- what each frozen node has for itself: its type, and the node's type, mixins and `jcr:uuid`, of any
+-- kind, under other names
 abbrev pub with_own : Node → List (Name × Property) → List (Name × Property)
 with_own node props =
     let typed = insert_entry name_cmp props primary_type (Single (value.Name frozen_type)) in
     let told = with_property (with_property typed frozen_primary_type (property_of node primary_type)) frozen_mixin_types (property_of node mixin_types) in
-    with_property told frozen_uuid (frozen_identifier node)
+    with_property told frozen_uuid (property_of node uuid)
 
 -- the properties of a node's frozen node
 abbrev pub frozen_props : List TypeDef → Node → List (Name × Property)

@@ -1,18 +1,14 @@
 // Frozen nodes: what a version keeps of a node, and what forbids its check-in.
 ghost use Rattle.std.specs.Prelude.{◌≡◌, ◌++◌, ◌∷◌, [], false, IfOk, OnOk, drop, length};
-ghost use Rattle.std.specs.BTreeMap.{insert_entry};
 ghost use Rattle.std.specs.Option.{option_copied, option_map_or};
-ghost use Rattle.jr_path.specs.Names.{name_cmp, parent_of};
-ghost use Rattle.jr_value.specs.declared.value.Property.TheVariants.{Single};
-ghost use Rattle.jr_value.specs.declared.value.Value.TheVariants as value;
+ghost use Rattle.jr_path.specs.Names.{parent_of};
 ghost use Rattle.jr_items.specs.Items.{is_versionable, property_of};
 ghost use Rattle.jr_items.specs.Own.{own_name};
-ghost use Rattle.jr_items.specs.Names.{frozen_uuid};
-ghost use Rattle.jcr_frozen.specs.Frozen.{aborting, aborting_at, aborting_property, frozen_copy, frozen_identifier, frozen_tree, is_aborting, is_copied, is_frozen_along, is_frozen_down, is_frozen_name, is_frozen_with, is_in_share, is_type_name, is_unkept, share_of, with_own, with_property, with_in_share};
+ghost use Rattle.jcr_frozen.specs.Frozen.{aborting, aborting_at, aborting_property, frozen_copy, frozen_tree, is_aborting, is_copied, is_frozen_along, is_frozen_down, is_frozen_name, is_frozen_with, is_in_share, is_type_name, is_unkept, share_of, with_own, with_property, with_in_share};
 
 use crate::attributes::{Asked, node_has, property_has};
-use jr_items::{OwnName, has_mixin, one_text};
-use jr_path::{DeepCopy, Item, Keyed, Name, Path, Text};
+use jr_items::{OwnName, has_mixin};
+use jr_path::{DeepCopy, Item, Keyed, Name, Path};
 use jr_tree::{Node, Tree};
 use jr_types::Registry;
 use jr_value::{Property, Value};
@@ -253,7 +249,8 @@ pub fn is_frozen_name(name: &Name) -> bool
         || OwnName::FrozenUuid.is(name)
 }
 
-// The frozen node's own type, and the node's type, mixins and identifier under other names.
+// The frozen node's own type, and the node's type, mixins and `jcr:uuid`, of any kind, under other
+// names.
 fn put_own(props: &mut Keyed<Name, Property>, alloc: Global, node: &Node) -> Result<(), AllocError>
     ensures { OnOk result (props.new ≡ with_own node.now props.old) }
 {
@@ -274,7 +271,7 @@ fn put_own(props: &mut Keyed<Name, Property>, alloc: Global, node: &Node) -> Res
         OwnName::MixinTypes,
         OwnName::FrozenMixinTypes,
     )?;
-    put_identifier(props, alloc, node)
+    put_told(props, alloc, node, OwnName::Uuid, OwnName::FrozenUuid)
 }
 
 /// Puts a property of the node, if it has it, under another name.
@@ -304,35 +301,6 @@ pub fn put_property(
         Some(property) => props.put(name.name(alloc)?, property.copy()?),
         None => Ok(()),
     }
-}
-
-// The node's identifier, where its `jcr:uuid` is one text.
-fn put_identifier(
-    props: &mut Keyed<Name, Property>,
-    alloc: Global,
-    node: &Node,
-) -> Result<(), AllocError>
-    ensures { OnOk result (props.new ≡ with_property props.old frozen_uuid (frozen_identifier node.now)) }
-{
-    let uuid = OwnName::Uuid.name(alloc)?;
-    match one_text(node.props.get(&uuid)) {
-        Some(id) => put_text(props, alloc, OwnName::FrozenUuid, id),
-        None => Ok(()),
-    }
-}
-
-// Puts a text.
-fn put_text(
-    props: &mut Keyed<Name, Property>,
-    alloc: Global,
-    name: OwnName,
-    text: &str,
-) -> Result<(), AllocError>
-    ensures { OnOk result (props.new ≡ insert_entry name_cmp props.old (own_name name) (Single (value.Str text.now))) }
-{
-    let key = name.name(alloc)?;
-    let text = Text::copy_of(alloc, text)?;
-    props.put(key, Property::Single(Value::Str(text)))
 }
 
 /// The first item that forbids the check-in of a node, in path order, a node before its properties.

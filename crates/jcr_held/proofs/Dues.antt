@@ -21,7 +21,8 @@ use Rattle.jcr_call.specs.Dues.{due_at_once, due_of}
 use Rattle.jcr_call.specs.Footings.{IsOn}
 use Rattle.jcr_call.proofs.AtOnce.{at_once}
 use Rattle.jcr_held.specs.declared.held.Held.{Held}
-use Rattle.jcr_held.specs.Comes.{ComesTo, commits}
+use Rattle.jcr_law.specs.Makes.{commits}
+use Rattle.jcr_held.specs.Comes.{ComesTo}
 use Rattle.jcr_held.specs.Holds.{Holds, asks_for}
 use Rattle.jcr_held.proofs.Holding.{all_known_of, pending_changes}
 

@@ -12,7 +12,7 @@ use Rattle.jcr_view.specs.Outcomes.{is_viewed}
 use Rattle.jcr_view.specs.Parts.{IsPartOf}
 use Rattle.jcr_view.specs.Rebases.{tree_again}
 use Rattle.jcr_law.specs.State.{Call}
-use Rattle.jcr_held.specs.Comes.{commits}
+use Rattle.jcr_law.specs.Makes.{commits}
 use Rattle.jcr_held.specs.References.{HoldsReferences, are_asked}
 use Rattle.jcr_held.specs.declared.held.Held.{Held}
 

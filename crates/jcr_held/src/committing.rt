@@ -11,7 +11,8 @@ ghost use Rattle.jcr_call.specs.Footings.{IsAsKnown, IsOn};
 ghost use Rattle.jcr_law.specs.Commits.{edit_due};
 ghost use Rattle.jcr_law.specs.Queries.{QueryAnswers};
 ghost use Rattle.jcr_law.specs.State.{Call};
-ghost use Rattle.jcr_held.specs.Comes.{ComesTo, commits};
+ghost use Rattle.jcr_law.specs.Makes.{commits};
+ghost use Rattle.jcr_held.specs.Comes.{ComesTo};
 ghost use Rattle.jcr_held.specs.Holds.{Holds, IsReady};
 
 use crate::Held;

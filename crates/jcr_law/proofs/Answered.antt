@@ -25,7 +25,7 @@ use Rattle.jcr_law.specs.AfterDraw.{AfterDraw, accepted, clash_told, stop_told, 
 use Rattle.jcr_law.specs.Built.{Asked, Allowed, Unsupported, asked}
 use Rattle.jcr_law.specs.Commits.{committed_answer, edit_due}
 use Rattle.jcr_law.specs.Lasting.{says_of, starts_of}
-use Rattle.jcr_law.specs.Law.{MaySay, SaysBy, asked_by, barred, stopped, memory, viewed, head, queried, refreshed, refused_edit, unwritten, committed, clashed, observing, uncursored, observed, told, learned, swept, kept, uncounted, attached, released, unattached, unreleased, detached, split, unsplit, collected, stopping, unstopped, restopped, recovered, unrecovered}
+use Rattle.jcr_law.specs.Law.{MaySay, SaysBy, asked_by, barred, stopped, memory, half_detached, viewed, head, queried, refreshed, refused_edit, unwritten, committed, clashed, observing, unobserved, uncursored, observed, told, learned, swept, kept, uncounted, attached, released, unattached, unreleased, detached, split, unsplit, collected, stopping, unstopped, restopped, recovered, unrecovered}
 use Rattle.jcr_law.specs.Since.{before_turn, draw_among, draw_since, is_beginning}
 use Rattle.jcr_law.specs.State.{Call, command_at}
 
@@ -147,42 +147,44 @@ module _ (law : JcrLaw) (h : History) (s : ℕ) (m : Command) (d : Draw) (draw :
   other n e none = absurd (false≢true (ap is_some (sym none ∙ (ap (edit_due c) (same_command n e) ∙ due))))
 
   answers : (a : Asked) (text : List ℕ) → a ≡ Allowed m → MaySay law h s a text → AfterDraw law h s m d text
-  answers _ _ e (barred n) = absurd (false≢true (ap (λ (a : Asked). is_some (run_by a)) e))
+  answers _ _ e (barred n unmoved) = absurd (false≢true (ap (λ (a : Asked). is_some (run_by a)) e))
   answers _ _ e (stopped a k p at is) = stop_told k p at is
-  answers _ _ e (memory a idle none) = unmade (ap (λ (o : Option Revision). option_map_or (is_committed h.past) o false) (sym drawn) ∙ none)
-  answers _ _ e (viewed n x is call) = absurd (false≢true (sym (due_unviewed c n (Ok ws) (ap (edit_due c) (same_command n e) ∙ due)) ∙ is))
-  answers _ _ e (head v is) = other command.Head e refl
-  answers _ _ e (queried text vars x reply call is) = other (command.Query text vars) e refl
+  answers _ _ e (memory a idle none unmoved) = unmade (ap (λ (o : Option Revision). option_map_or (is_committed h.past) o false) (sym drawn) ∙ none)
+  answers _ _ e (half_detached v idle moved none) = other command.Detach e refl
+  answers _ _ e (viewed n x is call unmoved) = absurd (false≢true (sym (due_unviewed c n (Ok ws) (ap (edit_due c) (same_command n e) ∙ due)) ∙ is))
+  answers _ _ e (head v is unmoved) = other command.Head e refl
+  answers _ _ e (queried text vars x reply call is unmoved) = other (command.Query text vars) e refl
   answers _ _ e (refreshed keep v is) = other (command.Refresh keep) e refl
-  answers _ _ e (refused_edit n x y r none call is cause) = undrawn none
-  answers _ _ e (unwritten n x none call is) = undrawn none
-  answers _ _ e (committed n x y v is ended made moved seen call) =
+  answers _ _ e (refused_edit n x y r none call is cause unmoved) = undrawn none
+  answers _ _ e (unwritten n x none call is unmoved) = undrawn none
+  answers _ _ e (committed n x y v is begun ended made moved seen call) =
       subst (λ (z : Draw). AfterDraw law h s m d (answer_text (committed_answer x (tree_at h.begin h.past z.base) z.revision n))) (sym (same_draw y is))
       (subst (λ (q : Command). AfterDraw law h s m d (answer_text (committed_answer x (tree_at h.begin h.past d.base) d.revision q))) (sym (same_command n e))
       (accepted x (subst (λ (z : Draw). is_committed h.past z.revision ≡ true) (same_draw y is) made) call))
-  answers _ _ e (clashed n r o item is ended refused) =
+  answers _ _ e (clashed n r o item is ended refused unmoved) =
       clash_told item o (subst (λ (q : Revision). refusal_of h.past q ≡ Some (item, o)) (same_drawn r is) refused)
-  answers _ _ e (observing p deep mask is) = other (command.Observe p deep mask) e refl
-  answers _ _ e (uncursored x call none) = other command.Events e refl
-  answers _ _ e (observed x call is) = other command.Events e refl
-  answers _ _ e (told k r at is most) = other command.BackWrite e refl
-  answers _ _ e (learned k v at is knows) = other command.BackRead e refl
-  answers _ _ e (swept k r at is most) = other command.Sweep e refl
-  answers _ _ e (kept x call is) = other command.Checkpoint e refl
-  answers _ _ e (uncounted x r call is) = other command.Checkpoint e refl
+  answers _ _ e (observing p deep mask within is unmoved) = other (command.Observe p deep mask) e refl
+  answers _ _ e (unobserved p deep mask r is unmoved) = other (command.Observe p deep mask) e refl
+  answers _ _ e (uncursored x call none unmoved) = other command.Events e refl
+  answers _ _ e (observed x call is unmoved) = other command.Events e refl
+  answers _ _ e (told k r at is most unmoved) = other command.BackWrite e refl
+  answers _ _ e (learned k v at is knows unmoved) = other command.BackRead e refl
+  answers _ _ e (swept k r at is most unmoved) = other command.Sweep e refl
+  answers _ _ e (kept x call is unmoved) = other command.Checkpoint e refl
+  answers _ _ e (uncounted x r call is unmoved) = other command.Checkpoint e refl
   answers _ _ e (attached id v is base) = other (command.Attach id) e refl
-  answers _ _ e (released id is) = other (command.Release id) e refl
-  answers _ _ e (unattached id is) = other (command.Attach id) e refl
-  answers _ _ e (unreleased id is) = other (command.Release id) e refl
+  answers _ _ e (released id is unmoved) = other (command.Release id) e refl
+  answers _ _ e (unattached id is unmoved) = other (command.Attach id) e refl
+  answers _ _ e (unreleased id is unmoved) = other (command.Release id) e refl
   answers _ _ e (detached v is) = other command.Detach e refl
-  answers _ _ e (split p x is) = other (command.Split p) e refl
-  answers _ _ e (unsplit p x r call is) = other (command.Split p) e refl
-  answers _ _ e (collected x is) = other command.Collect e refl
-  answers _ _ e (stopping k is) = other (command.Stop (Some k)) e refl
-  answers _ _ e (unstopped k at) = other (command.Stop (Some k)) e refl
-  answers _ _ e (restopped k is) = other (command.Stop (Some k)) e refl
-  answers _ _ e (recovered k r is) = other (command.Recover (Some k)) e refl
-  answers _ _ e (unrecovered k is) = other (command.Recover (Some k)) e refl
+  answers _ _ e (split p x is unmoved) = other (command.Split p) e refl
+  answers _ _ e (unsplit p x r call is unmoved) = other (command.Split p) e refl
+  answers _ _ e (collected x is unmoved) = other command.Collect e refl
+  answers _ _ e (stopping k is unmoved) = other (command.Stop (Some k)) e refl
+  answers _ _ e (unstopped k at unmoved) = other (command.Stop (Some k)) e refl
+  answers _ _ e (restopped k is unmoved) = other (command.Stop (Some k)) e refl
+  answers _ _ e (recovered k r is unmoved) = other (command.Recover (Some k)) e refl
+  answers _ _ e (unrecovered k is unmoved) = other (command.Recover (Some k)) e refl
 
 -- a reply that is next, of a command for which a commit was drawn
 pub answered_after : (law : JcrLaw) (h : History) (s : ℕ) (m : Command) (d : Draw) (text : List ℕ)

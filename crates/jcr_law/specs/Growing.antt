@@ -31,9 +31,9 @@ use Rattle.jcr_trans.specs.declared.command.Command.TheVariants as command
 use Rattle.jcr_law.specs.declared.law.JcrLaw.{JcrLaw}
 use Rattle.jcr_law.specs.Built.{Asked, Allowed, asked}
 use Rattle.jcr_law.specs.Commits.{committed_answer, edit_due}
-use Rattle.jcr_law.specs.Law.{MayStart, MaySay, IsNext, asked_by, barred, stopped, memory, viewed, head, queried, refreshed, refused_edit, unwritten, committed, clashed, observing, uncursored, observed, told, learned, swept, kept, uncounted, attached, released, unattached, unreleased, detached, split, unsplit, collected, stopping, unstopped, restopped, recovered, unrecovered}
+use Rattle.jcr_law.specs.Law.{MayStart, MaySay, IsNext, asked_by, barred, stopped, memory, half_detached, viewed, head, queried, refreshed, refused_edit, unwritten, committed, clashed, observing, unobserved, uncursored, observed, told, learned, swept, kept, uncounted, attached, released, unattached, unreleased, detached, split, unsplit, collected, stopping, unstopped, restopped, recovered, unrecovered}
 use Rattle.jcr_law.specs.Queries.{QueryAnswers, events_reply, events_since}
-use Rattle.jcr_law.specs.Since.{before_turn, came, detached_among, draw_since, is_pinning, stop_position}
+use Rattle.jcr_law.specs.Since.{before_turn, came, detached_among, draw_since, is_pinning, is_unmoved, stop_position}
 use Rattle.jcr_law.specs.declared.state.Cursor.{Cursor}
 use Rattle.jcr_law.specs.declared.state.State.{State}
 use Rattle.jcr_law.specs.State.{Call, call_at, call_of, command_at, state_of}
@@ -52,6 +52,7 @@ pub record HasAllOf (law : JcrLaw) (begin : Begin) (s : ℕ) (old new : Past) : 
   pub base : base_of new s ≡ base_of old s
   pub state : state_of law begin new s ≡ state_of law begin old s
   pub before : before_turn new s ≡ before_turn old s
+  pub still : is_unmoved new s ≡ is_unmoved old s
   pub detached : detached_among (since new s) s ≡ detached_among (since old s) s
   pub edits : (v : RevVec) → base_of old s ≡ Some v → seen_edits new v ≡ seen_edits old v
   pub draw_edits : (d : Draw) → draw_since old s ≡ Some d → seen_edits new d.base ≡ seen_edits old d.base
@@ -137,6 +138,7 @@ module _ (law : JcrLaw) (clusters : ℕ) (sessions : List ℕ) (begin : Begin) (
     next = record { next = ap (command_at law s) grows.index ∙ may.next.next; call = call_same ∙ may.next.call };
     allowed = asked_same may.command ∙ may.allowed;
     first = grows.drawn ∙ may.first;
+    unmoved = grows.still ∙ may.unmoved;
     due = may.due;
     some = may.some;
     plan = may.plan;
@@ -156,48 +158,50 @@ module _ (law : JcrLaw) (clusters : ℕ) (sessions : List ℕ) (begin : Begin) (
       by (Some v) h = ap (λ (x : Option Call). option_map (λ y. y.who.base) x) h
 
   pub says_grow : (a : Asked) (text : List ℕ) → MaySay law at_old s a text → MaySay law at_new s a text
-  says_grow _ _ (barred m) = barred m
+  says_grow _ _ (barred m unmoved) = barred m (grows.still ∙ unmoved)
   says_grow _ _ (stopped a k p at is) = stopped a k p at (grows.position k p is)
-  says_grow _ _ (memory a idle none) = memory a (grows.idle idle)
-      (ap (λ (o : Option Revision). option_map_or (is_committed new) o false) grows.drawn ∙ grows.uncommitted idle none)
-  says_grow _ _ (viewed m c is call) = viewed m c is (call_same ∙ call)
-  says_grow _ _ (head v is) = head v (grows.base ∙ is)
-  says_grow _ _ (queried text vars c reply call answers) = queried text vars c reply (call_same ∙ call) answers
+  says_grow _ _ (memory a idle none unmoved) = memory a (grows.idle idle)
+      (ap (λ (o : Option Revision). option_map_or (is_committed new) o false) grows.drawn ∙ grows.uncommitted idle none) (grows.still ∙ unmoved)
+  says_grow _ _ (half_detached v idle moved none) = half_detached v (grows.idle idle) (grows.refreshed ∙ moved) (grows.detached ∙ none)
+  says_grow _ _ (viewed m c is call unmoved) = viewed m c is (call_same ∙ call) (grows.still ∙ unmoved)
+  says_grow _ _ (head v is unmoved) = head v (grows.base ∙ is) (grows.still ∙ unmoved)
+  says_grow _ _ (queried text vars c reply call answers unmoved) = queried text vars c reply (call_same ∙ call) answers (grows.still ∙ unmoved)
   says_grow _ _ (refreshed keep v is) = refreshed keep v (grows.refreshed ∙ is)
-  says_grow _ _ (refused_edit m c due r none call is cause) = refused_edit m c due r (grows.drawn ∙ none) (call_same ∙ call) is cause
-  says_grow _ _ (unwritten m c none call is) = unwritten m c (grows.drawn ∙ none) (call_same ∙ call) is
-  says_grow _ _ (committed m c d v draw ended made moved seen call) =
+  says_grow _ _ (refused_edit m c due r none call is cause unmoved) = refused_edit m c due r (grows.drawn ∙ none) (call_same ∙ call) is cause (grows.still ∙ unmoved)
+  says_grow _ _ (unwritten m c none call is unmoved) = unwritten m c (grows.drawn ∙ none) (call_same ∙ call) is (grows.still ∙ unmoved)
+  says_grow _ _ (committed m c d v draw begun ended made moved seen call) =
       subst (λ (t : Nodes). MaySay law at_new s (Allowed m) (answer_text (committed_answer c t d.revision m)))
       (trees_same begin old new d.base (grows.draw_edits d draw))
-      (committed m c d v (grows.draw ∙ draw) (grows.ended d.revision ended) (grows.committed d.revision made) (grows.refreshed ∙ moved) seen (call_same ∙ call))
-  says_grow _ _ (clashed m r o item drawn ended is) = clashed m r o item (grows.drawn ∙ drawn) (grows.ended r ended) (grows.refusal r ended ∙ is)
-  says_grow _ _ (observing p deep mask is) = observing p deep mask (grows.pinned is)
-  says_grow _ _ (uncursored c call none) = uncursored c (call_same ∙ call) none
-  says_grow _ _ (observed c call is) =
+      (committed m c d v (grows.draw ∙ draw) (ap (λ (p : Past). base_of p s) grows.before ∙ begun) (grows.ended d.revision ended) (grows.committed d.revision made) (grows.refreshed ∙ moved) seen (call_same ∙ call))
+  says_grow _ _ (clashed m r o item drawn ended is unmoved) = clashed m r o item (grows.drawn ∙ drawn) (grows.ended r ended) (grows.refusal r ended ∙ is) (grows.still ∙ unmoved)
+  says_grow _ _ (observing p deep mask within is unmoved) = observing p deep mask within (grows.pinned is) (grows.still ∙ unmoved)
+  says_grow _ _ (unobserved p deep mask r is unmoved) = unobserved p deep mask r is (grows.still ∙ unmoved)
+  says_grow _ _ (uncursored c call none unmoved) = uncursored c (call_same ∙ call) none (grows.still ∙ unmoved)
+  says_grow _ _ (observed c call is unmoved) =
       subst (λ (es : List JcrEvent). MaySay law at_new s (Allowed command.Events) (events_reply es))
       (events_same c.who.base (base_of_call c call) c.state.cursor)
-      (observed c (call_same ∙ call) (grows.pinned is))
-  says_grow _ _ (told k r at is most) = told k r at (grows.outs k r is)
-      (ap (λ (p : Past). is_at_most (local begin p k) r) grows.before ∙ most)
-  says_grow _ _ (learned k v at is knows) = learned k v at (grows.has (event.In k v) is)
-      (ap (λ (p : Past). knows_published clusters begin p k v) grows.before ∙ knows)
-  says_grow _ _ (swept k r at is most) = swept k r at (grows.sweeps k r is)
-      (ap (λ (p : Past). is_at_most (published begin p k) r) grows.before ∙ most)
-  says_grow _ _ (kept c call is) = kept c (call_same ∙ call) (grows.has _ is)
-  says_grow _ _ (uncounted c r call is) = uncounted c r (call_same ∙ call) is
+      (observed c (call_same ∙ call) (grows.pinned is) (grows.still ∙ unmoved))
+  says_grow _ _ (told k r at is most unmoved) = told k r at (grows.outs k r is)
+      (ap (λ (p : Past). is_at_most (local begin p k) r) grows.before ∙ most) (grows.still ∙ unmoved)
+  says_grow _ _ (learned k v at is knows unmoved) = learned k v at (grows.has (event.In k v) is)
+      (ap (λ (p : Past). knows_published clusters begin p k v) grows.before ∙ knows) (grows.still ∙ unmoved)
+  says_grow _ _ (swept k r at is most unmoved) = swept k r at (grows.sweeps k r is)
+      (ap (λ (p : Past). is_at_most (published begin p k) r) grows.before ∙ most) (grows.still ∙ unmoved)
+  says_grow _ _ (kept c call is unmoved) = kept c (call_same ∙ call) (grows.has _ is) (grows.still ∙ unmoved)
+  says_grow _ _ (uncounted c r call is unmoved) = uncounted c r (call_same ∙ call) is (grows.still ∙ unmoved)
   says_grow _ _ (attached id v is base) = attached id v (grows.has (event.Attach s id) is) (grows.base ∙ base)
-  says_grow _ _ (released id is) = released id (grows.has (event.Release id) is)
-  says_grow _ _ (unattached id is) = unattached id (grows.missed id is)
-  says_grow _ _ (unreleased id is) = unreleased id (grows.missed id is)
+  says_grow _ _ (released id is unmoved) = released id (grows.has (event.Release id) is) (grows.still ∙ unmoved)
+  says_grow _ _ (unattached id is unmoved) = unattached id (grows.missed id is) (grows.still ∙ unmoved)
+  says_grow _ _ (unreleased id is unmoved) = unreleased id (grows.missed id is) (grows.still ∙ unmoved)
   says_grow _ _ (detached v is) = detached v (grows.detached ∙ is)
-  says_grow _ _ (split p e is) = split p e (grows.has (event.Split s p e) is)
-  says_grow _ _ (unsplit p c r call is) = unsplit p c r (call_same ∙ call) is
-  says_grow _ _ (collected x is) = collected x (grows.has (event.Collected s x) is)
-  says_grow _ _ (stopping k is) = stopping k (grows.stopped k is)
-  says_grow _ _ (unstopped k at) = unstopped k at
-  says_grow _ _ (restopped k is) = restopped k (grows.found k is)
-  says_grow _ _ (recovered k r is) = recovered k r (grows.recovers k r is)
-  says_grow _ _ (unrecovered k is) = unrecovered k (ap (λ (p : Past). is_stopped p k) grows.before ∙ is)
+  says_grow _ _ (split p e is unmoved) = split p e (grows.has (event.Split s p e) is) (grows.still ∙ unmoved)
+  says_grow _ _ (unsplit p c r call is unmoved) = unsplit p c r (call_same ∙ call) is (grows.still ∙ unmoved)
+  says_grow _ _ (collected x is unmoved) = collected x (grows.has (event.Collected s x) is) (grows.still ∙ unmoved)
+  says_grow _ _ (stopping k is unmoved) = stopping k (grows.stopped k is) (grows.still ∙ unmoved)
+  says_grow _ _ (unstopped k at unmoved) = unstopped k at (grows.still ∙ unmoved)
+  says_grow _ _ (restopped k is unmoved) = restopped k (grows.found k is) (grows.still ∙ unmoved)
+  says_grow _ _ (recovered k r is unmoved) = recovered k r (grows.recovers k r is) (grows.still ∙ unmoved)
+  says_grow _ _ (unrecovered k is unmoved) = unrecovered k (ap (λ (p : Past). is_stopped p k) grows.before ∙ is) (grows.still ∙ unmoved)
 
   -- what a command may be answered with
   pub said_at : (m : Command) (text : List ℕ) → MaySay law at_old s (asked_by at_old s m) text → MaySay law at_new s (asked_by at_new s m) text

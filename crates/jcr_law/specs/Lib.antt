@@ -5,6 +5,7 @@ pub mod Commits
 pub mod Growing
 pub mod Lasting
 pub mod Law
+pub mod Makes
 pub mod Passing
 pub mod Proper
 pub mod Queries

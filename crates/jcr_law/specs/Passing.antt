@@ -18,7 +18,7 @@ use Rattle.oak_machine.specs.Sessions.{is_stop_of, is_stopped, since}
 use Rattle.oak_machine.proofs.Induction.{neither, other}
 use Rattle.oak_machine.proofs.Stays.{any_later}
 use Rattle.jcr_law.specs.declared.law.JcrLaw.{JcrLaw}
-use Rattle.jcr_law.specs.Since.{before_turn, came, detached_among, draw_among, draw_since, is_beginning, stop_position}
+use Rattle.jcr_law.specs.Since.{before_turn, came, detached_among, draw_among, draw_since, is_beginning, is_move_of, is_unmoved, stop_position}
 use Rattle.jcr_law.specs.declared.state.State.{State}
 use Rattle.jcr_law.specs.State.{state_of}
 
@@ -49,6 +49,24 @@ since_stays whole (e ∷ added) past s h =
     let n = neither (is_event_of whole s e) _ h in
     other (is_beginning s e) [] (e ∷ since (added ++ past) s) (e ∷ (added ++ since past s)) (not_beginning whole s e n.0)
     (ap (λ (rest : Past). e ∷ rest) (since_stays whole added past s n.1))
+
+-- another session's event moves no base of s
+not_move : (whole : Past) (s : ℕ) (e : Event) → is_event_of whole s e ≡ false → is_move_of s e ≡ false
+not_move whole s (event.Refresh t v) h = h
+not_move whole s (event.Attach t id) h = h
+not_move whole s (event.Detach t) h = h
+not_move whole s e h = refl
+
+no_move : (whole added past : Past) (s : ℕ) → list_any (is_event_of whole s) added ≡ false → list_any (is_move_of s) (added ++ past) ≡ list_any (is_move_of s) past
+no_move whole [] past s h = refl
+no_move whole (e ∷ added) past s h =
+    let n = neither (is_event_of whole s e) _ h in
+    ap (λ (b : Bool). b || list_any (is_move_of s) (added ++ past)) (not_move whole s e n.0) ∙ no_move whole added past s n.1
+
+pub unmoved_stays : (whole added past : Past) (s : ℕ) → list_any (is_event_of whole s) added ≡ false → is_unmoved (added ++ past) s ≡ is_unmoved past s
+unmoved_stays whole added past s h =
+    ap (λ (p : Past). not (list_any (is_move_of s) p)) (since_stays whole added past s h)
+    ∙ ap not (no_move whole added (since past s) s h)
 
 -- what came since comes still
 pub came_stays : (test : Past → Event → Bool) (whole added past : Past) (s : ℕ) → list_any (is_event_of whole s) added ≡ false → came s test past ≡ true → came s test (added ++ past) ≡ true

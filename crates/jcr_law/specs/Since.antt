@@ -1,5 +1,6 @@
 -- What came since the last reply of a session, or since its login.
 use Rattle.std.specs.Prelude.{ℕ, Bool, true, false, cond, not, ◌&&◌, ◌||◌, ◌==◌, List, [], ◌∷◌, length, Option, None, Some}
+use Rattle.std.specs.List.{list_any}
 use Rattle.jr_rev.specs.declared.vector.RevVec.{RevVec}
 use Rattle.oak_machine.specs.declared.event.StepKind.TheVariants as kind
 use Rattle.oak_machine.specs.declared.event.Draw.{Draw}
@@ -31,6 +32,17 @@ draw_among (_ ∷ past) s = draw_among past s
 -- the draw that s made for the command that it has not answered yet
 abbrev pub draw_since : Past → ℕ → Option Draw
 draw_since past s = draw_among (since past s) s
+
+-- the base of s moves by the event, or its checkpoint is left
+abbrev pub is_move_of : ℕ → Event → Bool
+is_move_of s (event.Refresh t v) = t == s
+is_move_of s (event.Attach t id) = t == s
+is_move_of s (event.Detach t) = t == s
+is_move_of s _ = false
+
+-- the base of s hasn't moved since its command began that it has not answered yet
+abbrev pub is_unmoved : Past → ℕ → Bool
+is_unmoved past s = not (list_any (is_move_of s) (since past s))
 
 -- s made a step that moves a pin
 abbrev pub is_pinning : ℕ → Event → Bool

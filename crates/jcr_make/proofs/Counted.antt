@@ -1,10 +1,9 @@
 -- The node that becomes versionable, its identifier, and what counts for its history.
-use Rattle.std.proofs.Common.{◌≡◌, inl, inr, ℕ, Bool, true, false, cond, Option, None, Some, List, [], ◌∷◌, ◌++◌, refl, sym, ap, ◌∙◌, subst, is_some}
+use Rattle.std.proofs.Common.{◌≡◌, inl, inr, ℕ, Bool, true, false, cond, Option, None, Some, List, [], ◌∷◌, ◌++◌, refl, sym, ap, ◌∙◌, subst}
 use Rattle.std.specs.Prelude.{IfOk, Result, Ok, map}
 use Rattle.std.specs.BTreeMap.{insert_entry}
 use Rattle.std.specs.Option.{IfSome, option_and_then, option_map_or, unwrap_or}
 use Rattle.std.specs.Ordering.{eq_by_cmp, is_eq}
-use Rattle.std.proofs.lemmas.Bool.{false≢true}
 use Rattle.std.proofs.lemmas.Cmp.{nat_list_cmp_total, tied_itself}
 use Rattle.std.proofs.lemmas.Option.{none-some}
 use Rattle.jr_path.specs.Ids.{path_text}
@@ -32,9 +31,8 @@ use Rattle.jcr_fill.specs.Filled.{next_text}
 use Rattle.jcr_fill.specs.Kept.{IsOwnOrNext, IsPutWith}
 use Rattle.jcr_fill.specs.Makings.{Making}
 use Rattle.jcr_fill.proofs.Touched.{unless_holds}
-use Rattle.jcr_mixin.specs.declared.mixins.Mixing.{Mixing}
 use Rattle.jcr_mixin.specs.Commands.{lists_mixin, with_mixins}
-use Rattle.jcr_mixin.specs.Histories.{counting, history_by, is_identified, mixed, mixin_refusal, mixing, named_history, own_history, place_mixing, with_history, with_seen}
+use Rattle.jcr_mixin.specs.Histories.{counting, due_history, history_by, mixed, mixin_refusal, mixing, named_history, own_text, place_mixing, with_history, with_seen}
 
 -- ---- the node that gets a mixin
 
@@ -47,17 +45,17 @@ mixed_uuid node n = by (map value.Name (many_names (property_of node mixin_types
     by (x ∷ xs) = lookup-insert_entry name_cmp nat_list_cmp_total uuid mixin_types _ node.props
 
 -- what the node that is seen at p becomes by a mixin
-abbrev pub IsMixingAt : View → Steps → Path → Name → Mixing → Type 0
-IsMixingAt view steps p n x = (node : Node) × (drafted view steps p ≡ Some node) × (x ≡ record { node = mixed node n; identified = is_identified node })
+abbrev pub IsMixingAt : View → Steps → Path → Name → Node → Type 0
+IsMixingAt view steps p n x = (node : Node) × (drafted view steps p ≡ Some node) × (x ≡ mixed node n)
 
 pub placed : (types : List TypeDef) (view : View) (steps : Steps) (p : Path) (n : Name) → IfOk (place_mixing types view steps p n) (λ found. IfSome found (IsMixingAt view steps p n))
 placed types view steps p n =
     unless_holds (λ found. IfSome found (IsMixingAt view steps p n)) (path_refusal p) (of_node p (drafted view steps p) then) (by (drafted view steps p) refl)
   where
-    then : Node → Result (Option Mixing) Refusal
+    then : Node → Result (Option Node) Refusal
     then node = unless_refused (mixin_refusal types p node n) (Ok (mixing node n))
 
-    at : (node : Node) → drafted view steps p ≡ Some node → (b : Bool) → IfSome (cond b None (Some (record { node = mixed node n; identified = is_identified node }))) (IsMixingAt view steps p n)
+    at : (node : Node) → drafted view steps p ≡ Some node → (b : Bool) → IfSome (cond b None (Some (mixed node n))) (IsMixingAt view steps p n)
     at node e true = tt
     at node e false = (node, e, refl)
 
@@ -71,23 +69,31 @@ put_drafted who ids old view p m put = ap (λ (o : Option (Option Node)). unwrap
 
 -- ---- the identifier of the node once it was put
 
--- one that was there stays
-pub own_kept : (who : Who) (ids : ℕ) (old new : Option Property) → IsOwnOrNext who ids old new → is_some old ≡ true → new ≡ old
-own_kept who ids (Some x) new own there = own
-own_kept who ids None new own there = absurd (false≢true there)
+-- where the history of a node stands, by the identifier that it has
+abbrev pub own_history : Option Node → Option Path
+own_history node = option_and_then history_by (own_text node)
 
 -- what holds of the history that is due holds of the one by the text of the node's identifier
-pub of_due : (o : Option (List ℕ)) (next : List ℕ) (H : Path → Type 0) → IfSome (history_by (unwrap_or o next)) H → IfSome (option_and_then history_by o) H
+of_due : (o : Option (List ℕ)) (next : List ℕ) (H : Path → Type 0) → IfSome (history_by (unwrap_or o next)) H → IfSome (option_and_then history_by o) H
 of_due None next H h = tt
 of_due (Some id) next H h = h
 
 -- and so it does once the node was put
-pub own_due : (who : Who) (ids : ℕ) (old new : Option Property) (H : Path → Type 0) → IsOwnOrNext who ids old new
+own_due : (who : Who) (ids : ℕ) (old new : Option Property) (H : Path → Type 0) → IsOwnOrNext who ids old new
     → IfSome (history_by (unwrap_or (one_text old) (next_text who ids))) H → IfSome (option_and_then history_by (one_text new)) H
 own_due who ids (Some x) new H own due =
     subst (λ (o : Option Property). IfSome (option_and_then history_by (one_text o)) H) (sym own) (of_due (one_text (Some x)) (next_text who ids) H due)
 own_due who ids None new H (inl own) due = subst (λ (o : Option Property). IfSome (option_and_then history_by (one_text o)) H) (sym own) tt
 own_due who ids None new H (inr own) due = subst (λ (o : Option Property). IfSome (option_and_then history_by (one_text o)) H) (sym own) due
+
+pub mixed_due : (who : Who) (view : View) (p : Path) (n : Name) (m l : Making) (x : Node) (H : Path → Type 0) → IsMixingAt view m.steps p n x → IsPutWith who m.ids (property_of x uuid) p l
+    → IfSome (due_history who m.ids (drafted view m.steps p)) H → IfSome (own_history (drafted view l.steps p)) H
+mixed_due who view p n m l x H is put due =
+    subst (λ (o : Option Node). IfSome (own_history o) H) (sym (put_drafted who m.ids (property_of x uuid) view p l put))
+    (own_due who m.ids (property_of x uuid) (property_of put.0 uuid) H put.2
+    (subst (λ (o : Option Property). IfSome (history_by (unwrap_or (one_text o) (next_text who m.ids))) H)
+    (sym (ap (λ (y : Node). property_of y uuid) is.2 ∙ mixed_uuid is.0 n))
+    (subst (λ (o : Option Node). IfSome (due_history who m.ids o) H) is.1 due)))
 
 -- ---- what counts
 
@@ -110,9 +116,8 @@ seen_more view steps p q nodes h = by (drafted view steps q) refl
     by None e = h
     by (Some x) e = lookup-insert_entry path_cmp path_total p q x nodes ∙ put x e (eq_by_cmp path_cmp p q) refl
 
-pub counted : (identified : Bool) (view : View) (steps : Steps) (p : Path) → node_at (counting identified view steps p) p ≡ drafted view steps p
-counted false view steps p = seen_here view steps p
-counted true view steps p = by (named_history (with_seen view steps p []) p)
+pub counted : (view : View) (steps : Steps) (p : Path) → node_at (counting view steps p) p ≡ drafted view steps p
+counted view steps p = by (named_history (with_seen view steps p []) p)
   where
     by : (o : Option Path) → node_at (option_map_or (with_history view steps (with_seen view steps p [])) o (with_seen view steps p [])) p ≡ drafted view steps p
     by None = seen_here view steps p

@@ -59,9 +59,8 @@ one_more_seen view steps p nodes are = by (drafted view steps p) refl
         at q node true same h = ap (drafted view steps) (same_path q p same) ∙ (here ∙ h)
         at q node false same h = are.seen q node h
 
-counting_seen : (identified : Bool) (view : View) (steps : Steps) (p : Path) → AreSeen view steps (counting identified view steps p)
-counting_seen false view steps p = one_more_seen view steps p [] (none_seen view steps)
-counting_seen true view steps p = by (named_history (with_seen view steps p []) p)
+counting_seen : (view : View) (steps : Steps) (p : Path) → AreSeen view steps (counting view steps p)
+counting_seen view steps p = by (named_history (with_seen view steps p []) p)
   where
     one : AreSeen view steps (with_seen view steps p [])
     one = one_more_seen view steps p [] (none_seen view steps)
@@ -164,22 +163,22 @@ begun_of nodes who p m new P h idle put = by (is_some (named_history nodes p)) h
     by true e = subst (λ (k : Making). P k.steps)
         (sym (ok_same (passed (too_many_ids (m.ids + history_drawn nodes p)) (Ok (history_put nodes who p m)) new e).1)) put
 
-pub begun_keeps : (n : Name) (identified : Bool) (who : Who) (v : Nodes) (p : Path) (m new : Making) → IsTree v → KeepTree (whole_view v) m.steps
-    → is_some (drafted (whole_view v) m.steps version_storage) ≡ true → begun_by n identified who (whole_view v) p m ≡ Ok new → KeepTree (whole_view v) new.steps
-begun_keeps n identified who v p m new tree keep stored h = by (same_name versionable n) h
+pub begun_keeps : (n : Name) (who : Who) (v : Nodes) (p : Path) (m new : Making) → IsTree v → KeepTree (whole_view v) m.steps
+    → is_some (drafted (whole_view v) m.steps version_storage) ≡ true → begun_by n who (whole_view v) p m ≡ Ok new → KeepTree (whole_view v) new.steps
+begun_keeps n who v p m new tree keep stored h = by (same_name versionable n) h
   where
-    by : (b : Bool) → cond b (begun_among (counting identified (whole_view v) m.steps p) who p m) (Ok m) ≡ Ok new → KeepTree (whole_view v) new.steps
+    by : (b : Bool) → cond b (begun_among (counting (whole_view v) m.steps p) who p m) (Ok m) ≡ Ok new → KeepTree (whole_view v) new.steps
     by false e = subst (λ (k : Making). KeepTree (whole_view v) k.steps) (sym (ok_same e)) keep
-    by true e = begun_of (counting identified (whole_view v) m.steps p) who p m new (λ s. KeepTree (whole_view v) s) e keep
-        (history_keeps v m.steps tree keep stored (counting identified (whole_view v) m.steps p) (counting_seen identified (whole_view v) m.steps p) (record who { ids = m.ids }) p)
+    by true e = begun_of (counting (whole_view v) m.steps p) who p m new (λ s. KeepTree (whole_view v) s) e keep
+        (history_keeps v m.steps tree keep stored (counting (whole_view v) m.steps p) (counting_seen (whole_view v) m.steps p) (record who { ids = m.ids }) p)
 
 -- and takes no node away
-pub begun_stays : (n : Name) (identified : Bool) (who : Who) (view : View) (p q : Path) (m new : Making) → begun_by n identified who view p m ≡ Ok new
+pub begun_stays : (n : Name) (who : Who) (view : View) (p q : Path) (m new : Making) → begun_by n who view p m ≡ Ok new
     → is_some (drafted view m.steps q) ≡ true → is_some (drafted view new.steps q) ≡ true
-begun_stays n identified who view p q m new h there = by (same_name versionable n) h
+begun_stays n who view p q m new h there = by (same_name versionable n) h
   where
     nodes : Nodes
-    nodes = counting identified view m.steps p
+    nodes = counting view m.steps p
 
     writes : List Write
     writes = history_writes nodes p (record who { ids = m.ids })
@@ -187,4 +186,4 @@ begun_stays n identified who view p q m new h there = by (same_name versionable 
     by : (b : Bool) → cond b (begun_among nodes who p m) (Ok m) ≡ Ok new → is_some (drafted view new.steps q) ≡ true
     by false e = ap (λ (k : Making). is_some (drafted view k.steps q)) (ok_same e) ∙ there
     by true e = begun_of nodes who p m new (λ s. is_some (drafted view s q) ≡ true) e there
-        (stays_by_put view m.steps (applied None nodes writes) (order-applied None nodes writes (counting_seen identified view m.steps p).order) q there)
+        (stays_by_put view m.steps (applied None nodes writes) (order-applied None nodes writes (counting_seen view m.steps p).order) q there)

@@ -38,10 +38,9 @@ use Rattle.jcr_fill.proofs.Children.{kept_by_put}
 use Rattle.jcr_fill.proofs.Fills.{ok_same}
 use Rattle.jcr_fill.proofs.KeepingTrees.{complete_keeps, complete_stays}
 use Rattle.jcr_fill.proofs.OneByOne.{came_first, each_keeps}
-use Rattle.jcr_mixin.specs.declared.mixins.Mixing.{Mixing}
 use Rattle.jcr_make.specs.Commands.{add_made, chosen_below, chosen_type, completed_new}
 use Rattle.jcr_mixin.specs.Commands.{completed_node, is_lost, lists_mixin, node_retyped, node_unmixed, retyped, type_made, unlisted, unmixed, unmixin_made, unmixin_refusal, with_kept, with_mixins}
-use Rattle.jcr_mixin.specs.Histories.{begun_by, is_identified, listing, mixed, mixin_given, mixin_made, mixin_refusal, mixing, place_mixing}
+use Rattle.jcr_mixin.specs.Histories.{begun_by, listing, mixed, mixin_given, mixin_made, mixin_refusal, mixing, place_mixing}
 use Rattle.jcr_make.specs.Subtrees.{furnished, limited, part_added, part_at, part_node, tree_made, with_part, with_set, with_sets}
 use Rattle.jcr_make.proofs.KeepingHistories.{begun_keeps, begun_stays}
 
@@ -174,12 +173,12 @@ unmixin_stays types view p q n steps new h there =
     subst (λ (s : Steps). is_some (drafted view s q) ≡ true) of.2 (kept_by_put view steps p (unmixed types of.0 n) q there)
 
 -- what a mixin is to be put into, where the node lacks it
-mixing_of : (node : Node) (n : Name) (x : Mixing) → mixing node n ≡ Some x → x.node ≡ mixed node n
+mixing_of : (node : Node) (n : Name) (x : Node) → mixing node n ≡ Some x → x ≡ mixed node n
 mixing_of node n x h = by (lists_mixin node n) h
   where
-    by : (b : Bool) → cond b None (Some (record { node = mixed node n; identified = is_identified node })) ≡ Some x → x.node ≡ mixed node n
+    by : (b : Bool) → cond b None (Some (mixed node n)) ≡ Some x → x ≡ mixed node n
     by true e = cc
-    by false e = sym (ap (λ (o : Option Mixing). elim o [ Some y ↦ y.node | None ↦ mixed node n ]) e)
+    by false e = sym (ap (λ (o : Option Node). unwrap_or o (mixed node n)) e)
 
 -- what `mixin` came of: nothing is made where the node has the mixin
 mixed_of : (types : List TypeDef) (who : Who) (view : View) (p : Path) (n : Name) (m new : Making) → mixin_made types who view p n m ≡ Ok new
@@ -188,7 +187,7 @@ mixed_of types who view p n m new h =
     let came = came_first (place_mixing types view m.steps p n) (mixin_given types who view p n m) new h in
     let place = placed view m.steps p (λ node. unless_refused (mixin_refusal types p node n) (Ok (mixing node n))) came.0 came.1 in
     let is : came.0 ≡ mixing place.0 n = ok_same (passed (mixin_refusal types p place.0 n) (Ok (mixing place.0 n)) came.0 place.2).1 in
-    (place.0, place.1, subst (λ (o : Option Mixing). mixin_given types who view p n m o ≡ Ok new) is came.2)
+    (place.0, place.1, subst (λ (o : Option Node). mixin_given types who view p n m o ≡ Ok new) is came.2)
 
 pub mixin_stays : (types : List TypeDef) (who : Who) (view : View) (p q : Path) (n : Name) (m new : Making) → mixin_made types who view p n m ≡ Ok new
     → is_some (drafted view m.steps q) ≡ true → is_some (drafted view new.steps q) ≡ true
@@ -196,11 +195,11 @@ mixin_stays types who view p q n m new h there =
     let of = mixed_of types who view p n m new h in
     by (mixing of.0 n) of.2
   where
-    by : (o : Option Mixing) → mixin_given types who view p n m o ≡ Ok new → is_some (drafted view new.steps q) ≡ true
+    by : (o : Option Node) → mixin_given types who view p n m o ≡ Ok new → is_some (drafted view new.steps q) ≡ true
     by None e = ap (λ (k : Making). is_some (drafted view k.steps q)) (ok_same e) ∙ there
     by (Some x) e =
-        let came = came_first (complete types who view p x.node m) (begun_by n x.identified who view p) new e in
-        begun_stays n x.identified who view p q came.0 new came.2 (complete_stays types who view p q x.node m came.0 came.1 there)
+        let came = came_first (complete types who view p x m) (begun_by n who view p) new e in
+        begun_stays n who view p q came.0 new came.2 (complete_stays types who view p q x m came.0 came.1 there)
 
 pub mixin_keeps : (types : List TypeDef) (who : Who) (v : Nodes) (p : Path) (n : Name) (m new : Making) → IsTree v → KeepTree (whole_view v) m.steps
     → is_some (drafted (whole_view v) m.steps version_storage) ≡ true → mixin_made types who (whole_view v) p n m ≡ Ok new → KeepTree (whole_view v) new.steps
@@ -208,16 +207,16 @@ mixin_keeps types who v p n m new tree keep stored h =
     let of = mixed_of types who (whole_view v) p n m new h in
     by of.0 of.1 (mixing of.0 n) refl of.2
   where
-    by : (old : Node) → drafted (whole_view v) m.steps p ≡ Some old → (o : Option Mixing) → mixing old n ≡ o
+    by : (old : Node) → drafted (whole_view v) m.steps p ≡ Some old → (o : Option Node) → mixing old n ≡ o
         → mixin_given types who (whole_view v) p n m o ≡ Ok new → KeepTree (whole_view v) new.steps
     by old there None e f = subst (λ (k : Making). KeepTree (whole_view v) k.steps) (sym (ok_same f)) keep
     by old there (Some x) e f =
-        let came = came_first (complete types who (whole_view v) p x.node m) (begun_by n x.identified who (whole_view v) p) new f in
-        let ordered : IsOrdered x.node = subst IsOrdered (sym (mixing_of old n x e))
+        let came = came_first (complete types who (whole_view v) p x m) (begun_by n who (whole_view v) p) new f in
+        let ordered : IsOrdered x = subst IsOrdered (sym (mixing_of old n x e))
         (mixins_ordered old (listing n (property_of old mixin_types)) (names_after v m.steps tree keep p old there)) in
-        begun_keeps n x.identified who v p came.0 new tree
-        (completed_in_place types who v p old x.node m came.0 tree keep there ordered came.1)
-        (complete_stays types who (whole_view v) p version_storage x.node m came.0 came.1 stored) came.2
+        begun_keeps n who v p came.0 new tree
+        (completed_in_place types who v p old x m came.0 tree keep there ordered came.1)
+        (complete_stays types who (whole_view v) p version_storage x m came.0 came.1 stored) came.2
 
 -- ---- trees of nodes
 

@@ -10,12 +10,11 @@ use Rattle.std.proofs.lemmas.Result.{IfOk-at_ok}
 use Rattle.jr_path.specs.Names.{path_cmp}
 use Rattle.jr_path.specs.declared.name.Name.{Name}
 use Rattle.jr_path.specs.declared.path.Path.{Path}
-use Rattle.jr_value.specs.declared.value.Property.{Property}
 use Rattle.jr_tree.specs.declared.shared.Refusal.{Refusal}
 use Rattle.jr_tree.specs.declared.shared.Who.{Who}
 use Rattle.jr_tree.specs.declared.tree.Node.{Node}
 use Rattle.jr_tree.specs.Trees.{Nodes, node_of_type}
-use Rattle.jr_items.specs.Items.{child_path, one_text, property_of, same_name}
+use Rattle.jr_items.specs.Items.{child_path, property_of, same_name}
 use Rattle.jr_items.specs.Names.{root_version, uuid, versionable}
 use Rattle.jr_items.specs.Refusals.{taken, when}
 use Rattle.jr_types.specs.declared.ChildDef.{ChildDef}
@@ -25,17 +24,16 @@ use Rattle.jr_overlay.specs.Overlays.{View}
 use Rattle.jcr_ref.specs.Histories.{root_of}
 use Rattle.jcr_write.specs.Places.{above, at_place, types_of_node, of_node, path_refusal, unless_refused}
 use Rattle.jcr_fill.specs.declared.completing.MissingChild.{MissingChild}
-use Rattle.jcr_mixin.specs.declared.mixins.Mixing.{Mixing}
 use Rattle.jcr_make.specs.Commands.{add_made, added_type, chosen_type, completed_new}
 use Rattle.jcr_mixin.specs.Commands.{completed_node, node_retyped, type_made, unmixin_made}
-use Rattle.jcr_mixin.specs.Histories.{begun_among, begun_by, counting, history_by, mixin_given, mixin_made, named_history, own_history, place_mixing, with_history, with_own_history, with_seen}
+use Rattle.jcr_mixin.specs.Histories.{begun_among, begun_by, counting, due_history, mixin_given, mixin_made, named_history, place_mixing, with_history, with_own_history, with_seen}
 use Rattle.jcr_fill.specs.Makings.{Making, absent_child, child_refusal, completed, missing_child, put_filled, with_child, with_children, with_own_child}
 use Rattle.jcr_make.specs.AlikeViews.{AreAlikeFrom}
 use Rattle.jcr_fill.specs.Steps.{and_then, each}
 use Rattle.jcr_fill.specs.Kept.{IsPutWith}
 use Rattle.jcr_fill.proofs.Children.{by_missing}
 use Rattle.jcr_fill.proofs.Touched.{all_have, completed_here, missing_path}
-use Rattle.jcr_make.proofs.Counted.{IsMixingAt, first_named, mixed_uuid, own_kept, placed, put_drafted}
+use Rattle.jcr_make.proofs.Counted.{IsMixingAt, first_named, mixed_due, own_history, placed}
 
 -- the same node is seen at the path itself
 pub here : (u v : View) (p : Path) → AreAlikeFrom u v p → u.node p ≡ v.node p
@@ -148,41 +146,27 @@ own_history_same u v steps p nodes alike = by (named_history nodes p) alike
     by (Some q) h = history_same u v steps nodes q h
 
 -- what counts for a history
-counting_same : (identified : Bool) (u v : View) (steps : Steps) (p : Path) → AreAlikeFrom u v p → (identified ≡ true → IfSome (own_history (drafted v steps p)) (AreAlikeFrom u v))
-    → counting identified u steps p ≡ counting identified v steps p
-counting_same true u v steps p alike stored = ap (with_own_history u steps p) (seen_same u v steps p [] (here u v p alike))
-    ∙ own_history_same u v steps p (with_seen v steps p []) (subst (λ (o : Option Path). IfSome o (AreAlikeFrom u v)) (sym (first_named v steps p)) (stored refl))
-counting_same false u v steps p alike stored = seen_same u v steps p [] (here u v p alike)
+counting_same : (u v : View) (steps : Steps) (p : Path) → AreAlikeFrom u v p → IfSome (own_history (drafted v steps p)) (AreAlikeFrom u v) → counting u steps p ≡ counting v steps p
+counting_same u v steps p alike stored = ap (with_own_history u steps p) (seen_same u v steps p [] (here u v p alike))
+    ∙ own_history_same u v steps p (with_seen v steps p []) (subst (λ (o : Option Path). IfSome o (AreAlikeFrom u v)) (sym (first_named v steps p)) stored)
 
 pub mixin_same : (types : List TypeDef) (who : Who) (u v : View) (p : Path) (n : Name) (m : Making) → AreAlikeFrom u v p
-    → (same_name versionable n ≡ true → IfSome (own_history (drafted u m.steps p)) (AreAlikeFrom u v))
+    → (same_name versionable n ≡ true → IfSome (due_history who m.ids (drafted u m.steps p)) (AreAlikeFrom u v))
     → mixin_made types who u p n m ≡ mixin_made types who v p n m
 mixin_same types who u v p n m alike stored =
     ap (λ r. and_then r (mixin_given types who u p n m)) (place_same u v m.steps p _ (here u v p alike))
     ∙ then_same (place_mixing types v m.steps p n) _ _ (λ o e. given o (IfOk-at_ok (λ found. IfSome found (IsMixingAt v m.steps p n)) e (placed types v m.steps p n)))
   where
-    -- the node that had an identifier has it still
-    still : (x : Mixing) → IsMixingAt v m.steps p n x → (l : Making) → IsPutWith who m.ids (property_of x.node uuid) p l → x.identified ≡ true
-        → own_history (drafted v l.steps p) ≡ own_history (drafted v m.steps p)
-    still x h l put identified =
-        let mixed_is : property_of x.node uuid ≡ property_of h.0 uuid = ap (λ (y : Mixing). property_of y.node uuid) h.2 ∙ mixed_uuid h.0 n in
-        let there : is_some (property_of h.0 uuid) ≡ true = sym (ap (λ (y : Mixing). y.identified) h.2) ∙ identified in
-        ap own_history (put_drafted who m.ids (property_of x.node uuid) v p l put)
-        ∙ (ap (λ (o : Option Property). option_and_then history_by (one_text o))
-        (own_kept who m.ids (property_of x.node uuid) (property_of put.0 uuid) put.2 (ap (λ (o : Option Property). is_some o) mixed_is ∙ there) ∙ mixed_is)
-        ∙ sym (ap own_history h.1))
-
-    begun : (x : Mixing) → IsMixingAt v m.steps p n x → (l : Making) → IsPutWith who m.ids (property_of x.node uuid) p l → begun_by n x.identified who u p l ≡ begun_by n x.identified who v p l
+    begun : (x : Node) → IsMixingAt v m.steps p n x → (l : Making) → IsPutWith who m.ids (property_of x uuid) p l → begun_by n who u p l ≡ begun_by n who v p l
     begun x h l put = by (same_name versionable n) refl
       where
-        by : (b : Bool) → same_name versionable n ≡ b → cond b (begun_among (counting x.identified u l.steps p) who p l) (Ok l) ≡ cond b (begun_among (counting x.identified v l.steps p) who p l) (Ok l)
+        by : (b : Bool) → same_name versionable n ≡ b → cond b (begun_among (counting u l.steps p) who p l) (Ok l) ≡ cond b (begun_among (counting v l.steps p) who p l) (Ok l)
         by false e = refl
-        by true e = ap (λ nodes. begun_among nodes who p l) (counting_same x.identified u v l.steps p alike (λ identified.
-            subst (λ (o : Option Path). IfSome o (AreAlikeFrom u v)) (sym (still x h l put identified))
-            (subst (λ (o : Option Node). IfSome (own_history o) (AreAlikeFrom u v)) (drafted_same u v m.steps p (here u v p alike)) (stored e))))
+        by true e = ap (λ nodes. begun_among nodes who p l) (counting_same u v l.steps p alike (mixed_due who v p n m l x (AreAlikeFrom u v) h put
+            (subst (λ (o : Option Node). IfSome (due_history who m.ids o) (AreAlikeFrom u v)) (drafted_same u v m.steps p (here u v p alike)) (stored e))))
 
-    given : (o : Option Mixing) → IfSome o (IsMixingAt v m.steps p n) → mixin_given types who u p n m o ≡ mixin_given types who v p n m o
+    given : (o : Option Node) → IfSome o (IsMixingAt v m.steps p n) → mixin_given types who u p n m o ≡ mixin_given types who v p n m o
     given None h = refl
-    given (Some x) h = ap (λ r. and_then r (begun_by n x.identified who u p)) (completed_same 65 types who u v p x.node m alike)
-        ∙ then_same (completed 65 types who v p x.node m) _ _
-        (λ l e. begun x h l (IfOk-at_ok (IsPutWith who m.ids (property_of x.node uuid) p) e (completed_here 65 types who v p x.node m)))
+    given (Some x) h = ap (λ r. and_then r (begun_by n who u p)) (completed_same 65 types who u v p x m alike)
+        ∙ then_same (completed 65 types who v p x m) _ _
+        (λ l e. begun x h l (IfOk-at_ok (IsPutWith who m.ids (property_of x uuid) p) e (completed_here 65 types who v p x m)))

@@ -1,7 +1,7 @@
 -- What `tree` makes reads no other nodes of a view.
-use Rattle.std.proofs.Common.{◌≡◌, ◌⊎◌, inl, inr, Bool, true, false, cond, Option, None, Some, List, [], ◌∷◌, ◌++◌, sym, ap, ◌∙◌, append_assoc}
+use Rattle.std.proofs.Common.{◌≡◌, ◌⊎◌, inl, inr, ℕ, Bool, true, false, cond, Option, None, Some, List, [], ◌∷◌, ◌++◌, sym, ap, ◌∙◌, append_assoc}
 use Rattle.std.specs.Prelude.{Result, Ok}
-use Rattle.std.specs.Option.{IfSome, option_and_then, unwrap_or}
+use Rattle.std.specs.Option.{IfSome, unwrap_or}
 use Rattle.std.proofs.lemmas.List.{append-nil}
 use Rattle.jr_path.specs.Named.{is_name}
 use Rattle.jr_path.specs.declared.name.Name.{Name}
@@ -10,7 +10,6 @@ use Rattle.jr_path.proofs.Parts.{parent_of-child}
 use Rattle.jr_value.specs.declared.value.Property.{Property}
 use Rattle.jr_tree.specs.declared.shared.Refusal.{Refusal}
 use Rattle.jr_tree.specs.declared.shared.Who.{Who}
-use Rattle.jr_tree.specs.declared.tree.Node.{Node}
 use Rattle.jr_tree.specs.Trees.{node_of_type}
 use Rattle.jr_items.specs.Items.{is_empty, same_name}
 use Rattle.jr_items.specs.Names.{version_storage, versionable}
@@ -22,12 +21,13 @@ use Rattle.jr_overlay.proofs.Children.{ends}
 use Rattle.jcr_trans.specs.declared.command.TreeNode.{TreeNode}
 use Rattle.jcr_write.specs.Places.{above, unless_refused}
 use Rattle.jcr_write.proofs.Reading.{set_reads}
+use Rattle.jcr_fill.specs.Filled.{next_text}
 use Rattle.jcr_fill.specs.Makings.{Making, making}
 use Rattle.jcr_fill.specs.Steps.{and_then, each}
 use Rattle.jcr_fill.proofs.Touched.{all_have}
 use Rattle.jcr_make.specs.AlikeViews.{AreAlikeFrom}
 use Rattle.jcr_make.specs.Commands.{add_made, chosen_type}
-use Rattle.jcr_mixin.specs.Histories.{history_by, mixin_made, own_history, own_text}
+use Rattle.jcr_mixin.specs.Histories.{history_by, mixin_made, own_text}
 use Rattle.jcr_make.specs.Subtrees.{furnished, limited, makes_histories, makes_history, part_added, part_at, part_node, tree_made, with_part, with_set, with_sets}
 use Rattle.jcr_make.proofs.ReadBelow.{add_same, below_alike, chosen_same, completed_same, each_same, here, mixin_same, then_same}
 use Rattle.jcr_make.proofs.Touched.{any_has}
@@ -50,16 +50,12 @@ above_alike u v p q alike top = by (ends q)
         ap u.node at ∙ (alike.nodes s.0 ∙ sym (ap v.node at))
 
 -- where all histories are alike, so is each
-stored_alike : (u v : View) → AreAlikeFrom u v version_storage → (node : Option Node) → IfSome (own_history node) (AreAlikeFrom u v)
-stored_alike u v stored node = by (own_text node)
+stored_alike : (u v : View) → AreAlikeFrom u v version_storage → (id : List ℕ) → IfSome (history_by id) (AreAlikeFrom u v)
+stored_alike u v stored id = by (is_name id)
   where
-    at : (id : List _) (b : Bool) → IfSome (cond b (Some (version_storage ++ id ∷ [])) None) (AreAlikeFrom u v)
-    at id true = below_alike u v version_storage (id ∷ []) stored
-    at id false = tt
-
-    by : (o : Option (List _)) → IfSome (option_and_then history_by o) (AreAlikeFrom u v)
-    by None = tt
-    by (Some id) = at id (is_name id)
+    by : (b : Bool) → IfSome (cond b (Some (version_storage ++ id ∷ [])) None) (AreAlikeFrom u v)
+    by true = below_alike u v version_storage (id ∷ []) stored
+    by false = tt
 
 sets_same : (types : List TypeDef) (u v : View) (p : Path) (props : List (Name × Property)) (m : Making) → u.node p ≡ v.node p → with_sets types u p props m ≡ with_sets types v p props m
 sets_same types u v p props m at_p = ap (λ (r : Result Steps Refusal). and_then r (λ steps. Ok (making steps m.ids)))
@@ -72,7 +68,7 @@ furnished_same types who u v p part m alike stored =
     ap (λ (r : Result Making Refusal). and_then r (with_sets types u p part.props))
     (each_same (mixin_made types who u p) (mixin_made types who v p) part.mixins
     (any_has (same_name versionable) (AreAlikeFrom u v version_storage) (λ n. (s : Making) → mixin_made types who u p n s ≡ mixin_made types who v p n s)
-    (λ n h s. mixin_same types who u v p n s alike (λ versioned. stored_alike u v (h versioned) (drafted u s.steps p))) part.mixins stored) m)
+    (λ n h s. mixin_same types who u v p n s alike (λ versioned. stored_alike u v (h versioned) (unwrap_or (own_text (drafted u s.steps p)) (next_text who s.ids)))) part.mixins stored) m)
     ∙ then_same (each (mixin_made types who v p) part.mixins m) _ _ (λ l e. sets_same types u v p part.props l (here u v p alike))
 
 part_same : (types : List TypeDef) (who : Who) (u v : View) (p : Path) (part : TreeNode) (m : Making) → AreAlikeFrom u v p → u.node (above p) ≡ v.node (above p)

@@ -22,7 +22,7 @@ use Rattle.jr_tree.specs.declared.shared.Who.{Who}
 use Rattle.jr_tree.specs.declared.tree.Node.{Node}
 use Rattle.jr_tree.specs.Edits.{applied, is_same_item, last_writes, with_node_write, with_property_write}
 use Rattle.jr_tree.specs.Trees.{Nodes, node_at, node_of_type}
-use Rattle.jr_items.specs.Items.{child_path, is_empty, one_text, property_of, same_name}
+use Rattle.jr_items.specs.Items.{child_path, is_empty, property_of, same_name}
 use Rattle.jr_items.specs.Names.{root_version, uuid, version_labels, version_storage, versionable}
 use Rattle.jr_items.specs.Refusals.{in_system, limit_refusal}
 use Rattle.jr_types.specs.declared.TypeDef.{TypeDef}
@@ -39,12 +39,11 @@ use Rattle.jcr_fill.specs.Kept.{IsAsBefore, IsPutWith}
 use Rattle.jcr_fill.specs.Makings.{Making, completed, making}
 use Rattle.jcr_fill.specs.Steps.{and_then, each}
 use Rattle.jcr_fill.proofs.Touched.{all_have, below_apart, completed_apart, completed_here, each_holds, put_apart, then_holds, unless_holds}
-use Rattle.jcr_mixin.specs.declared.mixins.Mixing.{Mixing}
 use Rattle.jcr_make.specs.Commands.{add_made, chosen_type, completed_new}
 use Rattle.jcr_mixin.specs.Commands.{completed_node, node_retyped, type_made}
-use Rattle.jcr_mixin.specs.Histories.{all_put, begun_among, begun_by, counting, due_history, history_by, history_put, limited_history, mixin_given, mixin_made, named_history, own_history, own_text, place_mixing, with_history, with_seen}
+use Rattle.jcr_mixin.specs.Histories.{all_put, begun_among, begun_by, counting, due_history, history_by, history_put, limited_history, mixin_given, mixin_made, named_history, own_text, place_mixing, with_history, with_seen}
 use Rattle.jcr_make.specs.Subtrees.{furnished, limited, makes_histories, makes_history, part_added, part_at, part_node, tree_made, with_part, with_set, with_sets}
-use Rattle.jcr_make.proofs.Counted.{IsMixingAt, counted, first_named, mixed_uuid, named_is, named_own, own_due, placed, put_drafted}
+use Rattle.jcr_make.proofs.Counted.{IsMixingAt, counted, first_named, mixed_due, named_is, named_own, own_history, placed}
 
 -- ---- one of two, and one of many
 
@@ -126,9 +125,8 @@ module _ (r : Path) where
       by None = a
       by (Some x) = All-keys-insert_entry path_cmp q x IsApart nodes a here
 
-  counting_apart : (identified : Bool) (view : View) (steps : Steps) (p : Path) → IsApart p → IfSome (own_history (drafted view steps p)) IsApart → All IsApart (keys_of (counting identified view steps p))
-  counting_apart false view steps p here there = seen_apart view steps p [] (All-nil IsApart) here
-  counting_apart true view steps p here there =
+  counting_apart : (view : View) (steps : Steps) (p : Path) → IsApart p → IfSome (own_history (drafted view steps p)) IsApart → All IsApart (keys_of (counting view steps p))
+  counting_apart view steps p here there =
       by (named_history (with_seen view steps p []) p) (subst (λ (o : Option Path). IfSome o IsApart) (sym (first_named view steps p)) there)
     where
       first : All IsApart (keys_of (with_seen view steps p []))
@@ -151,25 +149,25 @@ module _ (r : Path) where
 
     -- ---- a history that begins
 
-    begun_stays : (n : Name) (identified : Bool) (who : Who) (view : View) (p : Path) (l : Making) → Stays l → IsApart p
-        → (same_name versionable n ≡ true → IfSome (own_history (drafted view l.steps p)) IsApart) → IfOk (begun_by n identified who view p l) Stays
-    begun_stays n identified who view p l is here there = by (same_name versionable n) refl
+    begun_stays : (n : Name) (who : Who) (view : View) (p : Path) (l : Making) → Stays l → IsApart p
+        → (same_name versionable n ≡ true → IfSome (own_history (drafted view l.steps p)) IsApart) → IfOk (begun_by n who view p l) Stays
+    begun_stays n who view p l is here there = by (same_name versionable n) refl
       where
         nodes : Nodes
-        nodes = counting identified view l.steps p
+        nodes = counting view l.steps p
 
         among : IfSome (own_history (drafted view l.steps p)) IsApart → (o : Option Path) → named_history nodes p ≡ o → IfSome o IsApart → IfOk (cond (is_some o) (limited_history nodes who p l) (Ok l)) Stays
         among own None e h = is
         among own (Some q) e h = unless_holds Stays (too_many_ids (l.ids + history_drawn nodes p)) (Ok (history_put nodes who p l))
             (put_stays (applied None nodes (history_writes nodes p (record who { ids = l.ids })))
-            (applied_apart nodes (history_writes nodes p (record who { ids = l.ids })) (counting_apart identified view l.steps p here own)
+            (applied_apart nodes (history_writes nodes p (record who { ids = l.ids })) (counting_apart view l.steps p here own)
             (history_adds nodes (record who { ids = l.ids }) p here (ap (λ x. is_under r x) (named_is nodes p q e) ∙ h)))
             l.steps is)
 
         by : (b : Bool) → same_name versionable n ≡ b → IfOk (cond b (begun_among nodes who p l) (Ok l)) Stays
         by false e = is
         by true e = among (there e) (named_history nodes p) refl
-            (subst (λ (o : Option Path). IfSome o IsApart) (sym (named_own nodes p (drafted view l.steps p) (counted identified view l.steps p))) (there e))
+            (subst (λ (o : Option Path). IfSome o IsApart) (sym (named_own nodes p (drafted view l.steps p) (counted view l.steps p))) (there e))
 
     -- ---- the commands
 
@@ -188,19 +186,11 @@ module _ (r : Path) where
         then_holds Stays (place_mixing types view m.steps p n) (mixin_given types who view p n m)
         (λ o e. given o (IfOk-at_ok (λ found. IfSome found (IsMixingAt view m.steps p n)) e (placed types view m.steps p n)))
       where
-        own : (x : Mixing) → IsMixingAt view m.steps p n x → (l : Making) → IsPutWith who m.ids (property_of x.node uuid) p l → same_name versionable n ≡ true → IfSome (own_history (drafted view l.steps p)) IsApart
-        own x h l put versioned =
-            subst (λ (o : Option Node). IfSome (own_history o) IsApart) (sym (put_drafted who m.ids (property_of x.node uuid) view p l put))
-            (own_due who m.ids (property_of x.node uuid) (property_of put.0 uuid) IsApart put.2
-            (subst (λ (o : Option Property). IfSome (history_by (unwrap_or (one_text o) (next_text who m.ids))) IsApart)
-            (sym (ap (λ (y : Mixing). property_of y.node uuid) h.2 ∙ mixed_uuid h.0 n))
-            (subst (λ (o : Option Node). IfSome (due_history who m.ids o) IsApart) h.1 (there versioned))))
-
-        given : (o : Option Mixing) → IfSome o (IsMixingAt view m.steps p n) → IfOk (mixin_given types who view p n m o) Stays
+        given : (o : Option Node) → IfSome o (IsMixingAt view m.steps p n) → IfOk (mixin_given types who view p n m o) Stays
         given None h = is
-        given (Some x) h = then_holds Stays (completed 65 types who view p x.node m) (begun_by n x.identified who view p)
-            (λ l e. begun_stays n x.identified who view p l (IfOk-at_ok Stays e (completed_apart types who view r start 65 p x.node m here is)) here
-            (own x h l (IfOk-at_ok (IsPutWith who m.ids (property_of x.node uuid) p) e (completed_here 65 types who view p x.node m))))
+        given (Some x) h = then_holds Stays (completed 65 types who view p x m) (begun_by n who view p)
+            (λ l e. begun_stays n who view p l (IfOk-at_ok Stays e (completed_apart types who view r start 65 p x m here is)) here
+            (λ versioned. mixed_due who view p n m l x IsApart h (IfOk-at_ok (IsPutWith who m.ids (property_of x uuid) p) e (completed_here 65 types who view p x m)) (there versioned)))
 
     set_stays : (types : List TypeDef) (view : View) (p : Path) (x : Name × Property) (steps : Steps) → IsApart p → step_at steps r ≡ start → IfOk (with_set types view p x steps) (λ s. step_at s r ≡ start)
     set_stays types view p x steps here is = by (node_set types view steps p x.0 x.1)

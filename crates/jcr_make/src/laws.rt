@@ -19,7 +19,7 @@ ghost use Rattle.jcr_fill.specs.Makings.{Making};
 ghost use Rattle.jcr_make.specs.AlikeViews.{AreAlikeFrom};
 ghost use Rattle.jcr_make.specs.Commands.{add_made};
 ghost use Rattle.jcr_mixin.specs.Commands.{type_made, unmixin_made};
-ghost use Rattle.jcr_mixin.specs.Histories.{due_history, mixin_made, own_history};
+ghost use Rattle.jcr_mixin.specs.Histories.{due_history, mixin_made};
 ghost use Rattle.jcr_make.specs.Subtrees.{makes_histories, tree_made};
 
 /// Of two views with the same nodes at and below a path, and with the same node above it, `add` makes the same.
@@ -42,12 +42,13 @@ pub fn unmixing_reads_the_node()
 {}
 
 /// Of two views with the same nodes at and below a path `mixin` makes the same, with `mix:versionable` where they also
-/// have the same nodes at and below the history of the node there, by the identifier that the node has.
+/// have the same nodes at and below the history of the node there: by the identifier that the node has, or else by the
+/// session's next one.
 pub fn mixing_reads_below_and_its_history()
     ensures { (types : List TypeDef) (who : Who) (u v : View) (p : Path) (n : Name) (m : Making)
         → AreAlikeFrom u v p
         → (IsTrue (same_name versionable n)
-        → IfSome (own_history (drafted u m.steps p)) (AreAlikeFrom u v))
+        → IfSome (due_history who m.ids (drafted u m.steps p)) (AreAlikeFrom u v))
         → mixin_made types who u p n m ≡ mixin_made types who v p n m }
 {}
 

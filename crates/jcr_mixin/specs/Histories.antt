@@ -1,5 +1,5 @@
 -- What a mixin makes of a node; with `mix:versionable` also the history of its versions.
-use Rattle.std.specs.Prelude.{ℕ, ◌+◌, Bool, true, false, cond, not, ◌&&◌, List, [], ◌∷◌, ◌++◌, Option, None, Some, is_some, map, Result, Ok}
+use Rattle.std.specs.Prelude.{ℕ, ◌+◌, Bool, true, cond, not, ◌&&◌, List, [], ◌∷◌, ◌++◌, Option, None, Some, is_some, map, Result, Ok}
 use Rattle.std.specs.List.{fold}
 use Rattle.std.specs.Option.{option_and_then, option_map_or, unwrap_or}
 use Rattle.std.specs.BTreeMap.{insert_entry}
@@ -25,7 +25,6 @@ use Rattle.jcr_ref.specs.Drawn.{too_many_ids}
 use Rattle.jcr_ref.specs.Histories.{history_drawn, history_writes, root_of}
 use Rattle.jcr_write.specs.Places.{at_place, unless_refused}
 use Rattle.jcr_mixin.specs.Commands.{lists_mixin, with_mixins}
-use Rattle.jcr_mixin.specs.declared.mixins.Mixing.{Mixing}
 use Rattle.jcr_fill.specs.Filled.{next_text}
 use Rattle.jcr_fill.specs.Makings.{Making, complete, unknown_type}
 use Rattle.jr_path.specs.Named.{is_name}
@@ -42,10 +41,6 @@ history_by id = cond (is_name id) (Some (version_storage ++ id ∷ [])) None
 -- the text of a node's identifier, where it has one
 abbrev pub own_text : Option Node → Option (List ℕ)
 own_text node = one_text (option_and_then (λ x. property_of x uuid) node)
-
--- where the history of a node stands, by the identifier that it has
-abbrev pub own_history : Option Node → Option Path
-own_history node = option_and_then history_by (own_text node)
 
 -- where the history of a node that becomes versionable stands: by the identifier that it has, or
 -- else by the session's next one
@@ -77,10 +72,9 @@ listing n o = map value.Name (many_names o) ++ value.Name n ∷ []
 abbrev pub mixed : Node → Name → Node
 mixed node n = with_mixins node (listing n (property_of node mixin_types))
 
--- what a node becomes by a mixin, and whether it had an identifier; none where it has the mixin
-abbrev pub mixing : Node → Name → Option Mixing
-mixing node n = cond (lists_mixin node n) None
-    (Some (record { node = mixed node n; identified = is_identified node }))
+-- what a node becomes by a mixin; none where it has the mixin
+abbrev pub mixing : Node → Name → Option Node
+mixing node n = cond (lists_mixin node n) None (Some (mixed node n))
 
 -- nodes with the one that is seen at a path, where there is one
 abbrev pub with_seen : View → Steps → Path → Nodes → Nodes
@@ -95,16 +89,15 @@ named_history nodes p = option_and_then history_by (one_text (property_at nodes 
 abbrev pub with_history : View → Steps → Nodes → (history : Path) → Nodes
 with_history view steps nodes h = with_seen view steps (root_of h) (with_seen view steps h nodes)
 
--- nodes with the history of the node at p, where they are to have it
+-- nodes with the history of the node at p, where it is there
 abbrev pub with_own_history : View → Steps → Path → Nodes → Nodes
 with_own_history view steps p nodes =
     option_map_or (with_history view steps nodes) (named_history nodes p) nodes
 
--- what counts for a history that begins: the node, and its history where the node had its
--- identifier before
-abbrev pub counting : (identified : Bool) → View → Steps → Path → Nodes
-counting true view steps p = with_own_history view steps p (with_seen view steps p [])
-counting false view steps p = with_seen view steps p []
+-- what counts for the history of a node that becomes versionable: the node, and the history by its
+-- identifier where that is there
+abbrev pub counting : View → Steps → Path → Nodes
+counting view steps p = with_own_history view steps p (with_seen view steps p [])
 
 -- a node is put in its place
 abbrev pub with_put : Steps → Path × Node → Steps
@@ -132,26 +125,25 @@ abbrev pub begun_among : Nodes → Who → Path → Making → Result Making Ref
 begun_among nodes who p m =
     cond (is_some (named_history nodes p)) (limited_history nodes who p m) (Ok m)
 
--- with `mix:versionable` the history of the node at p begins
-abbrev pub begun_by : Name → (identified : Bool) → Who → View → Path → Making
-    → Result Making Refusal
-begun_by n identified who view p m = cond (same_name versionable n)
-    (begun_among (counting identified view m.steps p) who p m) (Ok m)
+-- with `mix:versionable` the history of the node at p begins, or is used where it is there
+abbrev pub begun_by : Name → Who → View → Path → Making → Result Making Refusal
+begun_by n who view p m =
+    cond (same_name versionable n) (begun_among (counting view m.steps p) who p m) (Ok m)
 
--- what a mixin makes of a node
-abbrev pub mixin_put : List TypeDef → Who → View → Path → Name → Mixing → Making
+-- a node that has a mixin now is put with what the mixin brings
+abbrev pub mixin_put : List TypeDef → Who → View → Path → Name → Node → Making
     → Result Making Refusal
-mixin_put types who view p n x m = and_then (complete types who view p x.node m)
-    (begun_by n x.identified who view p)
+mixin_put types who view p n node m =
+    and_then (complete types who view p node m) (begun_by n who view p)
 
 -- what a mixin makes of a node that lacks it
-abbrev pub mixin_given : List TypeDef → Who → View → Path → Name → Making → Option Mixing
+abbrev pub mixin_given : List TypeDef → Who → View → Path → Name → Making → Option Node
     → Result Making Refusal
 mixin_given types who view p n m None = Ok m
-mixin_given types who view p n m (Some x) = mixin_put types who view p n x m
+mixin_given types who view p n m (Some node) = mixin_put types who view p n node m
 
 -- what the node at a place becomes by a mixin that it may have
-abbrev pub place_mixing : List TypeDef → View → Steps → Path → Name → Result (Option Mixing) Refusal
+abbrev pub place_mixing : List TypeDef → View → Steps → Path → Name → Result (Option Node) Refusal
 place_mixing types view steps p n = at_place view steps p (λ node.
     unless_refused (mixin_refusal types p node n) (Ok (mixing node n)))
 

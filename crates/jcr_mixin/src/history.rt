@@ -18,7 +18,8 @@ use jr_path::{DeepCopy, List, Name, Path, PathFault};
 use jr_tree::{Edit, Node, Refusal, Tree, Who, Write};
 use std::alloc::{AllocError, Global};
 
-/// With `mix:versionable` the history of a node begins; with another mixin nothing is made.
+/// With `mix:versionable` the history of a node begins, or is used where it is there; with another mixin nothing is
+/// made.
 pub(crate) fn begin_by(
     alloc: Global,
     who: &Who,
@@ -26,38 +27,31 @@ pub(crate) fn begin_by(
     ids: &mut u32,
     path: &Path,
     name: &Name,
-    identified: bool,
 ) -> Result<(), Refusal>
     ensures sight { draft.new.sight ≡ draft.old.sight }
-    ensures ok { OnOk result (begun_by name.now identified who.now (sighted draft.old.sight)
-        path.now (making draft.old.steps ids.old) ≡ Ok (making draft.new.steps ids.new)) }
-    ensures err { IfErr result (IsDueRefusal (begun_by name.now identified who.now
+    ensures ok { OnOk result (begun_by name.now who.now (sighted draft.old.sight) path.now
+        (making draft.old.steps ids.old) ≡ Ok (making draft.new.steps ids.new)) }
+    ensures err { IfErr result (IsDueRefusal (begun_by name.now who.now
         (sighted draft.old.sight) path.now (making draft.old.steps ids.old))) }
 {
     if !OwnName::Versionable.is(name) {
         return Ok(());
     }
-    match counting(alloc, draft, path, identified) {
+    match counting(alloc, draft, path) {
         Ok(nodes) => begin_among(alloc, who, draft, ids, path, nodes),
         Err(AllocError) => Err(Refusal::memory(alloc)),
     }
 }
 
-// What counts for a history that begins: the node, and its history where the node had its identifier before.
-fn counting(
-    alloc: Global,
-    draft: &Draft<'_>,
-    path: &Path,
-    identified: bool,
-) -> Result<Tree, AllocError>
-    ensures { IfOk result (λ nodes. nodes ≡ counting identified (sighted draft.now.sight)
-        draft.now.steps path.now) }
+// What counts for the history of a node that becomes versionable: the node, and the history by its identifier where
+// that is there.
+fn counting(alloc: Global, draft: &Draft<'_>, path: &Path) -> Result<Tree, AllocError>
+    ensures { IfOk result (λ nodes. nodes ≡ counting (sighted draft.now.sight) draft.now.steps
+        path.now) }
 {
     let mut nodes = Tree::new(alloc);
     put_seen(&mut nodes, draft, path)?;
-    if identified {
-        put_own_history(&mut nodes, alloc, draft, path)?;
-    }
+    put_own_history(&mut nodes, alloc, draft, path)?;
     Ok(nodes)
 }
 

@@ -9,7 +9,7 @@ ghost use Rattle.jr_items.specs.Refusals.{IsOrMemory, IsTheRefusal, breaks_rule,
 ghost use Rattle.jr_types.specs.Rules.{is_mixin};
 ghost use Rattle.jr_overlay.specs.Overlays.{sighted};
 ghost use Rattle.jcr_write.specs.Places.{IsDueRefusal, unless_refused};
-ghost use Rattle.jcr_mixin.specs.Histories.{history_by, is_identified, listing, may_be_versioned, mixed, mixin_made, mixin_put, mixin_refusal, mixing, place_mixing, version_refusal};
+ghost use Rattle.jcr_mixin.specs.Histories.{history_by, listing, may_be_versioned, mixed, mixin_made, mixin_put, mixin_refusal, mixing, place_mixing, version_refusal};
 ghost use Rattle.jcr_fill.specs.Makings.{making};
 
 use crate::history::{begin_by, history_for};
@@ -24,17 +24,11 @@ use jr_types::Registry;
 use jr_value::{Property, Value};
 use std::alloc::{AllocError, Global};
 
-/// What a node becomes by a mixin, and whether it had an identifier before.
-#[derive(Drop)]
-pub struct Mixing {
-    pub node: Node,
-    pub identified: bool,
-}
-
 /// Gives a node a mixin, with what belongs to it (JSR 283, 10.10.3 Assigning Mixin Node Types); with
-/// `mix:versionable` the history of its versions begins (3.13 Versioning Model). Nothing changes where the node has
-/// the mixin. Refused as every command by its path; 3 with the name; 4, rule 2, where it is no mixin; with
-/// `mix:versionable` 4 where the node's `jcr:uuid` is no name; 15 where an identifier is over the limit.
+/// `mix:versionable` the history of its versions begins (3.13 Versioning Model), or is used where it is there by the
+/// node's identifier. Nothing changes where the node has the mixin. Refused as every command by its path; 3 with the
+/// name; 4, rule 2, where it is no mixin; with `mix:versionable` 4 where the node's `jcr:uuid` is no name; 15 where an
+/// identifier is over the limit.
 #[tactic(auto, using(jcr_fill::proofs::Due::after_ok, jcr_fill::proofs::Due::after_err, jcr_fill::proofs::Due::first_err))]
 pub fn mixin(
     alloc: Global,
@@ -52,7 +46,7 @@ pub fn mixin(
         (sighted draft.old.sight) path.now name.now (making draft.old.steps ids.old))) }
 {
     match place_mixing(alloc, types, draft, path, name) {
-        Ok(Some(mixing)) => put_mixing(alloc, types, who, draft, ids, path, name, mixing),
+        Ok(Some(node)) => put_mixing(alloc, types, who, draft, ids, path, name, node),
         Ok(None) => Ok(()),
         Err(refusal) => Err(refusal),
     }
@@ -68,19 +62,16 @@ fn put_mixing(
     ids: &mut u32,
     path: &Path,
     name: &Name,
-    mixing: Mixing,
+    node: Node,
 ) -> Result<(), Refusal>
     ensures sight { draft.new.sight ≡ draft.old.sight }
     ensures ok { OnOk result (mixin_put types.now who.now (sighted draft.old.sight) path.now
-        name.now mixing (making draft.old.steps ids.old)
-        ≡ Ok (making draft.new.steps ids.new)) }
+        name.now node (making draft.old.steps ids.old) ≡ Ok (making draft.new.steps ids.new)) }
     ensures err { IfErr result (IsDueRefusal (mixin_put types.now who.now
-        (sighted draft.old.sight) path.now name.now mixing
-        (making draft.old.steps ids.old))) }
+        (sighted draft.old.sight) path.now name.now node (making draft.old.steps ids.old))) }
 {
-    let identified = mixing.identified;
-    match complete(alloc, types, who, draft, ids, path, mixing.node) {
-        Ok(()) => begin_by(alloc, who, draft, ids, path, name, identified),
+    match complete(alloc, types, who, draft, ids, path, node) {
+        Ok(()) => begin_by(alloc, who, draft, ids, path, name),
         Err(refusal) => Err(refusal),
     }
 }
@@ -93,7 +84,7 @@ fn place_mixing(
     draft: &Draft<'_>,
     path: &Path,
     name: &Name,
-) -> Result<Option<Mixing>, Refusal>
+) -> Result<Option<Node>, Refusal>
     ensures ok { IfOk result (λ found. place_mixing types.now (sighted draft.now.sight)
         draft.now.steps path.now name.now ≡ Ok found) }
     ensures err { IfErr result (IsDueRefusal (place_mixing types.now (sighted draft.now.sight)
@@ -112,7 +103,7 @@ fn mixing_by(
     node: &Node,
     path: &Path,
     name: &Name,
-) -> Result<Option<Mixing>, Refusal>
+) -> Result<Option<Node>, Refusal>
     ensures ok { IfOk result (λ found.
         unless_refused (mixin_refusal types.now path.now node.now name.now)
         (Ok (mixing node.now name.now)) ≡ Ok found) }
@@ -126,7 +117,7 @@ fn mixing_by(
     }
 }
 
-fn mixing_or_memory(alloc: Global, node: &Node, name: &Name) -> Result<Option<Mixing>, Refusal>
+fn mixing_or_memory(alloc: Global, node: &Node, name: &Name) -> Result<Option<Node>, Refusal>
     ensures ok { IfOk result (λ found. found ≡ mixing node.now name.now) }
     ensures err { IfErr result (λ refusal. refusal ≡ out_of_memory) }
 {
@@ -234,22 +225,13 @@ fn has_place(alloc: Global, id: Option<&str>) -> Result<bool, AllocError>
     Ok(history.is_some())
 }
 
-fn new_mixing(alloc: Global, node: &Node, name: &Name) -> Result<Option<Mixing>, AllocError>
+fn new_mixing(alloc: Global, node: &Node, name: &Name) -> Result<Option<Node>, AllocError>
     ensures { IfOk result (λ found. found ≡ mixing node.now name.now) }
 {
     if lists_mixin(alloc, node, name)? {
         return Ok(None);
     }
-    let identified = is_identified(alloc, node)?;
-    let node = mixed(alloc, node, name)?;
-    Ok(Some(Mixing { node, identified }))
-}
-
-fn is_identified(alloc: Global, node: &Node) -> Result<bool, AllocError>
-    ensures { IfOk result (λ identified. identified ≡ is_identified node.now) }
-{
-    let uuid = OwnName::Uuid.name(alloc)?;
-    Ok(node.props.contains(&uuid))
+    Ok(Some(mixed(alloc, node, name)?))
 }
 
 // The node with one mixin more.

@@ -1,7 +1,8 @@
-// What the events of a journal say of the draw of a command, and of the stop of a cluster node.
+// What the events of a journal say of the draw of a command, of the move of a base, and of the stop
+// of a cluster node.
 ghost use Rattle.std.specs.Prelude.{◌≡◌, reverse};
 ghost use Rattle.std.specs.Option.{option_copied};
-ghost use Rattle.jcr_law.specs.Since.{draw_since, stop_position};
+ghost use Rattle.jcr_law.specs.Since.{draw_since, is_unmoved, stop_position};
 
 use oak_machine::{Draw, Event};
 
@@ -27,6 +28,30 @@ pub fn draw_since(events: &[Event], session: u32) -> Option<&Draw>
         }
     }
     drawn
+}
+
+/// Whether the base of the session hasn't moved since its last reply (JSR 283, 10.11.4 Refresh).
+#[tactic(auto, using(oak_machine::proofs::Forward::past_more))]
+pub fn is_unmoved(events: &[Event], session: u32) -> bool
+    ensures { result ≡ is_unmoved (reverse events.now) session }
+{
+    let mut moved = false;
+    for event in events {
+        match event {
+            Event::Login(s, _) | Event::Said(s, _, _) => {
+                if *s == session {
+                    moved = false;
+                }
+            }
+            Event::Refresh(s, _) | Event::Attach(s, _) | Event::Detach(s) => {
+                if *s == session {
+                    moved = true;
+                }
+            }
+            _ => {}
+        }
+    }
+    !moved
 }
 
 /// The position in the journal, from 0 on, at which a cluster node was stopped.

@@ -27,6 +27,7 @@ use Rattle.jcr_ref.specs.Drawn.{latest_date}
 use Rattle.jcr_ref.specs.Histories.{history_of, number_by, version_names}
 use Rattle.jcr_ref.specs.References.{identifier_of}
 use Rattle.jcr_version.specs.Edits.{checked_in_writes, checkin_due, checkin_edit, checkin_own, checkin_refusal, checkin_writes, new_version, succeed, unless_refused}
+use Rattle.jcr_version.specs.Limits.{added_limit, within_limits}
 use Rattle.jcr_frozen.specs.Frozen.{frozen_tree}
 use Rattle.jcr_frozen.specs.Histories.{drawn_id, no_versions, predecessors_of, unversioned, version_name, versions_of}
 use Rattle.jcr_restore.specs.BroughtBack.{IsBack}
@@ -78,10 +79,13 @@ pub accepted : (types : List TypeDef) (t : Nodes) (p : Path) (who : Who) (ws : L
 accepted types t p who ws out h =
     let passed = not_refused (no_versions (codes "checkin") t p) (checkin_own types t p who) ws h in (
       placed t p passed.0,
-      not_or_else (checkin_refusal types t p who)
-          (filter (is_needed t) (checkin_writes types t p who)) ws
-          (sym (ap (λ b. cond b (Ok []) (checkin_due types t p who)) out) ∙ passed.1),
+      not_or_else (added_limit due) due ws
+          (not_refused (checkin_refusal types t p who) (within_limits due) ws
+          (sym (ap (λ b. cond b (Ok []) (checkin_due types t p who)) out) ∙ passed.1)).1,
     )
+  where
+    due : List Write
+    due = filter (is_needed t) (checkin_writes types t p who)
 
 -- ---- the other writes are elsewhere
 

@@ -155,7 +155,7 @@ module _ (types : List TypeDef) (old new : Nodes) (p f : Path) (can : CanComeBac
   property_back was frozen found one _ primary = primary_back types was found frozen one
   property_back was frozen found one _ mixins = mixins_back types was found frozen one
   property_back was frozen found one _ (unkept n before same) = left_back types was found frozen one n same before
-  property_back was frozen found one _ (made id none is) = identifier_back types was found frozen one id none is
+  property_back was frozen found one _ (made x none is) = identifier_back types was found frozen one x none is
 
   properties_back : (ns : List Name) (was : Node) (n : Name) → is_frozen_down types old p ns ≡ true → node_at old (p ++ ns) ≡ Some was → ComesBack types was (node_at new (p ++ ns)) n
       → property_at (restored types new p f) (p ++ ns) n ≡ property_of was n

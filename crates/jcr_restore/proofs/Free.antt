@@ -7,7 +7,7 @@ use Rattle.jr_items.specs.Items.{first_some}
 use Rattle.jr_items.specs.Refusals.{IsTheRefusal}
 pub use Rattle.jcr_frozen.proofs.Found.{none_of, some_of}
 pub use Rattle.jcr_frozen.proofs.Refused.{first_of_two, none_of_two, second_of_two}
-pub use Rattle.jcr_version.proofs.Due.{due_else, else_memory, else_refused, first_refused, own_due, own_refused}
+pub use Rattle.jcr_version.proofs.Due.{first_refused, own_due, own_refused}
 
 pub second_err : (result : Result Path Refusal) (a b : Option Refusal) → a ≡ None → IfErr result (IsTheRefusal b) → IfErr result (IsTheRefusal (first_some (a ∷ b ∷ [])))
 second_err (Ok path) a b h is = is

@@ -28,11 +28,11 @@ use Rattle.jr_tree.proofs.ChangesLaw.{alike_trees}
 use Rattle.jr_tree.proofs.EditLaw.{IsOrderly, Orderly-all, Orderly-applied}
 use Rattle.jr_tree.proofs.Entries.{sorted_filter, sorted_insert}
 use Rattle.jr_items.specs.Items.{adding, property_of}
-use Rattle.jr_items.specs.Names.{frozen_mixin_types, frozen_node, frozen_primary_type, frozen_type, frozen_uuid, mixin_types, primary_type}
+use Rattle.jr_items.specs.Names.{frozen_mixin_types, frozen_node, frozen_primary_type, frozen_type, frozen_uuid, mixin_types, primary_type, uuid}
 use Rattle.jr_types.specs.declared.TypeDef.{TypeDef}
 use Rattle.jcr_lock.specs.Needed.{is_needed}
 use Rattle.jcr_frozen.specs.declared.frozen.Share.TheVariants as share
-use Rattle.jcr_frozen.specs.Frozen.{frozen_copy, frozen_identifier, frozen_props, frozen_tree, is_copied, is_frozen_with, share_of, with_own, with_property, with_in_share}
+use Rattle.jcr_frozen.specs.Frozen.{frozen_copy, frozen_props, frozen_tree, is_copied, is_frozen_with, share_of, with_own, with_property, with_in_share}
 use Rattle.jcr_restore.specs.Edits.{frozen_of}
 use Rattle.jcr_restore.proofs.Added.{is_elsewhere, node_there, prop_there}
 use Rattle.jcr_restore.proofs.Standing.{above_there, all_below, found_passes, node_below, same_front, under_itself}
@@ -58,7 +58,7 @@ sorted_copied types node (e ∷ es) props s =
 sorted_own : (node : Node) (props : List (Name × Property)) → is_sorted name_cmp props ≡ true
     → is_sorted name_cmp (with_own node props) ≡ true
 sorted_own node props s =
-    sorted_property told frozen_uuid (frozen_identifier node)
+    sorted_property told frozen_uuid (property_of node uuid)
     (sorted_property told_primary frozen_mixin_types (property_of node mixin_types)
     (sorted_property typed frozen_primary_type (property_of node primary_type)
     (sorted_insert name_cmp nat_list_cmp_total primary_type (Single (value.Name frozen_type)) props

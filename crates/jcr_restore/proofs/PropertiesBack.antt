@@ -1,30 +1,29 @@
 -- The properties of a frozen node, and of a node that is brought to it.
-use Rattle.std.proofs.Common.{◌≡◌, ℕ, Bool, true, false, cond, Some, None, Option, List, [], ◌∷◌, refl, sym, ap, ◌∙◌, subst}
+use Rattle.std.proofs.Common.{◌≡◌, Bool, true, false, cond, Some, None, Option, List, [], ◌∷◌, refl, sym, ap, ◌∙◌, subst}
 use Rattle.std.specs.Prelude.{◌&&◌, is_some, not}
 use Rattle.std.specs.Ordering.{eq_by_cmp}
-use Rattle.std.specs.Option.{option_and_then, option_map, option_or}
+use Rattle.std.specs.Option.{option_and_then, option_or}
 use Rattle.std.specs.List.{fold, list_all}
 use Rattle.std.specs.Map.{lookup}
 use Rattle.std.specs.BTreeMap.{is_at, insert_entry}
 use Rattle.std.specs.FinMap.{is_sorted}
 use Rattle.std.proofs.lemmas.Cmp.{eq_by_cmp_equiv, nat_list_cmp_total}
 use Rattle.std.proofs.lemmas.Bool.{and_from, and_parts, and_right, not_from_false, or_parts}
-use Rattle.std.proofs.lemmas.Option.{none-some, same_Some}
 use Rattle.std.specs.Cmp.{IsEquivalence}
 use Rattle.jr_path.specs.Names.{name_cmp}
 use Rattle.jr_path.specs.declared.name.Name.{Name}
 use Rattle.jr_path.proofs.Maps.{lookup-insert_entry, name_exact}
 use Rattle.jr_value.specs.declared.value.Property.{Property}
-use Rattle.jr_value.specs.declared.value.Property.TheVariants.{Single, Many}
+use Rattle.jr_value.specs.declared.value.Property.TheVariants.{Single}
 use Rattle.jr_value.specs.declared.value.Value.TheVariants as value
 use Rattle.jr_tree.specs.declared.tree.Node.{Node}
 use Rattle.jr_items.specs.Names.{frozen_mixin_types, frozen_primary_type, frozen_type, frozen_uuid, mixin_types, primary_type, uuid}
-use Rattle.jr_items.specs.Items.{one_text, property_of, same_name}
+use Rattle.jr_items.specs.Items.{property_of, same_name}
 use Rattle.jr_types.specs.declared.TypeDef.{TypeDef}
 use Rattle.jcr_frozen.specs.declared.attributes.Asked.TheVariants as asked
 use Rattle.jcr_frozen.specs.declared.frozen.Share.TheVariants as share
 use Rattle.jcr_frozen.specs.Attributes.{property_has}
-use Rattle.jcr_frozen.specs.Frozen.{frozen_copy, frozen_identifier, frozen_props, is_copied, is_frozen_name, is_type_name, is_unkept, share_of, with_property}
+use Rattle.jcr_frozen.specs.Frozen.{frozen_copy, frozen_props, is_copied, is_frozen_name, is_type_name, is_unkept, share_of, with_property}
 use Rattle.basics.proofs.Orders.{equal_of}
 use Rattle.basics.proofs.Options.{where_some}
 use Rattle.jcr_restore.specs.Restored.{brought_props, left_props, with_frozen, with_identifier, with_types}
@@ -40,6 +39,10 @@ at props n = lookup (is_at (name_cmp n)) props
 pub or_none : {X : Type 0} (o : Option X) → option_or o None ≡ o
 or_none None = refl
 or_none (Some x) = refl
+
+or_itself : {X : Type 0} (o : Option X) → option_or o o ≡ o
+or_itself None = refl
+or_itself (Some x) = refl
 
 in_front : {X : Type 0} (a b c : Option X) → a ≡ b → option_or a c ≡ option_or b c
 in_front {X} a b c h = ap (λ (o : Option X). option_or o c) h
@@ -81,13 +84,13 @@ apart n m h = names.symm n m ∙ h
 -- what a frozen node has for itself stands before what it copies
 frozen_at : (types : List TypeDef) (node : Node) (n : Name) → is_sorted name_cmp node.props ≡ true
     → property_of (frozen_copy types node) n
-    ≡ option_or (cond (same_name n frozen_uuid) (frozen_identifier node) None)
+    ≡ option_or (cond (same_name n frozen_uuid) (property_of node uuid) None)
     (option_or (cond (same_name n frozen_mixin_types) (property_of node mixin_types) None)
     (option_or (cond (same_name n frozen_primary_type) (property_of node primary_type) None)
     (cond (same_name n primary_type) (Some (Single (value.Name frozen_type))) (if_passed (λ e. is_copied types node e.0 e.1) (λ e. e.1) n (property_of node n)))))
 frozen_at types node n sorted =
-    told _ frozen_uuid (frozen_identifier node) n
-    ∙ ap (option_or (cond (same_name n frozen_uuid) (frozen_identifier node) None))
+    told _ frozen_uuid (property_of node uuid) n
+    ∙ ap (option_or (cond (same_name n frozen_uuid) (property_of node uuid) None))
     (told _ frozen_mixin_types (property_of node mixin_types) n
     ∙ ap (option_or (cond (same_name n frozen_mixin_types) (property_of node mixin_types) None))
     (told _ frozen_primary_type (property_of node primary_type) n
@@ -141,8 +144,8 @@ frozen_mixins types node sorted = frozen_at types node frozen_mixin_types sorted
     none_passed (Some x) = refl
 
 -- and its identifier
-frozen_id : (types : List TypeDef) (node : Node) → is_sorted name_cmp node.props ≡ true → property_of (frozen_copy types node) frozen_uuid ≡ frozen_identifier node
-frozen_id types node sorted = frozen_at types node frozen_uuid sorted ∙ (ap (option_or (frozen_identifier node)) (none_passed (property_of node frozen_uuid)) ∙ or_none _)
+frozen_id : (types : List TypeDef) (node : Node) → is_sorted name_cmp node.props ≡ true → property_of (frozen_copy types node) frozen_uuid ≡ property_of node uuid
+frozen_id types node sorted = frozen_at types node frozen_uuid sorted ∙ (ap (option_or (property_of node uuid)) (none_passed (property_of node frozen_uuid)) ∙ or_none _)
   where
     none_passed : (o : Option Property) → if_passed (λ e. is_copied types node e.0 e.1) (λ e. e.1) frozen_uuid o ≡ None
     none_passed None = refl
@@ -205,21 +208,6 @@ false_from_not : (b : Bool) → not b ≡ true → b ≡ false
 false_from_not true h = sym h
 false_from_not false h = refl
 
--- where one text is found, the property is this text
-one_text_is : (o : Option Property) (id : List ℕ) → one_text o ≡ Some id → o ≡ Some (Single (value.Str id))
-one_text_is (Some (Single (value.Str s))) id h = ap (λ (t : List ℕ). Some (Single (value.Str t))) (same_Some s id h)
-one_text_is None id h = absurd (none-some id h)
-one_text_is (Some (Many k xs)) id h = absurd (none-some id h)
-one_text_is (Some (Single (value.Binary b))) id h = absurd (none-some id h)
-one_text_is (Some (Single (value.Long b))) id h = absurd (none-some id h)
-one_text_is (Some (Single (value.Date b))) id h = absurd (none-some id h)
-one_text_is (Some (Single (value.Boolean b))) id h = absurd (none-some id h)
-one_text_is (Some (Single (value.Name b))) id h = absurd (none-some id h)
-one_text_is (Some (Single (value.Path b))) id h = absurd (none-some id h)
-one_text_is (Some (Single (value.Reference b))) id h = absurd (none-some id h)
-one_text_is (Some (Single (value.WeakReference b))) id h = absurd (none-some id h)
-one_text_is (Some (Single (value.Uri b))) id h = absurd (none-some id h)
-
 -- a node as it was, the node that a restore finds, if any, and the frozen node that it is brought to
 pub record OneNode (types : List TypeDef) (was : Node) (o : Option Node) (frozen : Node) : Type 0 where
   pub was_sorted : is_sorted name_cmp was.props ≡ true
@@ -251,17 +239,13 @@ module _ (types : List TypeDef) (was : Node) (o : Option Node) (frozen : Node) (
   made_back : (n : Name) → option_or (made_uuid o n frozen) (property_of was n) ≡ property_of was n
   made_back n = by o
     where
-      text : (r : Option (List ℕ)) → one_text (property_of was uuid) ≡ r → option_or (option_map (λ id. Single (value.Str id)) r) (property_of was uuid) ≡ property_of was uuid
-      text None h = refl
-      text (Some id) h = sym (one_text_is _ id h)
-
       named : (b : Bool) → same_name n uuid ≡ b → option_or (cond b (property_of frozen frozen_uuid) None) (property_of was n) ≡ property_of was n
       named false h = refl
       named true h =
           let is : n ≡ uuid = name_exact n uuid (equal_of _ h) in
-          let id : property_of frozen frozen_uuid ≡ frozen_identifier was = same_at frozen_uuid ∙ frozen_id types was one.was_sorted in
+          let id : property_of frozen frozen_uuid ≡ property_of was uuid = same_at frozen_uuid ∙ frozen_id types was one.was_sorted in
           ap (λ (r : Option Property). option_or r (property_of was n)) id
-          ∙ subst (λ (m : Name). option_or (frozen_identifier was) (property_of was m) ≡ property_of was m) (sym is) (text _ refl)
+          ∙ subst (λ (m : Name). option_or (property_of was uuid) (property_of was m) ≡ property_of was m) (sym is) (or_itself (property_of was uuid))
 
       by : (o : Option Node) → option_or (made_uuid o n frozen) (property_of was n) ≡ property_of was n
       by None = named _ refl
@@ -323,16 +307,16 @@ module _ (types : List TypeDef) (was : Node) (o : Option Node) (frozen : Node) (
       ∙ (type_back mixin_types (property_of frozen frozen_mixin_types) refl refl
       ∙ (same_at frozen_mixin_types ∙ frozen_mixins types was one.was_sorted)))
 
-  -- the identifier of a node that is made is as it was, where it is one text
-  pub identifier_back : (id : List ℕ) → o ≡ None → one_text (property_of was uuid) ≡ Some id → at (brought_props types o frozen) uuid ≡ property_of was uuid
-  identifier_back id none is =
+  -- the identifier of a node that is made is as it was
+  pub identifier_back : (x : Property) → o ≡ None → property_of was uuid ≡ Some x → at (brought_props types o frozen) uuid ≡ property_of was uuid
+  identifier_back x none is =
       ordinary_back uuid refl
-      ∙ (in_front _ _ _ made ∙ sym (one_text_is _ id is))
+      ∙ (in_front _ _ _ made ∙ sym is)
     where
-      made : made_uuid o uuid frozen ≡ Some (Single (value.Str id))
+      made : made_uuid o uuid frozen ≡ Some x
       made =
           ap (λ (o : Option Node). made_uuid o uuid frozen) none
-          ∙ (same_at frozen_uuid ∙ (frozen_id types was one.was_sorted ∙ ap (option_map (λ id. Single (value.Str id))) is))
+          ∙ (same_at frozen_uuid ∙ (frozen_id types was one.was_sorted ∙ is))
 
   -- a property that the version doesn't keep, and that is left as it was, is as it was
   pub left_back : (n : Name) → option_and_then (unkept_property types n) o ≡ property_of was n → property_of was n ≡ unkept_property types n was

@@ -1,5 +1,5 @@
 -- When a restore brings a node back as it was at its check-in.
-use Rattle.std.specs.Prelude.{◌≡◌, ℕ, ◌++◌, ◌&&◌, ◌||◌, Bool, cond, List, Option, None, Some, IsTrue, IsFalse, is_some}
+use Rattle.std.specs.Prelude.{◌≡◌, ◌++◌, ◌&&◌, ◌||◌, Bool, cond, List, Option, None, Some, IsTrue, IsFalse, is_some}
 use Rattle.std.specs.Option.{option_and_then}
 use Rattle.jr_path.specs.declared.name.Name.{Name}
 use Rattle.jr_path.specs.declared.path.Path.{Path}
@@ -7,7 +7,7 @@ use Rattle.jr_value.specs.declared.value.Property.{Property}
 use Rattle.jr_tree.specs.declared.tree.Node.{Node}
 use Rattle.jr_tree.specs.Trees.{IsTree, Nodes, node_at, property_at, subtree_of, undated}
 use Rattle.jr_items.specs.Names.{base_version, is_checked_out, mixin_types, predecessors, primary_type, uuid}
-use Rattle.jr_items.specs.Items.{one_text, property_of, same_name, same_path}
+use Rattle.jr_items.specs.Items.{property_of, same_name, same_path}
 use Rattle.jr_types.specs.declared.TypeDef.{TypeDef}
 use Rattle.jcr_frozen.specs.declared.attributes.Asked.TheVariants as asked
 use Rattle.jcr_frozen.specs.Attributes.{property_has}
@@ -50,7 +50,7 @@ pub data ComesBack (types : List TypeDef) (was : Node) (found : Option Node) : N
       → option_and_then (unkept_property types n) found ≡ property_of was n
       → ComesBack types was found n
   -- it is the identifier of a node that was removed
-  made : (id : List ℕ) → found ≡ None → one_text (property_of was uuid) ≡ Some id
+  made : (x : Property) → found ≡ None → property_of was uuid ≡ Some x
       → ComesBack types was found uuid
 
 -- the property is one of those by which a restore checks p in

@@ -14,10 +14,11 @@ use Rattle.jr_tree.specs.Edits.{changes, with_property_write}
 use Rattle.jr_tree.specs.Trees.{Nodes, node_at, property_at, subtree_of}
 use Rattle.jr_items.specs.Names.{frozen_node, frozen_uuid, root_version, uuid}
 use Rattle.jr_items.specs.Items.{child_path, first_some, one_text, property_of, same_name}
-use Rattle.jr_items.specs.Refusals.{checked_in, or_else, taken, when}
+use Rattle.jr_items.specs.Refusals.{checked_in, taken, when}
 use Rattle.jr_types.specs.declared.TypeDef.{TypeDef}
 use Rattle.jcr_ref.specs.Histories.{history_of, number_at}
 use Rattle.jcr_version.specs.Edits.{checked_in_writes, unless_refused}
+use Rattle.jcr_version.specs.Limits.{within_limits}
 use Rattle.jcr_frozen.specs.Histories.{no_version, no_versions}
 use Rattle.jcr_restore.specs.Restored.{fate_below, is_brought, place_of, restored}
 
@@ -80,7 +81,7 @@ after_restore types t p v = fold with_property_write (restored types t p (frozen
 
 -- the edit that brings a versionable node to a version
 abbrev pub restore_to : List TypeDef → Nodes → Path → (version : Path) → (name : Name) → Result (List Write) Refusal
-restore_to types t p v n = or_else (bringing_refusal types t p v n) (changes (subtree_of t p) (after_restore types t p v))
+restore_to types t p v n = unless_refused (bringing_refusal types t p v n) (within_limits (changes (subtree_of t p) (after_restore types t p v)))
 
 -- the edit that brings a versionable node to the version of its history of that name
 abbrev pub restore_own : List TypeDef → Nodes → Path → (history : Path) → (version : Name) → Result (List Write) Refusal

@@ -3,13 +3,15 @@ ghost use Rattle.std.specs.Prelude.{◌≡◌, IfErr, IfOk, None, OnOk, option_m
 ghost use Rattle.std.specs.List.{fold};
 ghost use Rattle.jr_tree.specs.Edits.{changes, with_property_write};
 ghost use Rattle.jcr_version.specs.Edits.{checked_in_writes};
+ghost use Rattle.jcr_version.specs.Limits.{within_limits};
 ghost use Rattle.jr_tree.specs.Trees.{subtree_of};
-ghost use Rattle.jr_items.specs.Refusals.{IsTheRefusal, out_of_memory, taken};
+ghost use Rattle.jr_items.specs.Refusals.{IsTheRefusal, taken};
 ghost use Rattle.jcr_lock.specs.Locks.{IsDue, IsDueRefusal};
 ghost use Rattle.jcr_restore.specs.Edits.{after_restore, bringing_refusal, frozen_of, frozen_there, in_conflict, restore_edit, restore_own, restore_to, unfrozen};
 
 use crate::restored::Bringing;
 use jcr_frozen::{find_history, find_version, number_at, own_child};
+use jcr_version::within_limits;
 use jr_items::{OwnName, checked_in, is_same_text, taken};
 use jr_path::{List, Path};
 use jr_tree::{Edit, Refusal, Tree, changes};
@@ -24,8 +26,9 @@ use std::alloc::{AllocError, Global};
 /// or are made with the identifier that was frozen; all others stay. Refused, in this order: the path, as every version
 /// command; 12 where the node isn't versionable; 6 with the version's name where the history has no such version; 8 with
 /// the version's path for the root version; 2 with the first node outside the restored one that has the identifier of a
-/// node that would be made. That the node is checked out is no matter here. It looks at the two subtrees, and through the
-/// tree only where a node with an identifier is made.
+/// node that would be made; 15 by the first path of a node to be made, in path order, that has more than 64 names or 1,024
+/// bytes. That the node is checked out is no matter here. It looks at the two subtrees, and through the tree only where a
+/// node with an identifier is made.
 #[tactic(auto, using(crate::proofs::Free::own_due, crate::proofs::Free::own_refused, crate::proofs::Free::first_refused))]
 pub fn restore_edit(
     alloc: Global,
@@ -61,7 +64,7 @@ fn restore_from(
     }
 }
 
-#[tactic(auto, using(crate::proofs::Free::due_else, crate::proofs::Free::else_refused, crate::proofs::Free::else_memory))]
+#[tactic(auto, using(crate::proofs::Free::own_due, crate::proofs::Free::own_refused, crate::proofs::Free::first_refused))]
 fn restore_to(
     alloc: Global,
     types: &Registry,
@@ -151,8 +154,8 @@ fn bring(
     frozen: &Path,
 ) -> Result<Edit, Refusal>
     requires { frozen.now ≡ frozen_of at.now }
-    ensures ok { IfOk result (λ edit. edit.writes ≡ changes (subtree_of tree.now path.now) (after_restore types.now tree.now path.now at.now)) }
-    ensures err { IfErr result (λ refusal. refusal ≡ out_of_memory) }
+    ensures ok { IfOk result (IsDue (within_limits (changes (subtree_of tree.now path.now) (after_restore types.now tree.now path.now at.now)))) }
+    ensures err { IfErr result (IsDueRefusal (within_limits (changes (subtree_of tree.now path.now) (after_restore types.now tree.now path.now at.now)))) }
 {
     let bringing = Bringing {
         alloc,
@@ -162,7 +165,7 @@ fn bring(
         frozen,
     };
     match restore_changes(&bringing, at) {
-        Ok(edit) => Ok(edit),
+        Ok(edit) => within_limits(alloc, edit),
         Err(AllocError) => Err(Refusal::memory(alloc)),
     }
 }

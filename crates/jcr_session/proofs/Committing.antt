@@ -21,7 +21,7 @@ use Rattle.oak_port.specs.Ports.{Awaiting, Deciding, IsFinish, Undoing, Work, Wr
 use Rattle.oak_commit.specs.declared.outcome.CommitEnd.{CommitEnd}
 use Rattle.oak_commit.specs.declared.outcome.CommitEnd.TheVariants as commit
 use Rattle.core_heads.proofs.Passing.{among_same}
-use Rattle.jcr_law.specs.Since.{draw_since}
+use Rattle.jcr_law.specs.Since.{draw_since, is_unmoved}
 use Rattle.jcr_session.specs.Standing.{HasDrawn, IsClash, IsCommitting, IsFresh, IsToldEnd, IsUnmade}
 use Rattle.jcr_session.proofs.Others.{among_more, last_stays}
 
@@ -33,11 +33,12 @@ own s = grind (arith, nat_tests)
 
 module _ (past : Past) (s : ℕ) (r : Revision) where
   -- events by which nothing is drawn, and the base stays
-  more : (e : Past) → (draw_since (e ++ past) s ≡ draw_since past s) → (drawn_since (e ++ past) s ≡ drawn_since past s) → (base_of (e ++ past) s ≡ base_of past s)
+  more : (e : Past) → (is_unmoved (e ++ past) s ≡ is_unmoved past s) → (draw_since (e ++ past) s ≡ draw_since past s) → (drawn_since (e ++ past) s ≡ drawn_since past s) → (base_of (e ++ past) s ≡ base_of past s)
       → (Rattle.oak_machine.specs.Laws.is_revision_of (e ++ past) s r ≡ Rattle.oak_machine.specs.Laws.is_revision_of past s r)
       → (is_drawing (event.End r ∷ past) s ≡ false → is_drawing (event.End r ∷ (e ++ past)) s ≡ false)
       → HasDrawn past s r → HasDrawn (e ++ past) s r
-  more e draw drawn base theirs last has = record {
+  more e unmoved draw drawn base theirs last has = record {
+    unmoved = unmoved ∙ has.unmoved;
     made = has.made;
     revision = has.revision;
     draw = draw ∙ has.draw;
@@ -49,18 +50,18 @@ module _ (past : Past) (s : ℕ) (r : Revision) where
 
   -- a step that has no event of its own
   drawn_went : (k : StepKind) → HasDrawn past s r → HasDrawn (event.Went s k ∷ past) s r
-  drawn_went k has = more (event.Went s k ∷ []) refl refl refl refl (last_stays r (event.Went s k ∷ []) past s refl) has
+  drawn_went k has = more (event.Went s k ∷ []) refl refl refl refl refl (last_stays r (event.Went s k ∷ []) past s refl) has
 
   -- its commit point
   drawn_commit : HasDrawn past s r → HasDrawn (event.Commit r ∷ past) s r
-  drawn_commit has = more (event.Commit r ∷ []) refl refl refl refl (last_stays r (event.Commit r ∷ []) past s refl) has
+  drawn_commit has = more (event.Commit r ∷ []) refl refl refl refl refl (last_stays r (event.Commit r ∷ []) past s refl) has
 
   made : is_committed (event.Commit r ∷ past) r ≡ true
   made = ap (λ b. b || is_committed past r) (same_itself r)
 
   -- it is refused
   drawn_refuse : (item : Item) (o : Revision) → HasDrawn past s r → HasDrawn (event.Refuse r item o ∷ past) s r
-  drawn_refuse item o has = more (event.Refuse r item o ∷ []) refl refl refl refl (last_stays r (event.Refuse r item o ∷ []) past s refl) has
+  drawn_refuse item o has = more (event.Refuse r item o ∷ []) refl refl refl refl refl (last_stays r (event.Refuse r item o ∷ []) past s refl) has
 
   refused : (item : Item) (o : Revision) → refusal_of (event.Refuse r item o ∷ past) r ≡ Some (item, o)
   refused item o = ap (λ b. cond b (Some (item, o)) (refusal_of past r)) (same_itself r)
@@ -78,9 +79,9 @@ module _ (past : Past) (s : ℕ) (r : Revision) where
   ended_end e (inr (k, v, same)) = subst (λ (p : Past). is_ended (p ++ past) r ≡ true) (sym same) ended
 
   drawn_end : (e : Past) → IsFinish r e → HasDrawn past s r → HasDrawn (e ++ past) s r
-  drawn_end e (inl same) has = subst (λ (p : Past). HasDrawn (p ++ past) s r) (sym same) (more (event.End r ∷ []) refl refl refl refl (last_stays r (event.End r ∷ []) past s refl) has)
+  drawn_end e (inl same) has = subst (λ (p : Past). HasDrawn (p ++ past) s r) (sym same) (more (event.End r ∷ []) refl refl refl refl refl (last_stays r (event.End r ∷ []) past s refl) has)
   drawn_end e (inr (k, v, same)) has = subst (λ (p : Past). HasDrawn (p ++ past) s r) (sym same)
-      (more (event.Head k v ∷ event.End r ∷ []) refl refl refl refl (last_stays r (event.Head k v ∷ event.End r ∷ []) past s refl) has)
+      (more (event.Head k v ∷ event.End r ∷ []) refl refl refl refl refl (last_stays r (event.Head k v ∷ event.End r ∷ []) past s refl) has)
 
   same_end : (e : Past) → IsFinish r e → is_committed (e ++ past) r ≡ is_committed past r
   same_end e (inl same) = subst (λ (p : Past). is_committed (p ++ past) r ≡ is_committed past r) (sym same) refl
@@ -134,6 +135,7 @@ module _ (past : Past) (s : ℕ) (r : Revision) where
   -- it has ended, and was not made
   pub unmade_end : (e : Past) → IsFinish r e → HasDrawn past s r → is_committed past r ≡ false → IsUnmade (e ++ past) s r
   unmade_end e finish has unmade = record {
+    unmoved = (drawn_end e finish has).unmoved;
     drawn = (drawn_end e finish has).drawn;
     unmade = same_end e finish ∙ unmade;
     idle = still_end e finish has;
@@ -144,9 +146,10 @@ module _ (past : Past) (s : ℕ) (r : Revision) where
 
   -- ---- its draw
 
-  pub committing_drawn : (d : Draw) → d.session ≡ s → d.revision ≡ r → IsFresh past s → base_of past s ≡ Some d.base → is_committed past r ≡ false → IsCommitting (event.Draw d ∷ past) s (Writing r)
-  committing_drawn d session revision fresh base unmade = (
+  pub committing_drawn : (d : Draw) → d.session ≡ s → d.revision ≡ r → IsFresh past s → is_unmoved past s ≡ true → base_of past s ≡ Some d.base → is_committed past r ≡ false → IsCommitting (event.Draw d ∷ past) s (Writing r)
+  committing_drawn d session revision fresh unmoved base unmade = (
     record {
+      unmoved = unmoved;
       made = d;
       revision = revision;
       draw = ap (λ b. cond b (Some d) (draw_since past s)) mine;

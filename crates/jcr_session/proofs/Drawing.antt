@@ -1,5 +1,5 @@
 -- A session begins to commit.
-use Rattle.std.proofs.Common.{◌≡◌, inl, ℕ, Bool, true, false, cond, Some, None, Option, List, [], ◌∷◌, ◌++◌, is_some, Result, ◌<◌, length, arith, refl, sym, ap, ◌∙◌, subst}
+use Rattle.std.proofs.Common.{◌≡◌, inl, ℕ, ◌≤◌, Bool, true, false, cond, Some, None, Option, List, [], ◌∷◌, ◌++◌, is_some, Result, ◌<◌, length, arith, refl, sym, ap, ◌∙◌, subst}
 use Rattle.std.specs.Prelude.{◌==◌, reverse, slice_get}
 use Rattle.std.specs.Option.{option_map_or}
 use mathlib.Core.Bool.{false≢true}
@@ -31,7 +31,8 @@ use Rattle.jcr_trans.specs.declared.command.Command.{Command}
 use Rattle.jcr_law.specs.declared.law.JcrLaw.{JcrLaw}
 use Rattle.jcr_law.specs.Lasting.{says_of, starts_of}
 use Rattle.jcr_law.specs.Law.{MayStart}
-use Rattle.jcr_law.specs.Since.{before_turn, draw_since}
+use Rattle.jcr_law.specs.Since.{before_turn, draw_since, is_unmoved}
+use Rattle.jcr_law.specs.Makes.{commits as does_commit}
 use Rattle.jcr_law.specs.Starting.{call_has_base}
 use Rattle.jcr_law.specs.State.{Call, call_of, command_at}
 use Rattle.jcr_call.specs.declared.coming.Coming.TheVariants as coming
@@ -44,18 +45,23 @@ use Rattle.jcr_session.specs.declared.run.Phase.TheVariants as phase
 use Rattle.jcr_session.specs.declared.run.SessionRun.{SessionRun}
 use Rattle.jcr_session.specs.declared.turn.Turn.TheVariants as turn
 use Rattle.jcr_session.specs.Asked.{ComesNext, IsAsked, MayDrawFor, MayForgo}
-use Rattle.jcr_session.specs.Standing.{HasDrawnFor, HasCounted, IsBeside, IsCalled, IsCommitting, IsFresh, IsIn, IsPlace, IsPrepared, IsTurned, Stands, StandsAt, due_for, due_to, is_allowed, is_writing}
+use Rattle.jcr_session.specs.Standing.{HasDrawnFor, HasCounted, IsBeside, IsCalled, IsCommitting, IsFresh, IsIn, IsInOrder, IsPlace, IsPrepared, IsTurned, Stands, StandsAt, due_for, due_to, is_allowed, is_writing, stage_at, stage_of}
 use Rattle.jcr_session.proofs.Committing.{committing_drawn, own as same_number}
 use Rattle.jcr_session.proofs.Lawful.{asked_allowed, at_between, between_asked, called_typed}
-use Rattle.jcr_session.proofs.Nexts.{allowed_due, due_at, next_due}
+use Rattle.jcr_session.proofs.Nexts.{allowed_due, commits_due, due_at, next_due}
+use Rattle.jcr_session.proofs.Stages.{commit_order, next_later}
 use Rattle.jcr_session.proofs.Starting.{some_is}
 use Rattle.jcr_session.proofs.Saying.{asked_like, asked_waits, drawn_waits, get_within}
-use Rattle.jcr_session.proofs.Turning.{free, is_awaiting, not_ended, plain_step, turned_later}
-use Rattle.jcr_session.proofs.Waiting.{by_waits, called_beside, in_beside, next_beside}
+use Rattle.jcr_session.proofs.Turning.{is_awaiting, not_ended, plain_step, started, turned_later}
+use Rattle.jcr_session.proofs.Waiting.{by_waits, called_beside, in_beside, next_beside, unmoved_beside}
 
 -- a command for which a commit is due may be run
 pub commit_allowed : (run : SessionRun) (m : Command) → slice_get run.commands run.index ≡ Some m → due_for run ≡ due.Commit → is_allowed m ≡ true
 commit_allowed run m next commits = (allowed_due m due.Commit (sym (due_at run m next) ∙ commits) refl).0
+
+-- and it commits
+pub commit_commits : (run : SessionRun) (m : Command) → slice_get run.commands run.index ≡ Some m → due_for run ≡ due.Commit → does_commit m ≡ true
+commit_commits run m next commits = commits_due m (allowed_due m due.Commit (sym (due_at run m next) ∙ commits) refl).1
 
 -- ---- what a plan lets begin
 
@@ -77,6 +83,7 @@ module _ (law : JcrLaw) (p : Shown) (run : SessionRun) (stands : Stands law p ru
     command = m.0;
     call = c;
     asked = asked_planned;
+    unmoved = here.unmoved;
     drew_is = ap is_some here.fresh.first;
     uncommitted = ap (λ (o : Option Revision). option_map_or (is_committed p.history.past) o false) here.fresh.first;
     holds = here.holds;
@@ -91,6 +98,7 @@ module _ (law : JcrLaw) (p : Shown) (run : SessionRun) (stands : Stands law p ru
         call = c;
         asked = asked_waits law m.0 c p mid planned_run asked_planned beside idle;
         first = drawn_waits law m.0 c p mid planned_run asked_planned beside ∙ here.fresh.first;
+        unmoved = unmoved_beside law p mid beside asked_planned.inside.nodes here.unmoved;
         commits = commits;
         holds = here.holds;
         settled = (ready.ready m.0 m.1).settled;
@@ -107,17 +115,22 @@ module _ (law : JcrLaw) (p : Shown) (run : SessionRun) (stands : Stands law p ru
 -- ---- its begin
 
 module _ (law : JcrLaw) (mid : Shown) (run : SessionRun) (plan : Plan) (may : MayDrawFor law mid run plan) where
+  pub next_mid : command_at law mid.session (next_index mid.history.past mid.session) ≡ Some may.command
+  next_mid =
+      ap (command_at law mid.session) (ap (next_index mid.history.past) may.asked.session ∙ sym may.asked.index)
+      ∙ (ap (λ (s : ℕ). command_at law s run.index) may.asked.session ∙ (may.asked.commands run.index ∙ may.asked.next))
+
   starts_mid : MayStart law mid.history mid.session plan.edit plan.marks
   starts_mid = record {
     command = may.command;
     call = may.call;
     next = record {
-      next = ap (command_at law mid.session) (ap (next_index mid.history.past) may.asked.session ∙ sym may.asked.index)
-          ∙ (ap (λ (s : ℕ). command_at law s run.index) may.asked.session ∙ (may.asked.commands run.index ∙ may.asked.next));
+      next = next_mid;
       call = may.asked.call;
     };
     allowed = asked_allowed mid.history mid.session may.command may.asked.inside.unattached (commit_allowed run may.command may.asked.next may.commits);
     first = may.first;
+    unmoved = may.unmoved;
     due = may.due;
     some = may.some;
     plan = may.ok;
@@ -131,6 +144,7 @@ module _ (law : JcrLaw) (mid : Shown) (run : SessionRun) (plan : Plan) (may : Ma
     command = may.command;
     call = may.call;
     asked = may.asked;
+    unmoved = may.unmoved;
     drew_is = ap is_some may.first;
     uncommitted = ap (λ (o : Option Revision). option_map_or (is_committed mid.history.past) o false) may.first;
     holds = may.holds;
@@ -179,6 +193,9 @@ module _ (law : JcrLaw) (mid : Shown) (run : SessionRun) (plan : Plan) (may : Ma
     fresh_behind : IsFresh behind s
     fresh_behind = Rattle.jcr_session.proofs.Waiting.fresh_beside law begun waiting waited in_begun.nodes
         (Rattle.jcr_session.proofs.Waiting.fresh_beside law mid begun first_beside may.asked.inside.nodes fresh_mid)
+
+    unmoved_behind : is_unmoved behind s ≡ true
+    unmoved_behind = unmoved_beside law begun waiting waited in_begun.nodes (unmoved_beside law mid begun first_beside may.asked.inside.nodes may.unmoved)
 
     called_behind : call_of law begun.history.begin behind s ≡ Some may.call
     called_behind = called_beside law begun waiting waited in_begun.nodes may.call (called_beside law mid begun first_beside may.asked.inside.nodes may.call may.asked.call)
@@ -261,7 +278,7 @@ module _ (law : JcrLaw) (mid : Shown) (run : SessionRun) (plan : Plan) (may : Ma
           };
           commits = subst (λ (w : Work). IsCommitting new.history.past new.session w) (sym made.4)
               (moved (λ h n. IsCommitting h.past n (Writing made.0.revision))
-              (committing_drawn behind s made.0.revision made.0 made.1.session refl fresh_behind (subst (λ (n : ℕ). base_of behind n ≡ Some made.0.base) made.1.session run_drawn.0.base) unmade));
+              (committing_drawn behind s made.0.revision made.0 made.1.session refl fresh_behind unmoved_behind (subst (λ (n : ℕ). base_of behind n ≡ Some made.0.base) made.1.session run_drawn.0.base) unmade));
         },
       );
     }
@@ -269,6 +286,13 @@ module _ (law : JcrLaw) (mid : Shown) (run : SessionRun) (plan : Plan) (may : Ma
     told : is_appended_by moment s kind.Draw (reverse steps.own) ≡ true
     told = subst (λ (x : StepKind). is_appended_by moment s x (reverse steps.own) ≡ true) made.2
         (subst (λ (w : Work). AreOfStep moment s w (out.Went k) steps.own) begins.work_is steps.of_step)
+
+    none_behind : stage_at run.phase begun.work ≡ 0
+    none_behind = ap (λ (f : Phase). stage_at f begun.work) may.phase_is ∙ ap stage_of begins.work_is
+
+    order_new : IsInOrder law begun new run run (turn.Stepped kind.Draw)
+    order_new = commit_order law begun new run run kind.Draw in_begun.login may.command (commit_commits run may.command may.asked.next may.commits) (next_later law mid begun first_beside ∙ next_mid) 0 (kind.Draw ∷ []) refl refl
+        (subst (λ (n : ℕ). n ≤ 0) (sym none_behind) (let le : 0 ≤ 0 = omega arith in le)) (let le : 0 ≤ stage_at run.phase new.work = omega arith in le)
 
     draws_new : IsTurned law begun new run run (turn.Stepped kind.Draw)
     draws_new = record {
@@ -279,13 +303,14 @@ module _ (law : JcrLaw) (mid : Shown) (run : SessionRun) (plan : Plan) (may : Ma
       alone = steps.alone;
       tells = (told, inl (event.Draw made.0, made.3, refl));
       made = plain_step moment begun new steps.own (event.Draw made.0 ∷ []) made.3 in_behind.stays (ap is_awaiting begins.work_is) refl tt;
+      in_order = order_new;
       same = (refl, refl);
       stands = stands_new;
     }
 
     -- it draws, and the session is in its commit
     pub draw_turns : HasCounted law mid new run run (turn.Stepped kind.Draw)
-    draw_turns = turned_later law mid begun new run run (turn.Stepped kind.Draw) may.asked.inside.nodes (free (ap is_writing begins.work_is) (ap is_awaiting begins.work_is) (ap is_awaiting may.asked.idle)) first_beside
+    draw_turns = turned_later law mid begun new run run (turn.Stepped kind.Draw) may.asked.inside.nodes (started mid begun (ap is_writing begins.work_is) (ap is_awaiting begins.work_is) may.asked.idle) first_beside
         (not_ended (turn.Stepped kind.Draw) refl) draws_new
 
   -- memory was refused for its draw

@@ -26,6 +26,7 @@ use Rattle.jcr_trans.specs.Answers.{ShowsRevision}
 use Rattle.jcr_trans.specs.Texts.{answer_text, memory_text}
 use Rattle.jcr_trans.specs.declared.command.Command.{Command}
 use Rattle.jcr_trans.specs.declared.command.Command.TheVariants as command
+use Rattle.jcr_law.specs.Since.{before_turn}
 use Rattle.jcr_law.specs.declared.law.JcrLaw.{JcrLaw}
 use Rattle.jcr_law.specs.Built.{Allowed}
 use Rattle.jcr_law.specs.Commits.{committed_answer, version_answer}
@@ -42,6 +43,7 @@ use Rattle.core_calls.specs.Replies.{is_refusal}
 use Rattle.core_calls.proofs.Accepting.{answer_accepts}
 use Rattle.core_calls.proofs.Alone.{tree_next}
 use Rattle.core_calls.proofs.Draws.{draw_known}
+use Rattle.core_calls.proofs.Unmoved.{drawn_where_begun}
 use Rattle.jcr_session.specs.declared.limits.TheConstants.{COMMIT_REPLY_BYTES}
 use Rattle.jcr_session.specs.declared.commit.Pledge.{Pledge}
 use Rattle.jcr_session.specs.declared.next.Due.TheVariants as due
@@ -83,6 +85,7 @@ unmade_forgoes law p run m c r asked is holds = record {
   command = m;
   call = c;
   asked = asked;
+  unmoved = is.unmoved;
   drew_is = ap is_some is.drawn;
   uncommitted = ap (λ (o : Option Revision). option_map_or (is_committed p.history.past) o false) is.drawn ∙ is.unmade;
   holds = holds;
@@ -121,7 +124,7 @@ module _ (law : JcrLaw) (p : Shown) (run now : SessionRun) (item : Item) (o : Re
     asked = settled_asked law p run now false true None settles has.command has.call has.asked;
     says = settled_says law p run now false true None settles (no_text (clash item o))
         (says_allowed law p run has.command has.call has.asked (no_text (clash item o)) (commit_allowed run has.command has.asked.next has.commits)
-        (clashed has.command has.revision o item has.clash.unmade.drawn has.clash.ended has.clash.told));
+        (clashed has.command has.revision o item has.clash.unmade.drawn has.clash.ended has.clash.told has.clash.unmade.unmoved));
     leaves = settled_leaves law p run now false true None settles has.command has.call (no_text (clash item o)) has.asked.next has.holds (λ ok. absurd (false≢true ok)) (refused_text (clash item o)) clash_forgoes.drew_is;
   }
 
@@ -203,6 +206,11 @@ module _ (law : JcrLaw) (p : Shown) (run : SessionRun) (r : Revision) (a : Pledg
   committed_made : is_committed p.history.past made.made.revision ≡ true
   committed_made = ap (is_committed p.history.past) made.revision ∙ made.committed
 
+  -- it was drawn at the base at which the command began
+  begun_made : base_of (before_turn p.history.past p.session) p.session ≡ Some made.made.base
+  begun_made = drawn_where_begun law p.history.clusters p.history.sessions p.history.begin p.session made.made p.history.past
+      stands.at.0.run made.draw
+
   -- once what is held is moved to there, and accepted
   module _ (held : Held) (holds : Holds moved held) (now : SessionRun) (settles : Settles (record run { held = held }) now true true (Some a.accepted.tokens)) where
     pub made_answers : MayAnswer law p now (accepted_text a.accepted r)
@@ -213,7 +221,7 @@ module _ (law : JcrLaw) (p : Shown) (run : SessionRun) (r : Revision) (a : Pledg
       says = settled_says law p (record run { held = held }) now true true (Some a.accepted.tokens) settles (accepted_text a.accepted r)
           (says_allowed law p run here.for.command moved asked_made (accepted_text a.accepted r) (commit_allowed run here.for.command here.for.next here.for.commits)
           (subst (λ (t : Text). MaySay law p.history p.session (Allowed here.for.command) t) (sym answer_is)
-          (committed here.for.command moved made.made made.base made.draw ended_made committed_made made.moved
+          (committed here.for.command moved made.made made.base made.draw begun_made ended_made committed_made made.moved
           (ap (Rattle.jr_rev.specs.Vectors.sees made.base) made.revision ∙ made.seen) made.call)));
       leaves = settled_leaves law p (record run { held = held }) now true true (Some a.accepted.tokens) settles here.for.command moved (accepted_text a.accepted r) here.for.next holds
           (λ ok. here.for.accepts.tokens ∙ sym (moved_tokens c made.base made.tree here.for.command allowed)) accepts (ap is_some made.drawn);

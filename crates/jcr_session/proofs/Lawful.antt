@@ -1,5 +1,5 @@
 -- Which replies the law lets a session say between its commands.
-use Rattle.std.proofs.Common.{◌≡◌, ℕ, Bool, true, false, cond, Some, None, Option, List, [], ◌∷◌, is_some, nat_eq, Result, Ok, Err, refl, sym, ap, ◌∙◌, subst}
+use Rattle.std.proofs.Common.{◌≡◌, ℕ, ◌≤◌, length, Bool, true, false, cond, Some, None, Option, List, [], ◌∷◌, is_some, nat_eq, Result, Ok, Err, refl, sym, ap, ◌∙◌, subst}
 use Rattle.std.specs.Prelude.{option_map, slice_get, string_bytes}
 use Rattle.std.specs.Option.{option_map_or}
 use Rattle.std.specs.declared.alloc.Global.{Global}
@@ -17,7 +17,7 @@ use Rattle.jcr_trans.specs.Commands.{word_of}
 use Rattle.oak_machine.specs.History.{History}
 use Rattle.oak_machine.specs.Commits.{is_committed}
 use Rattle.oak_machine.specs.Sessions.{base_of, is_attached}
-use Rattle.oak_port.specs.Ports.{Idle, Shown}
+use Rattle.oak_port.specs.Ports.{HasRoom, Idle, Shown}
 use Rattle.jcr_trans.specs.Answers.{Refused, ShowsVector}
 use Rattle.jcr_trans.specs.Texts.{answer_text, memory_text}
 use Rattle.jcr_trans.specs.declared.command.Command.{Command}
@@ -27,7 +27,7 @@ use Rattle.jcr_read.specs.Reading.{refused}
 use Rattle.jcr_law.specs.declared.law.JcrLaw.{JcrLaw}
 use Rattle.jcr_law.specs.Built.{Allowed, Asked, Unsupported, asked}
 use Rattle.jcr_law.specs.Commits.{edit_due, refusal_of_due, refusal_of_plan, unwritten_answer}
-use Rattle.jcr_law.specs.Law.{MaySay, SaysBy, asked_by, barred, head, memory, no_support, no_text, queried, refreshed, refused_edit, unwritten, viewed}
+use Rattle.jcr_law.specs.Law.{IsUnmoved, MaySay, SaysBy, asked_by, barred, head, memory, no_support, no_text, queried, refreshed, refused_edit, unwritten, viewed}
 use Rattle.jcr_law.specs.Since.{before_turn}
 use Rattle.jr_types.specs.Rules.{TypesOk}
 use Rattle.jcr_law.specs.Starting.{call_based, call_has_base}
@@ -40,14 +40,15 @@ use Rattle.jcr_held.specs.Comes.{ComesTo}
 use Rattle.jcr_held.specs.Holds.{Holds}
 use Rattle.jcr_held.specs.declared.held.Held.{Held}
 use Rattle.core_calls.proofs.Accepting.{answer_accepts}
+use Rattle.jcr_session.specs.declared.limits.TheConstants.{VECTOR_REPLY_BYTES}
 use Rattle.jcr_session.specs.declared.next.Due.TheVariants as due
 use Rattle.jcr_session.specs.declared.run.Phase.{Phase}
 use Rattle.jcr_session.specs.declared.run.Phase.TheVariants as phase
 use Rattle.jcr_session.specs.declared.run.SessionRun.{SessionRun}
-use Rattle.jcr_session.specs.Asked.{ComesNext, HasSeen, IsAsked, IsQueried, MayAnswer, MayForgo, MaySettle, Settles, has_drawn}
+use Rattle.jcr_session.specs.Asked.{ComesNext, HasSeen, IsAsked, IsQueried, IsUnviewedNext, MayAnswer, MayForgo, MaySettle, Settles, has_drawn}
 use Rattle.jcr_session.specs.Standing.{IsBetween, IsCalled, IsIn, IsReading, IsRefreshed, Stands, StandsAt, due_for, due_to, is_allowed, reads_for}
 use Rattle.jcr_session.proofs.Nexts.{allowed_due, barred_due, due_number, next_due, only_head, only_query, only_refresh, seen_viewed, unviewed_due}
-use Rattle.jcr_session.proofs.Saying.{asked_like}
+use Rattle.jcr_session.proofs.Saying.{asked_like, room_less}
 
 -- ---- how a command is asked for
 
@@ -72,11 +73,11 @@ module _ (law : JcrLaw) (p : Shown) (run : SessionRun) (m : Command) (c : Call) 
   pub says_allowed : (text : Text) → is_allowed m ≡ true → MaySay law p.history p.session (Allowed m) text → SaysBy law p.history p.session run.index text
   says_allowed text allowed may = (m, command_is, subst (λ (a : Asked). MaySay law p.history p.session a text) (sym (asked_allowed p.history p.session m is.inside.unattached allowed)) may)
 
-  says_barred : is_allowed m ≡ false → SaysBy law p.history p.session run.index (no_support m)
-  says_barred allowed = (m, command_is, subst (λ (a : Asked). MaySay law p.history p.session a (no_support m)) (sym (asked_unsupported p.history p.session m is.inside.unattached allowed)) (barred m))
+  says_barred : is_allowed m ≡ false → IsUnmoved p.history p.session → SaysBy law p.history p.session run.index (no_support m)
+  says_barred allowed unmoved = (m, command_is, subst (λ (a : Asked). MaySay law p.history p.session a (no_support m)) (sym (asked_unsupported p.history p.session m is.inside.unattached allowed)) (barred m unmoved))
 
-  says_memory : option_map_or (is_committed p.history.past) (Rattle.oak_machine.specs.Sessions.drawn_since p.history.past p.session) false ≡ false → SaysBy law p.history p.session run.index memory_text
-  says_memory none = (m, command_is, memory (asked_by p.history p.session m) is.still none)
+  says_memory : option_map_or (is_committed p.history.past) (Rattle.oak_machine.specs.Sessions.drawn_since p.history.past p.session) false ≡ false → IsUnmoved p.history p.session → SaysBy law p.history p.session run.index memory_text
+  says_memory none unmoved = (m, command_is, memory (asked_by p.history p.session m) is.still none unmoved)
 
 -- ---- once what is held is brought up to the reply
 
@@ -100,7 +101,7 @@ module _ (law : JcrLaw) (p : Shown) (run now : SessionRun) where
     command = may.command;
     call = may.call;
     asked = settled_asked false drew None settles may.command may.call may.asked;
-    says = settled_says false drew None settles memory_text (says_memory law p run may.command may.call may.asked may.uncommitted);
+    says = settled_says false drew None settles memory_text (says_memory law p run may.command may.call may.asked may.uncommitted may.unmoved);
     leaves = settled_leaves false drew None settles may.command may.call memory_text may.asked.next may.holds (λ ok. absurd (false≢true ok)) (answer_accepts (Refused 16 [])) may.drew_is;
   }
 
@@ -156,6 +157,7 @@ module _ (law : JcrLaw) (p : Shown) (run : SessionRun) (stands : Stands law p ru
       command = m;
       call = at_between.1.call;
       asked = between_asked;
+      unmoved = at_between.1.unmoved;
       drew_is = ap is_some at_between.1.fresh.first;
       uncommitted = ap (λ (o : Option Revision). option_map_or (is_committed p.history.past) o false) at_between.1.fresh.first;
       holds = at_between.1.holds;
@@ -176,7 +178,7 @@ module _ (law : JcrLaw) (p : Shown) (run : SessionRun) (stands : Stands law p ru
     -- a command that isn't built, or that the session may not run
     pub bar_settles : (text : Text) → due_to m ≡ due.Bar → text ≡ no_support m → MaySettle law p run text
     bar_settles text is told = subst (λ (t : Text). MaySettle law p run t) (sym told)
-        (settles_by (no_support m) (says_barred law p run m at_between.1.call between_asked (barred_due m is))
+        (settles_by (no_support m) (says_barred law p run m at_between.1.call between_asked (barred_due m is) at_between.1.unmoved)
         (unviewed_due m (ap (λ (d : _). nat_eq (due_number d) 6) is))
         (λ ok. absurd (false≢true (sym (refused_text (unsupported (word_of m))) ∙ ok))))
 
@@ -194,7 +196,7 @@ module _ (law : JcrLaw) (p : Shown) (run : SessionRun) (stands : Stands law p ru
         by : (n : Command) → n ≡ command.Head → is_allowed n ≡ true → (MaySettle law p run (answer_text (ShowsVector v)) → MaySettle law p run (answer_text (ShowsVector v))) → n ≡ m → MaySettle law p run (answer_text (ShowsVector v))
         by n head_is allowed k same = settles_by (answer_text (ShowsVector v))
             (says_allowed law p run m at_between.1.call between_asked (answer_text (ShowsVector v)) (subst (λ (x : Command). is_allowed x ≡ true) same allowed)
-            (subst (λ (x : Command). MaySay law p.history p.session (Allowed x) (answer_text (ShowsVector v))) (sym at) (head v there)))
+            (subst (λ (x : Command). MaySay law p.history p.session (Allowed x) (answer_text (ShowsVector v))) (sym at) (head v there at_between.1.unmoved)))
             (unviewed_due m (ap (λ (d : _). nat_eq (due_number d) 6) is))
             (λ ok. subst (λ (x : Command). (accepted at_between.1.call x).tokens ≡ at_between.1.call.state.tokens) (sym at) refl)
 
@@ -206,7 +208,7 @@ module _ (law : JcrLaw) (p : Shown) (run : SessionRun) (stands : Stands law p ru
         (says_allowed law p run m at_between.1.call between_asked (string_bytes text) (allowed_due m due.Query is refl).0
         (subst (λ (x : Command). MaySay law p.history p.session (Allowed x) (string_bytes text)) (sym q.2)
         (queried q.0 q.1 at_between.1.call (string_bytes text) at_between.1.is
-        (queries m next q.0 q.1 at_between.1.call at_between.1.holds q.2))))
+        (queries m next q.0 q.1 at_between.1.call at_between.1.holds q.2) at_between.1.unmoved)))
         (unviewed_due m (ap (λ (d : _). nat_eq (due_number d) 6) is))
         (λ ok. subst (λ (x : Command). (accepted at_between.1.call x).tokens ≡ at_between.1.call.state.tokens) (sym q.2) refl)
 
@@ -222,7 +224,7 @@ module _ (law : JcrLaw) (p : Shown) (run : SessionRun) (stands : Stands law p ru
       unviewed_now = unviewed_due m (ap (λ (d : _). nat_eq (due_number d) 6) commits)
 
       refuses : (d : Result (List Write) Refusal) (r : Refusal) → edit_due c m ≡ Some d → refusal_of_due c d ≡ Some r → SaysBy law p.history p.session run.index (no_text r)
-      refuses d r is cause = says_allowed law p run m c between_asked (no_text r) allowed (refused_edit m c d r at_between.1.fresh.first at_between.1.is is cause)
+      refuses d r is cause = says_allowed law p run m c between_asked (no_text r) allowed (refused_edit m c d r at_between.1.fresh.first at_between.1.is is cause at_between.1.unmoved)
 
       some_text : (o : Option Refusal) (text : Text) → option_map no_text o ≡ Some text → (r : Refusal) × (o ≡ Some r) × (text ≡ no_text r)
       some_text None text h = absurd (false≢true (ap is_some h))
@@ -231,7 +233,7 @@ module _ (law : JcrLaw) (p : Shown) (run : SessionRun) (stands : Stands law p ru
       says_due : (d : Result (List Write) Refusal) (text : Text) → edit_due c m ≡ Some d → reply_to_due c m d ≡ Some text → SaysBy law p.history p.session run.index text
       says_due (Ok []) text is told =
           subst (λ (t : Text). SaysBy law p.history p.session run.index t) (ap (λ (x : Option Text). elim x [ Some t ↦ t | None ↦ text ]) told)
-          (says_allowed law p run m c between_asked (answer_text (unwritten_answer c m)) allowed (unwritten m c at_between.1.fresh.first at_between.1.is is))
+          (says_allowed law p run m c between_asked (answer_text (unwritten_answer c m)) allowed (unwritten m c at_between.1.fresh.first at_between.1.is is at_between.1.unmoved))
       says_due (Ok (w ∷ ws)) text is told =
           let r = some_text (refusal_of_plan c (w ∷ ws)) text told in
           subst (λ (t : Text). SaysBy law p.history p.session run.index t) (sym r.2) (refuses (Ok (w ∷ ws)) r.0 is r.1)
@@ -262,7 +264,7 @@ module _ (law : JcrLaw) (p : Shown) (run : SessionRun) (stands : Stands law p ru
           asked = asked_like law m c p run now (ap (λ (r : SessionRun). r.session) same) (ap (λ (r : SessionRun). r.commands) same) (ap (λ (r : SessionRun). r.index) same) (ap (λ (r : SessionRun). r.fetch) same) between_asked;
           says = subst (λ (i : ℕ). SaysBy law p.history p.session i (string_bytes text)) (sym (ap (λ (r : SessionRun). r.index) same))
               (says_allowed law p run m c between_asked (string_bytes text) a.0
-              (subst (λ (t : Text). MaySay law p.history p.session (Allowed m) t) (sym x.text) (viewed m c (seen_viewed m a.0 a.1) at_between.1.is)));
+              (subst (λ (t : Text). MaySay law p.history p.session (Allowed m) t) (sym x.text) (viewed m c (seen_viewed m a.0 a.1) at_between.1.is at_between.1.unmoved)));
           leaves = subst (λ (b : Bool). Holds (call_after (is_ok_text (string_bytes text)) b c m) now.held) (sym (ap is_some at_between.1.fresh.first)) x.holds;
         }
 
@@ -271,6 +273,7 @@ module _ (law : JcrLaw) (p : Shown) (run : SessionRun) (stands : Stands law p ru
       command = m;
       call = at_between.1.call;
       asked = asked_like law m at_between.1.call p run now (ap (λ (r : SessionRun). r.session) same) (ap (λ (r : SessionRun). r.commands) same) (ap (λ (r : SessionRun). r.index) same) (ap (λ (r : SessionRun). r.fetch) same) between_asked;
+      unmoved = at_between.1.unmoved;
       drew_is = ap is_some at_between.1.fresh.first;
       uncommitted = ap (λ (o : Option Revision). option_map_or (is_committed p.history.past) o false) at_between.1.fresh.first;
       holds = holds;
@@ -299,30 +302,39 @@ module _ (law : JcrLaw) (p : Shown) (run : SessionRun) (stands : Stands law p ru
     call = at_refreshed.1.is;
   }
 
-  pub refreshed_forgoes : MayForgo law p run false
-  refreshed_forgoes = record {
-    command = refreshing.0;
-    call = at_refreshed.1.call;
-    asked = refreshed_asked;
-    drew_is = ap is_some at_refreshed.1.fresh.first;
-    uncommitted = ap (λ (o : Option Revision). option_map_or (is_committed p.history.past) o false) at_refreshed.1.fresh.first;
-    holds = at_refreshed.1.holds;
-  }
+  -- a refresh isn't answered by the view
+  pub refreshed_next : IsUnviewedNext run
+  refreshed_next = (refreshing.0, refreshing.1, unviewed_due refreshing.0 (ap (λ (d : _). nat_eq (due_number d) 6) refreshing.2))
+
+  -- there is a place for its reply
+  pub refreshed_room : (n : ℕ) → n ≤ VECTOR_REPLY_BYTES → HasRoom p.room n
+  refreshed_room n few = room_less p.room VECTOR_REPLY_BYTES n few at_refreshed.1.place
+
+  pub refreshed_eight : length v ≡ 8
+  refreshed_eight = at_refreshed.1.eight
 
   kept_tokens : (keep : Bool) (c : Call) → (accepted c (command.Refresh keep)).tokens ≡ c.state.tokens
   kept_tokens true c = refl
   kept_tokens false c = refl
 
-  pub refreshed_settles : (text : Text) → text ≡ answer_text (ShowsVector v) → MaySettle law p run text
-  refreshed_settles text told = subst (λ (t : Text). MaySettle law p run t) (sym told)
-      (let a = allowed_due refreshing.0 due.Refresh refreshing.2 refl in let k = only_refresh refreshing.0 a.1 in record {
-        command = refreshing.0;
-        call = at_refreshed.1.call;
-        asked = refreshed_asked;
-        says = says_allowed law p run refreshing.0 at_refreshed.1.call refreshed_asked (answer_text (ShowsVector v)) a.0
-            (subst (λ (x : Command). MaySay law p.history p.session (Allowed x) (answer_text (ShowsVector v))) (sym k.1) (refreshed k.0 v at_refreshed.1.moved));
-        first = ap is_some at_refreshed.1.fresh.first;
-        unviewed = unviewed_due refreshing.0 (ap (λ (d : _). nat_eq (due_number d) 6) refreshing.2);
-        tokens = λ ok. at_refreshed.1.holds.tokens ∙ sym (subst (λ (x : Command). (accepted at_refreshed.1.call x).tokens ≡ at_refreshed.1.call.state.tokens) (sym k.1) (kept_tokens k.0 at_refreshed.1.call));
-        holds = at_refreshed.1.holds;
-      })
+  refreshed_says : (text : Text) → text ≡ answer_text (ShowsVector v) → SaysBy law p.history p.session run.index text
+  refreshed_says text told = subst (λ (t : Text). SaysBy law p.history p.session run.index t) (sym told)
+      (let a = allowed_due refreshing.0 due.Refresh refreshing.2 refl in let k = only_refresh refreshing.0 a.1 in
+      says_allowed law p run refreshing.0 at_refreshed.1.call refreshed_asked (answer_text (ShowsVector v)) a.0
+      (subst (λ (x : Command). MaySay law p.history p.session (Allowed x) (answer_text (ShowsVector v))) (sym k.1) (refreshed k.0 v at_refreshed.1.moved)))
+
+  refreshed_tokens : TokensFit run.held None at_refreshed.1.call refreshing.0
+  refreshed_tokens =
+      let k = only_refresh refreshing.0 (allowed_due refreshing.0 due.Refresh refreshing.2 refl).1 in
+      at_refreshed.1.holds.tokens ∙ sym (subst (λ (x : Command). (accepted at_refreshed.1.call x).tokens ≡ at_refreshed.1.call.state.tokens) (sym k.1) (kept_tokens k.0 at_refreshed.1.call))
+
+  -- once what is held is brought up to it
+  pub refreshed_answers : (now : SessionRun) (text : Text) → text ≡ answer_text (ShowsVector v) → Settles run now true false None → MayAnswer law p now text
+  refreshed_answers now text told settles = record {
+    command = refreshing.0;
+    call = at_refreshed.1.call;
+    asked = settled_asked law p run now true false None settles refreshing.0 at_refreshed.1.call refreshed_asked;
+    says = settled_says law p run now true false None settles text (refreshed_says text told);
+    leaves = settled_leaves law p run now true false None settles refreshing.0 at_refreshed.1.call text refreshing.1 at_refreshed.1.holds (λ ok. refreshed_tokens)
+        (ap is_ok_text told ∙ answer_accepts (ShowsVector v)) (ap is_some at_refreshed.1.fresh.first);
+  }

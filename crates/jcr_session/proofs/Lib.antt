@@ -1,3 +1,4 @@
+pub mod Asking
 pub mod Calling
 pub mod Coming
 pub mod Committing
@@ -8,12 +9,15 @@ pub mod Lengths
 pub mod Living
 pub mod Loads
 pub mod Looking
+pub mod Moving
 pub mod Nearer
 pub mod Nearing
 pub mod Nexts
 pub mod Others
 pub mod Reading
 pub mod Saying
+pub mod Showing
+pub mod Stages
 pub mod Starting
 pub mod Staying
 pub mod Stepping

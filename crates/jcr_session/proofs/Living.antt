@@ -1,6 +1,7 @@
 -- A session logs in.
-use Rattle.std.proofs.Common.{◌≡◌, inl, ℕ, true, false, cond, ◌||◌, Some, Option, List, [], ◌∷◌, ◌++◌, is_some, refl, sym, ap, ◌∙◌, subst, arith}
+use Rattle.std.proofs.Common.{◌≡◌, inl, ℕ, true, false, cond, not, ◌||◌, Some, Option, List, [], ◌∷◌, ◌++◌, is_some, refl, sym, ap, ◌∙◌, subst, arith}
 use Rattle.std.specs.Prelude.{◌==◌}
+use Rattle.std.specs.List.{list_any}
 use Rattle.std.proofs.lemmas.Bool.Decides.{nat_tests}
 use mathlib.Core.Bool.{false≢true}
 use Rattle.jr_rev.specs.declared.vector.Pin.{Pin}
@@ -22,7 +23,7 @@ use Rattle.oak_port.specs.declared.task.TaskEnd.TheVariants as end
 use Rattle.core_heads.proofs.Passing.{among_same, idle_stays, next_stays}
 use Rattle.jcr_law.specs.declared.law.JcrLaw.{JcrLaw}
 use Rattle.jcr_law.specs.Lasting.{says_of, starts_of}
-use Rattle.jcr_law.specs.Since.{before_turn}
+use Rattle.jcr_law.specs.Since.{before_turn, is_move_of, is_unmoved}
 use Rattle.jcr_law.specs.State.{Call, call_at, call_of}
 use Rattle.jcr_held.specs.Begins.{IsFirstCall, IsNewHeld}
 use Rattle.jcr_held.specs.Holds.{Holds}
@@ -38,7 +39,8 @@ use Rattle.jcr_session.specs.declared.turn.Turn.TheVariants as turn
 use Rattle.jcr_session.specs.Standing.{HasCounted, IsBetween, IsFresh, IsIn, IsOutside, IsReading, Stands, StandsAt, is_writing}
 use Rattle.jcr_session.proofs.Committing.{own}
 use Rattle.jcr_session.proofs.Nexts.{unwanted}
-use Rattle.jcr_session.proofs.Turning.{free, is_awaiting, not_ended, plain_step, turned_later}
+use Rattle.jcr_session.proofs.Stages.{outside_order}
+use Rattle.jcr_session.proofs.Turning.{is_awaiting, not_ended, plain_step, started, turned_later}
 use Rattle.jcr_session.proofs.Waiting.{by_waits, login_stays}
 
 same_number : (t s : ℕ) → (t == s) ≡ true → t ≡ s
@@ -155,6 +157,9 @@ module _ (law : JcrLaw) (old mid new : Shown) (run : SessionRun) (stands : Stand
     idle = among_same q (event.Login s pin.base) (λ r. refl) q s ∙ still_now;
   }
 
+  unmoved_now : is_unmoved logged.past s ≡ true
+  unmoved_now = ap (λ b. not (list_any (is_move_of s) (cond b [] (event.Login s pin.base ∷ Rattle.oak_machine.specs.Sessions.since q s)))) (own s)
+
   -- what its first command is run with
   abbrev first : Call
   first = call_at law mid.history.begin q s pin.base (state_at_login mid.history.begin (tree_at mid.history.begin q pin.base))
@@ -190,6 +195,7 @@ module _ (law : JcrLaw) (old mid new : Shown) (run : SessionRun) (stands : Stand
       call = first;
       is = called_now;
       holds = holds first is_out.holds.nothing first_call;
+      unmoved = moved (λ h n. is_unmoved h.past n ≡ true) unmoved_now;
       fresh = moved (λ h n. IsFresh h.past n) fresh_now;
       reads = subst (λ (o : Option Need). IsReading new.work o) (sym is_out.unread) made.1;
       due = λ some. absurd (false≢true (sym (ap is_some is_out.unread) ∙ some));
@@ -214,7 +220,7 @@ module _ (law : JcrLaw) (old mid new : Shown) (run : SessionRun) (stands : Stand
     logged_in now t is told =
         subst (λ (x : Turn). HasCounted law old new run now x) (sym told)
         (subst (λ (x : SessionRun). HasCounted law old new run x (turn.Stepped kind.Login)) (sym is)
-        (turned_later law old mid new run run_now (turn.Stepped kind.Login) stands.nodes (free (ap is_writing waits.work_is) (ap is_awaiting waits.work_is) (ap is_awaiting is_out.idle)) (by_waits law old mid (Starting task.Login) room waits) (not_ended (turn.Stepped kind.Login) refl)
+        (turned_later law old mid new run run_now (turn.Stepped kind.Login) stands.nodes (started old mid (ap is_writing waits.work_is) (ap is_awaiting waits.work_is) is_out.idle) (by_waits law old mid (Starting task.Login) room waits) (not_ended (turn.Stepped kind.Login) refl)
         record {
           others = steps.others;
           own = steps.own;
@@ -223,6 +229,7 @@ module _ (law : JcrLaw) (old mid new : Shown) (run : SessionRun) (stands : Stand
           alone = steps.alone;
           tells = (of_step, inl (event.Login s pin.base, made.0, refl));
           made = plain_step (after steps.others mid.history) mid new steps.own (event.Login s pin.base ∷ []) made.0 (not_left (starts_of law) (says_of law) mid.history.clusters mid.history.sessions mid.history.begin q run_logged.1 s out_now) (ap is_awaiting waits.work_is) refl tt;
+          in_order = outside_order law mid new run run_now kind.Login out_mid refl;
           same = (refl, refl);
           stands = stands_now;
         }))

@@ -1,5 +1,5 @@
 -- What a session reads before its turn leaves it where the history says.
-use Rattle.std.proofs.Common.{◌≡◌, ◌≤◌, ℕ, List, length, true, false, Some, None, Option, [], refl, sym, ap, ◌∙◌, subst}
+use Rattle.std.proofs.Common.{◌≡◌, ◌≤◌, ℕ, List, length, true, false, Some, None, Option, [], refl, sym, ap, ◌∙◌, subst, arith}
 use Rattle.std.specs.Prelude.{slice_get}
 use mathlib.Core.Bool.{false≢true}
 use Rattle.jr_part.specs.declared.need.Need.{Need}
@@ -18,13 +18,13 @@ use Rattle.jcr_session.specs.declared.run.SessionRun.{SessionRun}
 use Rattle.jcr_session.specs.declared.turn.Turn.{Turn}
 use Rattle.jcr_session.specs.declared.turn.Turn.TheVariants as turn
 use Rattle.jcr_session.specs.Asked.{MayForgo}
-use Rattle.jcr_session.specs.Standing.{HasLooked, HasCounted, IsBeside, IsBetween, IsCalled, IsIn, IsReading, IsRefused, IsSame, IsTurned, IsWantedNext, Stands, StandsAt, is_writing, may_read}
+use Rattle.jcr_session.specs.Standing.{HasLooked, HasCounted, IsBeside, IsBetween, IsCalled, IsIn, IsReading, IsRefused, IsSame, IsTurned, IsWantedNext, Stands, StandsAt, is_writing, may_read, stage_at, stage_of}
 use Rattle.jcr_session.proofs.Lawful.{at_between, between_forgoes}
 use Rattle.jcr_session.proofs.Nexts.{reads_between, reads_due, reads_next, same_reads}
 use Rattle.jcr_session.proofs.Reading.{beside_both, nobody}
 use Rattle.jcr_session.proofs.Saying.{turned_like}
 use Rattle.jcr_session.proofs.Turning.{Link, free, has_turned_later, is_awaiting, never_ends}
-use Rattle.jcr_session.proofs.Waiting.{called_beside, fresh_beside, in_beside, next_beside, nodes_beside, shown_beside}
+use Rattle.jcr_session.proofs.Waiting.{called_beside, fresh_beside, in_beside, next_beside, nodes_beside, shown_beside, unmoved_beside}
 
 -- ---- a session before a command for which it reads
 
@@ -51,6 +51,7 @@ module _ (law : JcrLaw) (old new : Shown) (run : SessionRun) (stands : Stands la
           call = here.1.call;
           is = called_beside law old new beside stands.nodes here.1.call here.1.is;
           holds = holds here.1.call here.1.holds here.1.is;
+          unmoved = unmoved_beside law old new beside stands.nodes here.1.unmoved;
           fresh = fresh_beside law old new beside stands.nodes here.1.fresh;
           reads = work;
           due = λ some. reads_due now (same_reads run now same.phase same.commands same.index ∙ reads);
@@ -107,9 +108,17 @@ reading_unawaited w (Some (need.Children p)) h = ap is_awaiting h
 reading_unawaited w (Some (need.Subtree p)) h = absurd h
 reading_unawaited w (Some need.All) h = absurd h
 
+reading_first : (w : Work) (o : Option Need) → IsReading w o → stage_of w ≡ 0
+reading_first w None h = ap stage_of h
+reading_first w (Some (need.Node p)) h = ap stage_of h
+reading_first w (Some (need.Children p)) h = ap stage_of h
+reading_first w (Some (need.Subtree p)) h = absurd h
+reading_first w (Some need.All) h = absurd h
+
 module _ (law : JcrLaw) (a b c : Shown) (run like now : SessionRun) (t : Turn) (old : Stands law a run) (reads : may_read run ≡ true) (looked : HasLooked law a b run like) where
   link_read : b.work ≡ Idle → Link a b
   link_read idle = free (ap is_writing idle) (ap is_awaiting idle) (reading_unawaited a.work run.fetch (at_between law a run old (reads_between run reads)).1.reads)
+      (subst (λ (n : ℕ). n ≤ stage_of b.work) (sym (reading_first a.work run.fetch (at_between law a run old (reads_between run reads)).1.reads)) (let le : 0 ≤ stage_of b.work = omega arith in le))
 
   -- no reading step is due for a session that has ended
   ends_read : IsTurned law b c run now turn.Ended → b ≡ a
@@ -118,7 +127,7 @@ module _ (law : JcrLaw) (a b c : Shown) (run like now : SessionRun) (t : Turn) (
   pub turned_behind : b.work ≡ Idle → HasCounted law b c like now t → HasCounted law a c run now t
   turned_behind idle turned =
       has_turned_later law a b c run now t old.nodes (link_read idle) looked.beside ends_read
-      (turned_like law b c run like now t looked.same.session looked.same.commands looked.same.index turned)
+      (turned_like law b c run like now t looked.same.session looked.same.commands looked.same.index (λ k is. subst (λ (f : Phase). stage_at run.phase b.work ≤ stage_at f b.work) (sym looked.same.phase) (let le : stage_at run.phase b.work ≤ stage_at run.phase b.work = omega arith in le)) turned)
 
 -- a session that has left makes no step
 pub over_ends : (law : JcrLaw) (p : Shown) (run : SessionRun) → Stands law p run → run.phase ≡ phase.Over → HasCounted law p p run run turn.Ended
@@ -130,6 +139,7 @@ over_ends law p run stands over = let gone = subst (λ (f : Phase). StandsAt law
   alone = nobody p.beside.seats;
   tells = refl;
   made = (refl, gone.left, gone.all);
+  in_order = tt;
   same = (refl, refl);
   stands = stands;
 }

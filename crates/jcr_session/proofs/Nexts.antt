@@ -12,14 +12,14 @@ use Rattle.jcr_trans.specs.declared.command.Command.TheVariants as command
 use Rattle.jr_part.specs.declared.need.Need.{Need}
 use Rattle.jcr_view.specs.Outcomes.{is_viewed}
 use Rattle.jcr_law.specs.State.{Call}
-use Rattle.jcr_held.specs.Comes.{commits}
+use Rattle.jcr_law.specs.Makes.{commits}
 use Rattle.jcr_held.specs.Unread.{IsWanted}
 use Rattle.jcr_session.specs.declared.next.Due.{Due}
 use Rattle.jcr_session.specs.declared.next.Due.TheVariants as due
 use Rattle.jcr_session.specs.declared.run.Phase.{Phase}
 use Rattle.jcr_session.specs.declared.run.Phase.TheVariants as phase
 use Rattle.jcr_session.specs.declared.run.SessionRun.{SessionRun}
-use Rattle.jcr_session.specs.Standing.{IsWantedNext, due_by, due_for, due_of, due_to, is_allowed, is_between, is_saving, may_read, reads_for}
+use Rattle.jcr_session.specs.Standing.{IsWantedNext, due_by, due_for, due_of, due_to, has_moved, is_allowed, is_between, is_saving, may_read, reads_for}
 
 abbrev pub due_number : Due → ℕ
 due_number due.Leave = 0
@@ -288,6 +288,10 @@ some_there commands i is = by (slice_get commands i) refl is
 -- a session that reads isn't in its commit
 pub reads_unsaving : {A : Type 0} (run : SessionRun) → may_read run ≡ true → is_saving run.phase ≡ true → A
 reads_unsaving run reads saving = absurd (false≢true (sym (ap is_saving (reads_between run reads)) ∙ saving))
+
+-- nor has its base moved
+pub reads_unmoved : {A : Type 0} (run : SessionRun) → may_read run ≡ true → has_moved run.phase ≡ true → A
+reads_unmoved run reads moved = absurd (false≢true (sym (ap has_moved (reads_between run reads)) ∙ moved))
 
 -- nothing is being read, so nothing that isn't wanted
 pub unwanted : (c : Call) (run : SessionRun) → run.fetch ≡ None → IsWantedNext c run

@@ -1,11 +1,13 @@
 -- What a session may answer where it stands, and where it stands once that is said.
-use Rattle.std.proofs.Common.{◌≡◌, ℕ, zero, suc, ◌+◌, ◌<◌, ◌≤◌, length, Bool, false, cond, ◌||◌, Some, None, Option, List, [], ◌∷◌, ◌++◌, is_some, refl, sym, ap, ◌∙◌, subst, arith}
+use Rattle.std.proofs.Common.{◌≡◌, ℕ, zero, suc, ◌+◌, ◌<◌, ◌≤◌, length, Bool, true, false, cond, not, ◌||◌, Some, None, Option, List, [], ◌∷◌, ◌++◌, is_some, refl, sym, ap, ◌∙◌, subst, arith}
 use Rattle.std.specs.Prelude.{◌==◌, slice_get}
+use Rattle.std.specs.List.{list_any}
 use mathlib.Core.Bool.{false≢true}
 use Rattle.jr_path.specs.Lists.{Text}
 use Rattle.jr_rev.specs.declared.revision.Revision.{Revision}
 use Rattle.jr_part.specs.declared.need.Need.{Need}
 use Rattle.oak_machine.specs.declared.event.Event.TheVariants as event
+use Rattle.oak_machine.specs.declared.event.StepKind.{StepKind}
 use Rattle.oak_machine.specs.History.{History, Past}
 use Rattle.std.specs.Option.{option_map_or}
 use Rattle.oak_machine.specs.Commits.{is_committed}
@@ -18,23 +20,25 @@ use Rattle.core_heads.proofs.Passing.{among_same, next_more, next_stays}
 use Rattle.jcr_law.specs.declared.law.JcrLaw.{JcrLaw}
 use Rattle.jcr_law.specs.Lasting.{says_last, says_of, starts_of}
 use Rattle.jcr_law.specs.Law.{SaysBy}
-use Rattle.jcr_law.specs.Since.{before_turn}
+use Rattle.jcr_law.specs.Since.{before_turn, is_move_of, is_unmoved}
 use Rattle.jcr_law.specs.State.{Call, call_of, command_at, is_ok_text}
 use Rattle.jcr_law.specs.Calls.{call_after}
 use Rattle.jcr_held.specs.Holds.{Holds}
 use Rattle.core_calls.specs.Seeing.{SeesTrees, SeesTyped}
 use Rattle.core_calls.proofs.Called.{said_call}
-use Rattle.jcr_session.specs.declared.limits.TheConstants.{MOST_COMMANDS}
+use Rattle.jcr_session.specs.declared.limits.TheConstants.{COMMIT_REPLY_BYTES, MOST_COMMANDS, VECTOR_REPLY_BYTES}
 use Rattle.jcr_session.specs.declared.run.Phase.TheVariants as phase
 use Rattle.jcr_session.specs.declared.run.SessionRun.{SessionRun}
 use Rattle.jcr_session.specs.declared.turn.Turn.{Turn}
 use Rattle.jcr_session.specs.declared.turn.Turn.TheVariants as turn
 use Rattle.jcr_session.specs.Asked.{IsAsked, MayAnswer, MayForgo, has_drawn}
-use Rattle.jcr_session.specs.Standing.{HasCounted, IsBeside, IsBetween, IsFresh, IsIn, IsReading, IsSeenFor, IsTurned, is_writing}
+use Rattle.jcr_session.specs.Nearing.{IsReply}
+use Rattle.jcr_session.specs.Standing.{HasCounted, IsBeside, IsBetween, IsFresh, IsIn, IsReading, IsSeenFor, IsTurned, is_writing, stage_at}
 use Rattle.jcr_session.proofs.Committing.{own}
 use Rattle.jcr_session.proofs.Nexts.{unwanted}
-use Rattle.jcr_session.proofs.Turning.{free, has_turned_later, is_awaiting, kept, never_ends}
-use Rattle.jcr_session.proofs.Waiting.{all_beside, by_waits, called_beside, in_beside, next_beside, shown_beside}
+use Rattle.jcr_session.proofs.Stages.{order_like}
+use Rattle.jcr_session.proofs.Turning.{has_turned_later, is_awaiting, kept, never_ends, started}
+use Rattle.jcr_session.proofs.Waiting.{all_beside, by_waits, called_beside, in_beside, next_beside, shown_beside, unmoved_beside}
 
 -- ---- before a reply
 
@@ -116,6 +120,7 @@ module _ (law : JcrLaw) (old new : Shown) (run : SessionRun) (text : Text) (may 
       quiet = λ still. refl;
       ended = tt;
     };
+    in_order = tt;
     stands = record {
       nodes = moved (λ h s. AreNodes h.clusters h.sessions) may.asked.inside.nodes;
       trees = moved (λ h s. SeesTrees law h.clusters h.sessions h.begin) may.asked.inside.trees;
@@ -195,12 +200,16 @@ module _ (law : JcrLaw) (old new : Shown) (run : SessionRun) (text : Text) (may 
         idle = among_same q (event.Said old.session run.index text) (λ r. refl) q old.session ∙ (all_beside law old before_shown waited may.asked.inside.nodes).idle may.asked.still;
       }
 
+      unmoved_said : is_unmoved said old.session ≡ true
+      unmoved_said = ap (λ (b : Bool). not (list_any (is_move_of old.session) (cond (b || false) [] (event.Said old.session run.index text ∷ since q old.session)))) (own old.session)
+
       between_now : IsBetween law new then_run
       between_now = record {
         call = call_after (is_ok_text text) (has_drawn old) may.call may.command;
         is = moved (λ h s. call_of law h.begin h.past s ≡ Some (call_after (is_ok_text text) (has_drawn old) may.call may.command))
             (called_said ∙ ap (λ (o : Option Revision). Some (call_after (is_ok_text text) (is_some o) may.call may.command)) drawn_same);
         holds = may.leaves;
+        unmoved = moved (λ h s. is_unmoved h.past s ≡ true) unmoved_said;
         fresh = moved (λ h s. IsFresh h.past s) fresh_said;
         reads = subst (λ (o : Option Need). IsReading new.work o) (sym may.asked.unread) done.work;
         due = λ some. absurd (false≢true (sym (ap is_some may.asked.unread) ∙ some));
@@ -213,6 +222,7 @@ forgo_waits law old new run drew beside idle may = record {
   command = may.command;
   call = may.call;
   asked = asked_waits law may.command may.call old new run may.asked beside idle;
+  unmoved = unmoved_beside law old new beside may.asked.inside.nodes may.unmoved;
   drew_is = ap is_some (drawn_waits law may.command may.call old new run may.asked beside) ∙ may.drew_is;
   uncommitted = shown_beside law old new beside (λ h n. option_map_or (is_committed h.past) (drawn_since h.past n) false ≡ false)
       (ap (λ (o : Option Revision). option_map_or (is_committed (beside.others ++ old.history.past)) o false) (all_beside law old new beside may.asked.inside.nodes).drawn
@@ -254,18 +264,22 @@ module _ (law : JcrLaw) (old : Shown) (run : SessionRun) (text : Text) (may : Ma
 -- a session that was idle and is so, behind events of others
 pub idle_later : (law : JcrLaw) (old mid new : Shown) (run now : SessionRun) (t : Turn) → IsIn law old → old.work ≡ Idle → mid.work ≡ Idle → IsBeside law old mid → HasCounted law mid new run now t → HasCounted law old new run now t
 idle_later law old mid new run now t inside was is beside turned =
-    has_turned_later law old mid new run now t inside.nodes (free (ap is_writing is) (ap is_awaiting is) (ap is_awaiting was)) beside
+    has_turned_later law old mid new run now t inside.nodes (started old mid (ap is_writing is) (ap is_awaiting is) was) beside
     (never_ends law mid new run now (in_beside law old mid beside inside.nodes inside)) turned
 
 -- ---- a turn of a session that holds something else, or says that it stands elsewhere
 
-pub turned_like : (law : JcrLaw) (old new : Shown) (run like now : SessionRun) (t : Turn) → like.session ≡ run.session → like.commands ≡ run.commands → like.index ≡ run.index → HasCounted law old new like now t → HasCounted law old new run now t
-turned_like law old new run like now (turn.Stepped k) session commands index h = record { others = h.others; own = h.own; grows = h.grows; beside = h.beside; alone = h.alone; made = h.made; same = (h.same.0 ∙ session, h.same.1 ∙ commands); tells = h.tells; stands = h.stands }
-turned_like law old new run like now (turn.Said i) session commands index h = record { others = h.others; own = h.own; grows = h.grows; beside = h.beside; alone = h.alone; made = h.made; same = (h.same.0 ∙ session, h.same.1 ∙ commands); tells = subst (λ n. Rattle.jcr_session.specs.Standing.Tells (after h.others old.history) old.session n (turn.Said i) h.own) index h.tells; stands = h.stands }
-turned_like law old new run like now (turn.Waiting q) session commands index h = record { others = h.others; own = h.own; grows = h.grows; beside = h.beside; alone = h.alone; made = h.made; same = (h.same.0 ∙ session, h.same.1 ∙ commands); tells = h.tells; stands = h.stands }
-turned_like law old new run like now turn.Ended session commands index h = record { others = h.others; own = h.own; grows = h.grows; beside = h.beside; alone = h.alone; made = h.made; same = (h.same.0 ∙ session, h.same.1 ∙ commands); tells = h.tells; stands = h.stands }
-turned_like law old new run like now turn.Read session commands index h = absurd h.tells
-turned_like law old new run like now turn.Memory session commands index h = tt
+pub turned_like : (law : JcrLaw) (old new : Shown) (run like now : SessionRun) (t : Turn) → like.session ≡ run.session → like.commands ≡ run.commands → like.index ≡ run.index → ((k : StepKind) → t ≡ turn.Stepped k → stage_at run.phase old.work ≤ stage_at like.phase old.work) → HasCounted law old new like now t → HasCounted law old new run now t
+turned_like law old new run like now (turn.Stepped k) session commands index stage h = record { others = h.others; own = h.own; grows = h.grows; beside = h.beside; alone = h.alone; made = h.made; in_order = order_like law old new run like now (turn.Stepped k) (stage k refl) h.in_order; same = (h.same.0 ∙ session, h.same.1 ∙ commands); tells = h.tells; stands = h.stands }
+turned_like law old new run like now (turn.Said i) session commands index stage h = record { others = h.others; own = h.own; grows = h.grows; beside = h.beside; alone = h.alone; made = h.made; in_order = tt; same = (h.same.0 ∙ session, h.same.1 ∙ commands); tells = subst (λ n. Rattle.jcr_session.specs.Standing.Tells (after h.others old.history) old.session n (turn.Said i) h.own) index h.tells; stands = h.stands }
+turned_like law old new run like now (turn.Waiting q) session commands index stage h = record { others = h.others; own = h.own; grows = h.grows; beside = h.beside; alone = h.alone; made = h.made; in_order = tt; same = (h.same.0 ∙ session, h.same.1 ∙ commands); tells = h.tells; stands = h.stands }
+turned_like law old new run like now turn.Ended session commands index stage h = record { others = h.others; own = h.own; grows = h.grows; beside = h.beside; alone = h.alone; made = h.made; in_order = tt; same = (h.same.0 ∙ session, h.same.1 ∙ commands); tells = h.tells; stands = h.stands }
+turned_like law old new run like now turn.Read session commands index stage h = absurd h.tells
+turned_like law old new run like now turn.Memory session commands index stage h = tt
+
+-- a reply, whatever is behind
+pub replied_like : (law : JcrLaw) (old new : Shown) (run like now : SessionRun) (t : Turn) → like.session ≡ run.session → like.commands ≡ run.commands → like.index ≡ run.index → IsReply t → HasCounted law old new like now t → HasCounted law old new run now t
+replied_like law old new run like now t session commands index reply h = turned_like law old new run like now t session commands index (λ k is. absurd (subst (λ (x : Turn). IsReply x) is reply)) h
 
 pub room_kept : (starts : _) (says : _) (old new : Shown) (work : Work) (n : ℕ) → OthersAlone starts says old new work (Some n) → HasRoom new.room n
 room_kept starts says old new work n waits = subst (λ (x : Option ℕ). HasRoom x n) (sym waits.room_is) (let h : n ≤ n = omega arith in h)
@@ -276,3 +290,7 @@ room_stays starts says old new work n waits h = subst (λ (x : Option ℕ). HasR
 pub room_less : (o : Option ℕ) (n m : ℕ) → m ≤ n → HasRoom o n → HasRoom o m
 room_less None n m le h = h
 room_less (Some k) n m le h = let a : n ≤ k = h in omega arith
+
+-- the place of a vector is one for want of memory
+pub refused_room : (was is : Option ℕ) → is ≡ was → HasRoom was VECTOR_REPLY_BYTES → HasRoom is COMMIT_REPLY_BYTES
+refused_room was is same h = subst (λ (x : Option ℕ). HasRoom x COMMIT_REPLY_BYTES) (sym same) (room_less was VECTOR_REPLY_BYTES COMMIT_REPLY_BYTES (let le : 40 ≤ 292 = omega arith in le) h)

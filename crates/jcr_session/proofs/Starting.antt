@@ -1,23 +1,29 @@
 -- A session leaves, and moves its base.
-use Rattle.std.proofs.Common.{◌≡◌, inl, ℕ, zero, suc, ◌≤◌, length, true, false, cond, ◌||◌, Some, None, Option, List, [], ◌∷◌, ◌++◌, refl, sym, ap, ◌∙◌, subst, arith}
+use Rattle.std.proofs.Common.{◌≡◌, inl, ℕ, zero, suc, ◌-◌, ◌≤◌, length, true, false, cond, ◌||◌, Some, None, Option, List, [], ◌∷◌, ◌++◌, refl, sym, ap, ◌∙◌, subst, arith}
 use Rattle.std.specs.Prelude.{slice_get}
+use Rattle.std.specs.Option.{option_map_or}
 use Rattle.jr_rev.specs.declared.vector.Pin.{Pin}
+use Rattle.jr_rev.specs.declared.vector.RevVec.{RevVec}
 use Rattle.jr_tree.specs.Trees.{IsTree, Nodes}
 use Rattle.oak_machine.specs.declared.event.Event.TheVariants as event
 use Rattle.oak_machine.specs.declared.event.StepKind.TheVariants as kind
+use Rattle.oak_machine.specs.Heads.{last_in, local}
 use Rattle.oak_machine.specs.History.{History, Past}
 use Rattle.oak_machine.specs.Commits.{tree_at}
 use Rattle.oak_machine.specs.Laws.{after}
 use Rattle.oak_machine.specs.Runs.{AreNodes, IsRun}
 use Rattle.oak_machine.specs.Sessions.{base_of, has_left, has_login, is_attached, is_drawing, next_index, refreshed_since}
-use Rattle.oak_port.specs.Ports.{AreOfStep, Grows, Idle, Makes, MayBegin, OthersAlone, Shown, Starting, Steps, Work}
+use Rattle.oak_port.specs.Ports.{AreOfStep, Grows, HasRoom, Idle, Makes, MayBegin, OthersAlone, Shown, Starting, Steps, Work}
 use Rattle.oak_port.specs.declared.task.StepOut.{StepOut}
 use Rattle.oak_port.specs.declared.task.StepOut.TheVariants as out
 use Rattle.oak_port.specs.declared.task.Task.{Task}
 use Rattle.oak_port.specs.declared.task.Task.TheVariants as task
 use Rattle.oak_port.specs.declared.task.TaskEnd.TheVariants as end
+use Rattle.core_heads.proofs.Entries.{set_length}
 use Rattle.core_heads.proofs.Passing.{among_same, next_stays}
+use Rattle.core_heads.proofs.Runs.{sound_run}
 use Rattle.jcr_trans.specs.declared.command.Command.{Command}
+use Rattle.jcr_trans.specs.declared.command.Command.TheVariants as command
 use Rattle.jcr_law.specs.declared.law.JcrLaw.{JcrLaw}
 use Rattle.jcr_law.specs.Lasting.{says_of, starts_of}
 use Rattle.jcr_law.specs.Since.{before_turn}
@@ -27,18 +33,20 @@ use Rattle.jcr_held.specs.Holds.{Holds}
 use Rattle.jcr_held.specs.declared.held.Held.{Held}
 use Rattle.core_calls.specs.Seeing.{SeesTrees, SeesTyped}
 use Rattle.core_calls.proofs.Called.{refresh_call}
-use Rattle.jcr_session.specs.declared.limits.TheConstants.{MOST_COMMANDS}
+use Rattle.jcr_session.specs.declared.limits.TheConstants.{MOST_COMMANDS, VECTOR_REPLY_BYTES}
 use Rattle.jcr_session.specs.declared.next.Due.TheVariants as due
+use Rattle.jcr_session.specs.declared.run.Phase.{Phase}
 use Rattle.jcr_session.specs.declared.run.Phase.TheVariants as phase
 use Rattle.jcr_session.specs.declared.run.SessionRun.{SessionRun}
 use Rattle.jcr_session.specs.declared.turn.Turn.{Turn}
 use Rattle.jcr_session.specs.declared.turn.Turn.TheVariants as turn
-use Rattle.jcr_session.specs.Standing.{HasCounted, IsBeside, IsBetween, IsFresh, IsIn, Stands, StandsAt, due_for, due_of, is_writing}
+use Rattle.jcr_session.specs.Standing.{HasCounted, IsBeside, IsBetween, IsFresh, IsIn, IsInOrder, Stands, StandsAt, due_for, due_of, due_to, is_writing, stage_at, stage_of}
 use Rattle.jcr_session.proofs.Committing.{own}
 use Rattle.jcr_session.proofs.Lawful.{at_between, idle_by}
-use Rattle.jcr_session.proofs.Nexts.{left_due}
+use Rattle.jcr_session.proofs.Nexts.{allowed_due, left_due, next_due, only_refresh}
 use Rattle.jcr_session.proofs.Reading.{beside_both}
-use Rattle.jcr_session.proofs.Turning.{free, is_awaiting, not_ended, plain_step, turned_later}
+use Rattle.jcr_session.proofs.Stages.{inside_order, next_is, next_later}
+use Rattle.jcr_session.proofs.Turning.{is_awaiting, not_ended, plain_step, started, turned_later}
 use Rattle.jcr_session.proofs.Waiting.{by_waits, called_beside, fresh_beside, in_beside}
 
 -- ---- a task that was begun, and a step of it
@@ -125,6 +133,14 @@ leave_begins law p run stands between = let i = (at_between law p run stands bet
 pub refresh_begins : (law : JcrLaw) (p : Shown) (run : SessionRun) → Stands law p run → run.phase ≡ phase.Between → MayBegin (starts_of law) p.history p.session task.Refresh
 refresh_begins law p run stands between = let i = (at_between law p run stands between).0 in (i.login, i.stays, i.detached)
 
+-- no command is left
+pub left_none : (commands : List Command) (i : ℕ) → due_of commands i ≡ due.Leave → slice_get commands i ≡ None
+left_none commands i h = by (slice_get commands i) h
+  where
+    by : (o : Option Command) → option_map_or due_to o due.Leave ≡ due.Leave → o ≡ None
+    by None h = refl
+    by (Some m) h = left_due m h
+
 -- a session that has nothing left to do has answered each command
 all_answered : (commands : List Command) (i : ℕ) → i ≤ length commands → due_of commands i ≡ due.Leave → i ≡ length commands
 all_answered [] zero within h = refl
@@ -148,7 +164,7 @@ module _ (law : JcrLaw) (old mid new : Shown) (room : Option ℕ) (run : Session
       let moment = inside_moment law old mid new task.End (out.Ready end.Ended) room inside waits steps in
       subst (λ (x : Turn). HasCounted law old new run now x) (sym told)
       (subst (λ (x : SessionRun). HasCounted law old new run x (turn.Stepped kind.End)) (sym is)
-      (turned_later law old mid new run (record run { phase = phase.Over }) (turn.Stepped kind.End) stands.nodes (free (ap is_writing waits.work_is) (ap is_awaiting waits.work_is) (ap is_awaiting (idle_by law old run stands between unread))) (by_waits law old mid (Starting task.End) room waits) (not_ended (turn.Stepped kind.End) refl)
+      (turned_later law old mid new run (record run { phase = phase.Over }) (turn.Stepped kind.End) stands.nodes (started old mid (ap is_writing waits.work_is) (ap is_awaiting waits.work_is) (idle_by law old run stands between unread)) (by_waits law old mid (Starting task.End) room waits) (not_ended (turn.Stepped kind.End) refl)
       record {
         others = steps.others;
         own = steps.own;
@@ -157,6 +173,8 @@ module _ (law : JcrLaw) (old mid new : Shown) (room : Option ℕ) (run : Session
         alone = steps.alone;
         tells = (of_step law old mid new task.End (out.Ready end.Ended) room inside waits steps, inl (event.Went mid.session kind.End, m.0, refl));
         made = plain_step (after steps.others mid.history) mid new steps.own (event.Went mid.session kind.End ∷ []) m.0 moment.stays (ap is_awaiting waits.work_is) refl tt;
+        in_order = inside_order law mid new run (record run { phase = phase.Over }) kind.End (inside_mid law old mid new task.End (out.Ready end.Ended) room inside waits steps).login None
+            (next_later law old mid (by_waits law old mid (Starting task.End) room waits) ∙ (next_is law old run stands ∙ left_none run.commands run.index next)) refl;
         same = (refl, refl);
         stands = stands_by law old mid new task.End (out.Ready end.Ended) room inside waits steps run stands (record run { phase = phase.Over }) refl refl refl
             (subst (λ (e : Past). next_index (e ++ (steps.others ++ mid.history.past)) mid.session ≡ next_index (steps.others ++ mid.history.past) mid.session) (sym m.0) refl)
@@ -171,7 +189,7 @@ module _ (law : JcrLaw) (old mid new : Shown) (room : Option ℕ) (run : Session
 
   -- ---- its base moves
 
-  module _ (pin : Pin) (next : due_for run ≡ due.Refresh) (waits : OthersAlone (starts_of law) (says_of law) old mid (Starting task.Refresh) room) (steps : Steps (starts_of law) (says_of law) mid new (out.Ready (end.Pinned pin))) where
+  module _ (pin : Pin) (next : due_for run ≡ due.Refresh) (place : HasRoom room VECTOR_REPLY_BYTES) (waits : OthersAlone (starts_of law) (says_of law) old mid (Starting task.Refresh) room) (steps : Steps (starts_of law) (says_of law) mid new (out.Ready (end.Pinned pin))) where
     made_refresh : Makes (after steps.others mid.history) mid.session (Starting task.Refresh) (out.Ready (end.Pinned pin)) steps.own new.work
     made_refresh = made law old mid new task.Refresh (out.Ready (end.Pinned pin)) room inside waits steps
 
@@ -205,6 +223,31 @@ module _ (law : JcrLaw) (old mid new : Shown) (room : Option ℕ) (run : Session
       unattached = by_moved (λ h n. is_attached (before_turn h.past n) n ≡ false) inside_then.unattached;
     }
 
+    -- the vector is one of eight entries
+    eight_moved : length pin.base ≡ 8
+    eight_moved =
+        let head = run_moved.0.head in
+        let m = mid.history in
+        ap (λ (v : RevVec). length v) head.2
+        ∙ (set_length (last_in m.clusters m.begin behind head.0) ((local m.begin behind head.0).cluster - 1) (Some (local m.begin behind head.0))
+        ∙ ((sound_run m.clusters m.sessions inside_then.nodes m.begin (starts_of law) (says_of law) behind run_moved.1).ins head.0 (inside_then.nodes.node mid.session head.0 head.1)).eight)
+
+    -- the move is the first step of its command
+    order_moved : (now : SessionRun) → IsInOrder law mid new run now (turn.Stepped kind.Pin)
+    order_moved now =
+        let m = next_due run due.Refresh next refl in
+        let k = only_refresh m.0 (allowed_due m.0 due.Refresh m.2 refl).1 in
+        inside_order law mid new run now kind.Pin (inside_mid law old mid new task.Refresh (out.Ready (end.Pinned pin)) room inside waits steps).login (Some (command.Refresh k.0))
+        (next_later law old mid (by_waits law old mid (Starting task.Refresh) room waits) ∙ (next_is law old run stands ∙ (m.1 ∙ ap (λ (x : Command). Some x) k.1)))
+        record {
+          place = 0;
+          kinds = kind.Pin ∷ [];
+          there = refl;
+          among = refl;
+          behind = subst (λ (n : ℕ). n ≤ 0) (sym (ap (λ (f : Phase). stage_at f mid.work) between ∙ ap stage_of waits.work_is)) (let le : 0 ≤ 0 = omega arith in le);
+          before = let le : 0 ≤ stage_at now.phase new.work = omega arith in le;
+        }
+
     -- the tree there
     abbrev tree : Nodes
     tree = tree_at mid.history.begin behind pin.base
@@ -225,7 +268,7 @@ module _ (law : JcrLaw) (old mid new : Shown) (room : Option ℕ) (run : Session
       moves_base now t is told =
           subst (λ (x : Turn). HasCounted law old new run now x) (sym told)
           (subst (λ (x : SessionRun). HasCounted law old new run x (turn.Stepped kind.Pin)) (sym is)
-          (turned_later law old mid new run run_now (turn.Stepped kind.Pin) stands.nodes (free (ap is_writing waits.work_is) (ap is_awaiting waits.work_is) (ap is_awaiting (idle_by law old run stands between unread))) (by_waits law old mid (Starting task.Refresh) room waits) (not_ended (turn.Stepped kind.Pin) refl)
+          (turned_later law old mid new run run_now (turn.Stepped kind.Pin) stands.nodes (started old mid (ap is_writing waits.work_is) (ap is_awaiting waits.work_is) (idle_by law old run stands between unread)) (by_waits law old mid (Starting task.Refresh) room waits) (not_ended (turn.Stepped kind.Pin) refl)
           record {
             others = steps.others;
             own = steps.own;
@@ -234,11 +277,14 @@ module _ (law : JcrLaw) (old mid new : Shown) (room : Option ℕ) (run : Session
             alone = steps.alone;
             tells = (of_step law old mid new task.Refresh (out.Ready (end.Pinned pin)) room inside waits steps, inl (event.Refresh mid.session pin.base, made_refresh.0, refl));
             made = plain_step (after steps.others mid.history) mid new steps.own (event.Refresh mid.session pin.base ∷ []) made_refresh.0 inside_then.stays (ap is_awaiting waits.work_is) refl tt;
+            in_order = order_moved run_now;
             same = (refl, refl);
             stands = stands_by law old mid new task.Refresh (out.Ready (end.Pinned pin)) room inside waits steps run stands run_now refl refl refl
                 (subst (λ (e : Past). next_index (e ++ behind) mid.session ≡ next_index behind mid.session) (sym made_refresh.0) refl) (
                   inside_moved,
                   record {
+                    eight = eight_moved;
+                    place = subst (λ (x : Option ℕ). HasRoom x VECTOR_REPLY_BYTES) (sym (steps.room ∙ waits.room_is)) place;
                     idle = made_refresh.1;
                     unread = unread;
                     refreshes = next;
@@ -271,8 +317,8 @@ stopped_beside law old mid new work room answer nodes waits steps none =
     }
 
 pub refresh_stops : (law : JcrLaw) (old mid new : Shown) (room : Option ℕ) (answer : StepOut) → AreNodes old.history.clusters old.history.sessions → OthersAlone (starts_of law) (says_of law) old mid (Starting task.Refresh) room
-    → Steps (starts_of law) (says_of law) mid new answer → answer ≡ out.Memory → IsBeside law old new × (new.work ≡ Idle)
+    → Steps (starts_of law) (says_of law) mid new answer → answer ≡ out.Memory → IsBeside law old new × (new.work ≡ Idle) × (new.room ≡ room)
 refresh_stops law old mid new room answer nodes waits steps memory =
     let made : (steps.own ≡ []) × (new.work ≡ Idle) = subst (λ (w : Work). Makes (after steps.others mid.history) mid.session w out.Memory steps.own new.work) waits.work_is
     (subst (λ (a : StepOut). Makes (after steps.others mid.history) mid.session mid.work a steps.own new.work) memory steps.makes) in
-    (stopped_beside law old mid new (Starting task.Refresh) room answer nodes waits steps made.0, made.1)
+    (stopped_beside law old mid new (Starting task.Refresh) room answer nodes waits steps made.0, made.1, steps.room ∙ waits.room_is)

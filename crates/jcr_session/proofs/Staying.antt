@@ -7,7 +7,7 @@ use Rattle.oak_machine.specs.Laws.{is_event_of}
 use Rattle.oak_machine.specs.Runs.{AreNodes, IsRun}
 use Rattle.oak_machine.specs.Sessions.{has_left, has_login, is_drawing, is_end_of_session, next_index, refreshed_since}
 use Rattle.oak_machine.proofs.Stays.{any_later}
-use Rattle.oak_port.specs.Ports.{Idle, Shown, OthersAlone, Work}
+use Rattle.oak_port.specs.Ports.{HasRoom, Idle, Shown, OthersAlone, Work}
 use Rattle.jcr_trans.specs.declared.command.Command.{Command}
 use Rattle.core_heads.proofs.Passing.{idle_stays, next_stays}
 use Rattle.jcr_law.specs.declared.law.JcrLaw.{JcrLaw}
@@ -15,13 +15,13 @@ use Rattle.jcr_law.specs.Lasting.{says_of, starts_of}
 use Rattle.jcr_law.specs.Since.{draw_since}
 use Rattle.jcr_law.specs.State.{Call, command_at}
 use Rattle.core_calls.specs.Seeing.{SeesTrees, SeesTyped}
-use Rattle.jcr_session.specs.declared.limits.TheConstants.{MOST_COMMANDS}
+use Rattle.jcr_session.specs.declared.limits.TheConstants.{MOST_COMMANDS, VECTOR_REPLY_BYTES}
 use Rattle.jcr_session.specs.declared.commit.Pledge.{Pledge}
 use Rattle.jcr_session.specs.declared.run.Phase.{Phase}
 use Rattle.jcr_session.specs.declared.run.Phase.TheVariants as phase
 use Rattle.jcr_session.specs.declared.run.SessionRun.{SessionRun}
 use Rattle.jcr_session.specs.Standing.{IsBeside, IsCommitting, IsFor, IsIn, IsNew, IsOutside, IsPlace, IsReading, Stands, StandsAt}
-use Rattle.jcr_session.proofs.Waiting.{all_beside, by_waits, called_beside, committed_beside, committing_beside, fresh_beside, in_beside, login_stays, next_beside, nodes_beside, shown_beside}
+use Rattle.jcr_session.proofs.Waiting.{all_beside, by_waits, called_beside, committed_beside, committing_beside, fresh_beside, in_beside, login_stays, next_beside, nodes_beside, shown_beside, unmoved_beside}
 
 module _ (law : JcrLaw) (p q : Shown) (run : SessionRun) (stands : Stands law p run) (beside : IsBeside law p q) (work : q.work ≡ p.work) (room : q.room ≡ p.room) where
   abbrev added : Past
@@ -47,6 +47,7 @@ module _ (law : JcrLaw) (p q : Shown) (run : SessionRun) (stands : Stands law p 
   at_now : (f : Phase) → StandsAt law p run f → StandsAt law q run f
   at_now phase.Outside h = record {
     idle = work ∙ h.idle;
+    first = h.first;
     out = shown_beside law p q beside (λ h n. has_login h.past n ≡ false) (login_stays (added ++ p.history.past) added p.history.past p.session beside.grows.theirs h.out);
     unread = h.unread;
     holds = h.holds;
@@ -58,6 +59,7 @@ module _ (law : JcrLaw) (p q : Shown) (run : SessionRun) (stands : Stands law p 
       call = h.1.call;
       is = called_beside law p q beside stands.nodes h.1.call h.1.is;
       holds = h.1.holds;
+      unmoved = unmoved_beside law p q beside stands.nodes h.1.unmoved;
       fresh = fresh_beside law p q beside stands.nodes h.1.fresh;
       reads = subst (λ (w : Work). IsReading w run.fetch) (sym work) h.1.reads;
       due = h.1.due;
@@ -67,6 +69,8 @@ module _ (law : JcrLaw) (p q : Shown) (run : SessionRun) (stands : Stands law p 
   at_now (phase.Refreshed v) h = (
     in_now h.0,
     record {
+      eight = h.1.eight;
+      place = subst (λ (x : Option ℕ). HasRoom x VECTOR_REPLY_BYTES) (sym room) h.1.place;
       idle = work ∙ h.1.idle;
       unread = h.1.unread;
       refreshes = h.1.refreshes;
@@ -118,6 +122,36 @@ module _ (law : JcrLaw) (p q : Shown) (run : SessionRun) (stands : Stands law p 
     at = at_now run.phase stands.at;
   }
 
+-- between two commands, whatever place there is for the reply
+pub stands_between : (law : JcrLaw) (p q : Shown) (run : SessionRun) → Stands law p run → IsBeside law p q → q.work ≡ p.work → run.phase ≡ phase.Between → Stands law q run
+stands_between law p q run stands beside work between = record {
+  nodes = nodes_beside law p q beside stands.nodes;
+  trees = shown_beside law p q beside (λ h n. SeesTrees law h.clusters h.sessions h.begin) stands.trees;
+  typed = shown_beside law p q beside (λ h n. SeesTyped law h.clusters h.sessions h.begin) stands.typed;
+  run_is = beside.grows.run;
+  session = beside.session ∙ stands.session;
+  few = stands.few;
+  commands = stands.commands;
+  index = stands.index ∙ (ap (next_index p.history.past) (sym stands.session) ∙ (sym (next_beside law p q beside) ∙ ap (next_index q.history.past) (beside.session ∙ stands.session)));
+  within = stands.within;
+  at = subst (λ (f : Phase). StandsAt law q run f) (sym between) (now (subst (λ (f : Phase). StandsAt law p run f) between stands.at));
+}
+  where
+    now : StandsAt law p run phase.Between → StandsAt law q run phase.Between
+    now h = (
+      in_beside law p q beside stands.nodes h.0,
+      record {
+        call = h.1.call;
+        is = called_beside law p q beside stands.nodes h.1.call h.1.is;
+        holds = h.1.holds;
+        unmoved = unmoved_beside law p q beside stands.nodes h.1.unmoved;
+        fresh = fresh_beside law p q beside stands.nodes h.1.fresh;
+        reads = subst (λ (w : Work). IsReading w run.fetch) (sym work) h.1.reads;
+        due = h.1.due;
+        wanted = h.1.wanted;
+      },
+    )
+
 pub stands_waits : (law : JcrLaw) (p q : Shown) (run : SessionRun) → Stands law p run → OthersAlone (starts_of law) (says_of law) p q p.work p.room → Stands law q run
 stands_waits law p q run stands waits = stands_beside law p q run stands (by_waits law p q p.work p.room waits) waits.work_is waits.room_is
 
@@ -140,6 +174,7 @@ module _ (law : JcrLaw) (p : Shown) (session : ℕ) (commands : List Command) (r
   outside : StandsAt law p run phase.Outside
   outside = subst (λ (s : ℕ). IsOutside law (record p { session = s }) run) (sym own) record {
     idle = idle;
+    first = new.first;
     out = from_nothing (λ (w : Past). has_login w session ≡ false) (login_stays past past [] session none refl);
     unread = new.unread;
     holds = record { nothing = new.holds.nothing; session_is = new.holds.session_is ∙ sym new.session_is; earlier_is = new.holds.earlier_is; types_are = new.holds.types_are };

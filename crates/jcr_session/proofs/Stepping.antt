@@ -1,6 +1,7 @@
 -- Each step of a commit leaves its session where the history says.
-use Rattle.std.proofs.Common.{◌≡◌, inl, ℕ, true, false, cond, None, Some, Option, [], ◌∷◌, ◌++◌, refl, sym, ap, ◌∙◌, subst}
-use Rattle.std.specs.Prelude.{reverse}
+use Rattle.std.proofs.Common.{◌≡◌, ◌⊎◌, inl, inr, ℕ, ◌≤◌, true, false, cond, None, Some, Option, List, [], ◌∷◌, ◌++◌, refl, sym, ap, ◌∙◌, subst, arith}
+use Rattle.std.specs.Prelude.{reverse, slice_get}
+use Rattle.std.specs.List.{list_any}
 use mathlib.Core.Bool.{false≢true}
 use Rattle.jr_rev.specs.declared.revision.Revision.{Revision}
 use Rattle.jr_rev.specs.declared.vector.RevVec.{RevVec}
@@ -13,9 +14,9 @@ use Rattle.oak_machine.specs.Commits.{tree_at}
 use Rattle.oak_machine.specs.Laws.{after}
 use Rattle.oak_machine.specs.Runs.{AreNodes, IsRun}
 use Rattle.oak_machine.specs.Sessions.{base_of, has_left, has_login, is_attached, is_login_of, next_index, refreshed_since}
-use Rattle.oak_machine.specs.Steps.{is_appended_by}
+use Rattle.oak_machine.specs.Steps.{is_appended_by, is_kind}
 use Rattle.oak_machine.proofs.Stays.{any_later}
-use Rattle.oak_port.specs.Ports.{AreOfStep, Awaiting, Deciding, Grows, Idle, IsFinish, Learning, Makes, Publishing, Shown, Starting, Steps, Undoing, Work, Writing, is_by_due}
+use Rattle.oak_port.specs.Ports.{AreOfStep, Awaiting, Deciding, Grows, Idle, IsFinish, Learning, Makes, Publishing, Shown, Starting, Steps, Undoing, Work, Writing, WritesOn, is_by_due}
 use Rattle.oak_commit.specs.declared.outcome.CommitEnd.{CommitEnd}
 use Rattle.oak_commit.specs.declared.outcome.CommitEnd.TheVariants as commit
 use Rattle.oak_port.specs.declared.task.StepOut.{StepOut}
@@ -24,6 +25,7 @@ use Rattle.oak_port.specs.declared.task.TaskEnd.TheVariants as end
 use Rattle.core_heads.proofs.Passing.{next_stays}
 use Rattle.jcr_law.specs.declared.law.JcrLaw.{JcrLaw}
 use Rattle.jcr_law.specs.Lasting.{says_of, starts_of}
+use Rattle.jcr_law.specs.Makes.{commit_stages}
 use Rattle.jcr_law.specs.Since.{before_turn, draw_since}
 use Rattle.jcr_law.specs.State.{Call, call_of}
 use Rattle.core_calls.specs.Seeing.{SeesTrees, SeesTyped}
@@ -35,9 +37,11 @@ use Rattle.jcr_session.specs.declared.run.SessionRun.{SessionRun}
 use Rattle.jcr_session.specs.declared.turn.Turn.{Turn}
 use Rattle.jcr_session.specs.declared.turn.Turn.TheVariants as turn
 use Rattle.jcr_session.specs.Answered.{kind_of_end, phase_by, turn_by}
-use Rattle.jcr_session.specs.Standing.{HasAwaited, HasCommitted, HasDrawnFor, HasCounted, IsBeside, IsCalled, IsCommitting, IsFor, IsIn, IsInCommit, IsMade, IsMadeFor, IsPlace, IsSeenFor, IsStep, IsToldEnd, IsTurned, Stands, StandsAt, Tells, is_writing}
+use Rattle.jcr_session.specs.Standing.{HasAwaited, HasCommitted, HasDrawnFor, HasCounted, IsBeside, IsCalled, IsCommitting, IsFor, IsIn, IsInCommit, IsInOrder, IsMade, IsMadeFor, IsPlace, IsSeenFor, IsStep, IsToldEnd, IsTurned, Stands, StandsAt, Tells, is_writing, stage_at, stage_of}
 use Rattle.jcr_session.proofs.Committing.{clash_end, committing_finish, committing_undo, committing_write, own, still_moved, unmade_end}
+use Rattle.jcr_session.proofs.Drawing.{commit_commits}
 use Rattle.jcr_session.proofs.Reading.{tree_called}
+use Rattle.jcr_session.proofs.Stages.{commit_order, next_is, refusal_kind}
 use Rattle.jcr_session.proofs.Turning.{IsQuiet, Link, awaited_finish, awaited_write, due_finish, free, has_turned_later, is_awaiting, never_ends, one_finish, one_write, quiet_by, quiet_finish, quiet_write}
 use Rattle.jcr_session.proofs.Waiting.{all_same, call_still, committing_still, in_beside}
 
@@ -95,9 +99,9 @@ module _ (law : JcrLaw) (old new : Shown) (answer : StepOut) (run : SessionRun) 
     at = at;
   }
 
-  turned_quiet : (f : Phase) (t : Turn) → Tells moment old.session run.index t steps.own → IsMade moment old new (record run { phase = f }) steps.own t → next_index (steps.own ++ moment.past) old.session ≡ next_index moment.past old.session → StandsAt law new (record run { phase = f }) f
+  turned_quiet : (f : Phase) (t : Turn) → Tells moment old.session run.index t steps.own → IsMade moment old new (record run { phase = f }) steps.own t → IsInOrder law old new run (record run { phase = f }) t → next_index (steps.own ++ moment.past) old.session ≡ next_index moment.past old.session → StandsAt law new (record run { phase = f }) f
       → IsTurned law old new run (record run { phase = f }) t
-  turned_quiet f t tells made next at = record { others = steps.others; own = steps.own; grows = steps.grows; beside = steps.beside; alone = steps.alone; tells = tells; made = made; same = (refl, refl); stands = stands_quiet f next at }
+  turned_quiet f t tells made order next at = record { others = steps.others; own = steps.own; grows = steps.grows; beside = steps.beside; alone = steps.alone; tells = tells; made = made; in_order = order; same = (refl, refl); stands = stands_quiet f next at }
 
   -- ---- a step of a commit
 
@@ -107,6 +111,33 @@ module _ (law : JcrLaw) (old new : Shown) (answer : StepOut) (run : SessionRun) 
 
     abbrev c : Call
     c = at_commit.call
+
+    -- by what was being done and is, a step of a stage between
+    ordered : (f : Phase) (k : StepKind) (w v : Work) (n : ℕ) (kinds : List StepKind) → old.work ≡ w → new.work ≡ v → slice_get (commit_stages ++ (kind.Say ∷ []) ∷ []) n ≡ Some kinds → list_any (is_kind k) kinds ≡ true
+        → stage_of w ≤ n → n ≤ stage_at f v → IsInOrder law old new run (record run { phase = f }) (turn.Stepped k)
+    ordered f k w v n kinds was is there among behind before =
+        commit_order law old new run (record run { phase = f }) k inside.login at_commit.for.command (commit_commits run at_commit.for.command at_commit.for.next at_commit.for.commits) (next_is law old run stands ∙ at_commit.for.next) n kinds there among
+        (subst (λ (m : ℕ). m ≤ n) (sym (ap (λ (g : Phase). stage_at g old.work) commits ∙ ap stage_of was)) behind)
+        (subst (λ (x : Work). n ≤ stage_at f x) (sym is) before)
+
+    -- a step that writes
+    write_order : (k : StepKind) (r : Revision) → old.work ≡ Writing r → WritesOn old.session r k steps.own new.work → is_appended_by moment old.session k (reverse steps.own) ≡ true → IsInOrder law old new run (record run { phase = phase.Committing a }) (turn.Stepped k)
+    write_order k r was (inl (is, mine, inl work)) told = subst (λ (x : StepKind). IsInOrder law old new run (record run { phase = phase.Committing a }) (turn.Stepped x)) (sym is)
+        (ordered (phase.Committing a) kind.Write (Writing r) (Writing r) 1 (kind.Write ∷ kind.Mark ∷ []) was work refl refl (let le : 1 ≤ 1 = omega arith in le) (let le : 1 ≤ 1 = omega arith in le))
+    write_order k r was (inl (is, mine, inr work)) told = subst (λ (x : StepKind). IsInOrder law old new run (record run { phase = phase.Committing a }) (turn.Stepped x)) (sym is)
+        (ordered (phase.Committing a) kind.Write (Writing r) (Undoing r commit.Memory) 1 (kind.Write ∷ kind.Mark ∷ []) was work refl refl (let le : 1 ≤ 1 = omega arith in le) (let le : 1 ≤ 3 = omega arith in le))
+    write_order k r was (inr (inl (is, mine, work))) told = subst (λ (x : StepKind). IsInOrder law old new run (record run { phase = phase.Committing a }) (turn.Stepped x)) (sym is)
+        (ordered (phase.Committing a) kind.Mark (Writing r) (Writing r) 1 (kind.Write ∷ kind.Mark ∷ []) was work refl refl (let le : 1 ≤ 1 = omega arith in le) (let le : 1 ≤ 1 = omega arith in le))
+    write_order k r was (inr (inr (inl (is, mine, work)))) told = subst (λ (x : StepKind). IsInOrder law old new run (record run { phase = phase.Committing a }) (turn.Stepped x)) (sym is)
+        (ordered (phase.Committing a) kind.Last (Writing r) (Deciding r) 2 (kind.Last ∷ []) was work refl refl (let le : 1 ≤ 2 = omega arith in le) (let le : 2 ≤ 4 = omega arith in le))
+    write_order k r was (inr (inr (inr (item, o, mine, work)))) told =
+        by (refusal_kind moment old.session k r o item (subst (λ (p : Past). is_appended_by moment old.session k (reverse p) ≡ true) mine told))
+      where
+        by : (k ≡ kind.Mark) ⊎ (k ≡ kind.Last) → IsInOrder law old new run (record run { phase = phase.Committing a }) (turn.Stepped k)
+        by (inl is) = subst (λ (x : StepKind). IsInOrder law old new run (record run { phase = phase.Committing a }) (turn.Stepped x)) (sym is)
+            (ordered (phase.Committing a) kind.Mark (Writing r) (Undoing r (commit.Clash item o)) 1 (kind.Write ∷ kind.Mark ∷ []) was work refl refl (let le : 1 ≤ 1 = omega arith in le) (let le : 1 ≤ 3 = omega arith in le))
+        by (inr is) = subst (λ (x : StepKind). IsInOrder law old new run (record run { phase = phase.Committing a }) (turn.Stepped x)) (sym is)
+            (ordered (phase.Committing a) kind.Last (Writing r) (Undoing r (commit.Clash item o)) 2 (kind.Last ∷ []) was work refl refl (let le : 1 ≤ 2 = omega arith in le) (let le : 2 ≤ 3 = omega arith in le))
 
     -- what the command is run with, before the step
     called_moment : call_of law old.history.begin moment.past old.session ≡ Some c
@@ -239,6 +270,7 @@ module _ (law : JcrLaw) (old new : Shown) (answer : StepOut) (run : SessionRun) 
         let quiet = quiet_write old.session r k steps.own new.work m in
         turned_quiet (phase.Committing a) (turn.Stepped k) (told, one_write old.session r k steps.own new.work m)
         (made_by (Writing r) at tt (λ still. absurd (false≢true (sym still))) (awaited_write old.session r k steps.own new.work moment.past m))
+        (write_order k r at m told)
         (quiet.next moment.past) (goes_on quiet (committing_write moment.past old.session r k steps.own new.work (still (Writing r) committing) m))
     step_by (Writing r) out.Memory at committing m told = tt
     step_by (Writing r) x at committing m told = absurd m
@@ -246,6 +278,7 @@ module _ (law : JcrLaw) (old new : Shown) (answer : StepOut) (run : SessionRun) 
         let quiet = quiet_by old.session steps.own (event.Went old.session kind.Undo ∷ []) mine record { left = λ q. refl; next = λ q. refl; attached = λ q. refl; begins = λ q. refl; calls = refl; draws = λ q. refl } in
         turned_quiet (phase.Committing a) (turn.Stepped k) (told, inl (event.Went old.session kind.Undo, mine, refl))
         (made_by (Undoing r e) at tt (λ still. subst (λ (p : Past). is_by_due None p ≡ true) (sym mine) refl) (subst (λ (p : Past). HasAwaited moment.past p new.work) (sym mine) tt))
+        (ordered (phase.Committing a) k (Undoing r e) (Undoing r e) 3 (kind.Undo ∷ []) at work refl (subst (λ (x : StepKind). list_any (is_kind x) (kind.Undo ∷ []) ≡ true) (sym is) refl) (let le : 3 ≤ 3 = omega arith in le) (let le : 3 ≤ 3 = omega arith in le))
         (quiet.next moment.past) (goes_on quiet (committing_undo moment.past old.session r e steps.own new.work (still (Undoing r e) committing) mine work))
     step_by (Undoing r e) (out.Ready (end.Commit f)) at committing (end_is, finish, idle) told =
         let quiet = quiet_finish old.session r steps.own finish in
@@ -253,6 +286,7 @@ module _ (law : JcrLaw) (old new : Shown) (answer : StepOut) (run : SessionRun) 
         turned_quiet (phase.Committed f a) (turn.Stepped (kind_of_end f))
         (subst (λ (k : StepKind). is_appended_by moment old.session k (reverse steps.own) ≡ true) (kind_undone old.history.past r e f end_is committing.2) told, one_finish r steps.own finish)
         (made_by (Undoing r e) at tt (λ still. due_finish r steps.own finish) (awaited_finish r steps.own new.work moment.past finish (λ made. absurd (false≢true (sym now.1 ∙ made)))))
+        (ordered (phase.Committed f a) (kind_of_end f) (Undoing r e) Idle 4 (kind.Finish ∷ []) at idle refl (subst (λ (x : StepKind). list_any (is_kind x) (kind.Finish ∷ []) ≡ true) (kind_undone old.history.past r e f end_is committing.2) refl) (let le : 3 ≤ 4 = omega arith in le) (let le : 4 ≤ 6 = omega arith in le))
         (quiet.next moment.past)
         (has_ended f idle (inside_quiet quiet) (quiet.draws moment.past) (subst (λ (y : CommitEnd). HasCommitted law new c y) (sym end_is) (undone r e finish now)))
     step_by (Undoing r e) x at committing m told = absurd m
@@ -260,18 +294,20 @@ module _ (law : JcrLaw) (old new : Shown) (answer : StepOut) (run : SessionRun) 
         let quiet = quiet_finish old.session r steps.own finish in
         turned_quiet (phase.Committing a) (turn.Stepped k) (told, one_finish r steps.own finish)
         (made_by (Deciding r) at tt (λ still. due_finish r steps.own finish) (awaited_finish r steps.own new.work moment.past finish (λ made. work)))
+        (ordered (phase.Committing a) k (Deciding r) (Awaiting r) 4 (kind.Finish ∷ []) at work refl (subst (λ (x : StepKind). list_any (is_kind x) (kind.Finish ∷ []) ≡ true) (sym is) refl) (let le : 4 ≤ 4 = omega arith in le) (let le : 4 ≤ 5 = omega arith in le))
         (quiet.next moment.past) (goes_on quiet (committing_finish moment.past old.session r steps.own new.work (still (Deciding r) committing) finish work))
     step_by (Deciding r) x at committing m told = absurd m
     step_by (Awaiting r) (out.Wait q) at committing (mine, work, unseen, held) told =
         let quiet = quiet_by old.session steps.own [] mine record { left = λ q. refl; next = λ q. refl; attached = λ q. refl; begins = λ q. refl; calls = refl; draws = λ q. refl } in
         let now = still (Awaiting r) committing in
-        turned_quiet (phase.Committing a) (turn.Waiting q) mine (r, at, work, record { theirs = now.0.theirs; committed = now.1; ended = now.2; unseen = unseen }, held) (quiet.next moment.past)
+        turned_quiet (phase.Committing a) (turn.Waiting q) mine (r, at, work, record { theirs = now.0.theirs; committed = now.1; ended = now.2; unseen = unseen }, held) tt (quiet.next moment.past)
         (goes_on quiet (subst (λ (w : Work). IsCommitting (steps.own ++ moment.past) old.session w) (sym work)
         (subst (λ (e : Past). IsCommitting (e ++ moment.past) old.session (Awaiting r)) (sym mine) now)))
     step_by (Awaiting r) (out.Ready (end.Commit f)) at committing (end_is, head_sees, v, sees_it, mine, idle) told =
         turned_quiet (phase.Committed f a) (turn.Stepped (kind_of_end f))
         (subst (λ (y : CommitEnd). is_appended_by moment old.session (kind_of_end y) (reverse steps.own) ≡ true) (sym end_is) told, inl (event.Refresh old.session v, mine, refl))
         (made_by (Awaiting r) at head_sees (λ still. subst (λ (p : Past). is_by_due None p ≡ true) (sym mine) refl) (subst (λ (p : Past). HasAwaited moment.past p new.work) (sym mine) tt))
+        (ordered (phase.Committed f a) (kind_of_end f) (Awaiting r) Idle 5 (kind.Pin ∷ []) at idle refl (subst (λ (y : CommitEnd). list_any (is_kind (kind_of_end y)) (kind.Pin ∷ []) ≡ true) (sym end_is) refl) (let le : 5 ≤ 5 = omega arith in le) (let le : 5 ≤ 6 = omega arith in le))
         (subst (λ (e : Past). next_index (e ++ moment.past) old.session ≡ next_index moment.past old.session) (sym mine) refl)
         (has_ended f idle (inside_moved v mine) (subst (λ (e : Past). draw_since (e ++ moment.past) old.session ≡ draw_since moment.past old.session) (sym mine) refl)
         (subst (λ (y : CommitEnd). HasCommitted law new c y) (sym end_is) (done v mine r (still (Awaiting r) committing) sees_it)))
@@ -300,6 +336,7 @@ module _ (law : JcrLaw) (old new : Shown) (answer : StepOut) (run : SessionRun) 
       pub undoing : is_writing new.work ≡ false
       pub waitless : is_awaiting new.work ≡ false
       pub unawaited : is_awaiting work ≡ false
+      pub further : stage_of work ≤ stage_of new.work
 
     refused_by : (work : Work) → IsCommitting old.history.past old.session work → Makes moment old.session work out.Memory steps.own new.work → IsRefusedStep work
     refused_by (Writing r) committing (mine, work) =
@@ -312,6 +349,7 @@ module _ (law : JcrLaw) (old new : Shown) (answer : StepOut) (run : SessionRun) 
           undoing = ap is_writing work;
           waitless = ap is_awaiting work;
           unawaited = refl;
+          further = subst (λ (w : Work). 1 ≤ stage_of w) (sym work) (let le : 1 ≤ 3 = omega arith in le);
         }
     refused_by (Undoing r e) committing m = absurd m
     refused_by (Deciding r) committing m = absurd m
@@ -329,7 +367,7 @@ module _ (law : JcrLaw) (old new : Shown) (answer : StepOut) (run : SessionRun) 
         let r = refused memory in (
           subst (λ (x : SessionRun). Stands law new x) same_run r.still_stands,
           record { others = steps.others; grows = subst (λ (e : Past). Grows (starts_of law) (says_of law) old.session old.history new.history steps.others e) r.none steps.grows; session = steps.session; beside = steps.beside; alone = steps.alone },
-          free r.undoing r.waitless r.unawaited,
+          free r.undoing r.waitless r.unawaited r.further,
         )
 
 pub inside_commit : (law : JcrLaw) (p : Shown) (run : SessionRun) (a : Pledge) → Stands law p run → run.phase ≡ phase.Committing a → IsIn law p

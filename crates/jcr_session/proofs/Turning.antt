@@ -1,5 +1,5 @@
 -- Each turn leaves its session where the history says.
-use Rattle.std.proofs.Common.{◌≡◌, inl, inr, ℕ, Bool, true, false, None, Option, List, [], ◌∷◌, ◌++◌, refl, sym, ap, ◌∙◌, subst}
+use Rattle.std.proofs.Common.{◌≡◌, inl, inr, ℕ, ◌≤◌, Bool, true, false, None, Option, List, [], ◌∷◌, ◌++◌, refl, sym, ap, ◌∙◌, subst, arith}
 use Rattle.std.specs.Prelude.{IfSome}
 use Rattle.std.specs.List.{list_any}
 use mathlib.Core.Bool.{false≢true}
@@ -20,9 +20,10 @@ use Rattle.core_calls.specs.Events.{is_calling}
 use Rattle.jcr_session.specs.declared.run.SessionRun.{SessionRun}
 use Rattle.jcr_session.specs.declared.turn.Turn.{Turn}
 use Rattle.jcr_session.specs.declared.turn.Turn.TheVariants as turn
-use Rattle.jcr_session.specs.Standing.{HasAwaited, HasCounted, IsBeside, IsIn, IsMade, IsOneStep, IsSeenFor, IsStep, IsTurned, IsUnseen, Tells, is_writing}
+use Rattle.jcr_session.specs.Standing.{HasAwaited, HasCounted, IsBeside, IsIn, IsMade, IsOneStep, IsSeenFor, IsStep, IsTurned, IsUnseen, Tells, is_writing, stage_of}
 use Rattle.jcr_session.proofs.Others.{others_both}
 use Rattle.jcr_session.proofs.Reading.{after_both, alone_both}
+use Rattle.jcr_session.proofs.Stages.{order_later}
 use Rattle.jcr_session.proofs.Waiting.{left_stays}
 
 -- ---- a counted step
@@ -60,10 +61,19 @@ plain_step h old new own made is stays awaits due ended = subst (λ (e : Past). 
 
 -- ---- a turn behind events of others
 
--- what was being done and due is so still; or the turn writes nothing, and nothing was waited for
+-- what was being done and due is so still; or the turn writes nothing, nothing was waited for, and no
+-- fewer stages are behind
 pub data Link (old mid : Shown) : Type 0 where
   kept : mid.work ≡ old.work → mid.due ≡ old.due → Link old mid
-  free : is_writing mid.work ≡ false → is_awaiting mid.work ≡ false → is_awaiting old.work ≡ false → Link old mid
+  free : is_writing mid.work ≡ false → is_awaiting mid.work ≡ false → is_awaiting old.work ≡ false → stage_of old.work ≤ stage_of mid.work → Link old mid
+
+-- nothing was being done
+pub started : (old mid : Shown) → is_writing mid.work ≡ false → is_awaiting mid.work ≡ false → old.work ≡ Idle → Link old mid
+started old mid still waitless idle = free still waitless (ap is_awaiting idle) (subst (λ (w : Work). stage_of w ≤ stage_of mid.work) (sym idle) (let le : 0 ≤ stage_of mid.work = omega arith in le))
+
+link_stage : (old mid : Shown) → Link old mid → stage_of old.work ≤ stage_of mid.work
+link_stage old mid (kept work due) = subst (λ (w : Work). stage_of old.work ≤ stage_of w) (sym work) (let le : stage_of old.work ≤ stage_of old.work = omega arith in le)
+link_stage old mid (free still unwaited awaits le) = le
 
 step_later : (h : History) (old mid new : Shown) (own : Past) → Link old mid → mid.session ≡ old.session → IsStep h mid new own → IsStep h old new own
 step_later h old mid new own (kept work due) session step = record {
@@ -73,7 +83,7 @@ step_later h old mid new own (kept work due) session step = record {
   quiet = λ still. step.quiet (ap is_writing work ∙ still);
   ended = step.ended;
 }
-step_later h old mid new own (free still unwaited awaits) session step = record {
+step_later h old mid new own (free still unwaited awaits le) session step = record {
   stays = subst (λ (s : ℕ). has_left h.past s ≡ false) session step.stays;
   seen = unawaited h old.work awaits;
   as_due = any_due old.due own (step.quiet still);
@@ -88,7 +98,7 @@ made_later h old mid new now own (turn.Waiting q) link session made never = by l
   where
     by : Link old mid → IsMade h old new now own (turn.Waiting q)
     by (kept work due) = (made.0, sym work ∙ made.1, made.2, subst (λ (s : ℕ). IsUnseen h s made.0) session made.3, made.4)
-    by (free still unwaited awaits) = absurd (false≢true (sym unwaited ∙ ap is_awaiting made.1))
+    by (free still unwaited awaits le) = absurd (false≢true (sym unwaited ∙ ap is_awaiting made.1))
 made_later h old mid new now own turn.Read link session made never = made
 made_later h old mid new now own turn.Ended link session made never = absurd (never refl)
 made_later h old mid new now own turn.Memory link session made never = made
@@ -107,6 +117,7 @@ turned_later law a b c run now answer nodes link waits never turned = record {
   alone = alone_both a.beside.seats turned.others waits.others waits.alone (subst (λ (o : Option (List Seat)). IfSome o (λ seats. turned.others ≡ [])) (ap (λ (x : Beside). x.seats) waits.beside) turned.alone);
   tells = subst (λ (h : History). Tells h a.session run.index answer turned.own) moment (subst (λ (s : ℕ). Tells (after turned.others b.history) s run.index answer turned.own) waits.session turned.tells);
   made = subst (λ (h : History). IsMade h a c now turned.own answer) moment (made_later (after turned.others b.history) a b c now turned.own answer link waits.session turned.made never);
+  in_order = order_later law a b c run now answer waits (link_stage a b link) turned.in_order;
   same = turned.same;
   stands = turned.stands;
 }

@@ -20,7 +20,7 @@ use Rattle.core_heads.proofs.Passing.{next_stays}
 use Rattle.jcr_law.specs.declared.law.JcrLaw.{JcrLaw}
 use Rattle.jcr_law.specs.Growing.{HasAllOf, call_same, trees_same}
 use Rattle.jcr_law.specs.Lasting.{grows_by_others, says_of, starts_of}
-use Rattle.jcr_law.specs.Since.{before_turn}
+use Rattle.jcr_law.specs.Since.{before_turn, is_unmoved}
 use Rattle.jcr_law.specs.State.{Call, call_of}
 use Rattle.jcr_session.specs.Standing.{HasCommitted, HasDrawn, IsBeside, IsCalled, IsClash, IsCommitting, IsFresh, IsIn, IsToldEnd, IsUnmade}
 use Rattle.jcr_session.proofs.Others.{last_others, refusal_own, revision_stays, uncommitted_own}
@@ -62,6 +62,7 @@ module _ (law : JcrLaw) (h : History) (s : ℕ) (added : Past) (nodes : AreNodes
 
   drawn_still : (r : Revision) → HasDrawn h.past s r → HasDrawn whole s r
   drawn_still r has = record {
+    unmoved = all_same.still ∙ has.unmoved;
     made = has.made;
     revision = has.revision;
     draw = all_same.draw ∙ has.draw;
@@ -91,6 +92,7 @@ module _ (law : JcrLaw) (h : History) (s : ℕ) (added : Past) (nodes : AreNodes
 
   pub unmade_still : (r : Revision) → IsUnmade h.past s r → IsUnmade whole s r
   unmade_still r is = record {
+    unmoved = all_same.still ∙ is.unmoved;
     drawn = all_same.drawn ∙ is.drawn;
     unmade =
         subst (λ (o : Option Revision). option_map_or (is_committed whole) o false ≡ false) is.drawn
@@ -149,6 +151,10 @@ module _ (law : JcrLaw) (old new : Shown) (beside : IsBeside law old new) where
 
     pub fresh_beside : IsFresh old.history.past old.session → IsFresh new.history.past new.session
     fresh_beside is = shown_beside (λ h n. IsFresh h.past n) (fresh_still law old.history old.session added nodes later beside.grows.theirs is)
+
+    -- nor has its base moved
+    pub unmoved_beside : is_unmoved old.history.past old.session ≡ true → is_unmoved new.history.past new.session ≡ true
+    unmoved_beside is = shown_beside (λ h n. is_unmoved h.past n ≡ true) (all_beside.still ∙ is)
 
     pub committing_beside : (work : Work) → IsCommitting old.history.past old.session work → IsCommitting new.history.past new.session work
     committing_beside work is = shown_beside (λ h n. IsCommitting h.past n work) (committing_still law old.history old.session added nodes later beside.grows.theirs work is)

@@ -28,7 +28,7 @@ use Rattle.jcr_trans.specs.declared.command.Command.TheVariants as command
 use Rattle.jcr_view.specs.Outcomes.{is_viewed}
 use Rattle.jcr_law.specs.declared.law.JcrLaw.{JcrLaw}
 use Rattle.jcr_law.specs.Commits.{edit_due}
-use Rattle.jcr_law.specs.Law.{SaysBy, no_support}
+use Rattle.jcr_law.specs.Law.{IsUnmoved, SaysBy, no_support}
 use Rattle.jcr_law.specs.Queries.{QueryAnswers}
 use Rattle.jcr_law.specs.State.{Call, command_at, is_ok_text}
 use Rattle.jcr_law.specs.Calls.{call_after}
@@ -75,12 +75,13 @@ pub record MayAnswer (law : JcrLaw) (p : Shown) (run : SessionRun) (text : Text)
   pub says : SaysBy law p.history p.session run.index text
   pub leaves : Holds (call_after (is_ok_text text) (has_drawn p) call command) run.held
 
--- want of memory may be answered now; what the session holds is what the next command is run with,
--- for which a revision was drawn or none
+-- want of memory may be answered now: the base hasn't moved, and what the session holds is what the
+-- next command is run with, for which a revision was drawn or none
 pub record MayForgo (law : JcrLaw) (p : Shown) (run : SessionRun) (drew : Bool) : Type 0 where
   pub command : Command
   pub call : Call
   pub asked : IsAsked law p run command call
+  pub unmoved : IsUnmoved p.history p.session
   pub drew_is : has_drawn p ≡ drew
   pub uncommitted : IsFalse (option_map_or (is_committed p.history.past)
       (drawn_since p.history.past p.session) false)
@@ -140,12 +141,14 @@ abbrev pub ComesNext : SessionRun → Coming → Type 0
 ComesNext run coming = (m : Command) (c : Call) → slice_get run.commands run.index ≡ Some m
     → Holds c run.held → TypesOk c.types c.base → ComesTo c m coming
 
--- the plan is that of the next command, for which nothing was drawn yet, and its reply has a place
+-- the plan is that of the next command, for which nothing was drawn yet and the base hasn't moved,
+-- and its reply has a place
 pub record MayDrawFor (law : JcrLaw) (p : Shown) (run : SessionRun) (plan : Plan) : Type 0 where
   pub command : Command
   pub call : Call
   pub asked : IsAsked law p run command call
   pub first : drawn_since p.history.past p.session ≡ None
+  pub unmoved : IsUnmoved p.history p.session
   pub commits : due_for run ≡ due.Commit
   pub holds : Holds call run.held
   pub settled : run.held.is_kept ≡ false

@@ -2,6 +2,7 @@
 use Rattle.std.specs.Prelude.{◌≡◌, ◌⊎◌, ◌≤◌, ℕ, Bool, true, false, cond, ◌&&◌, not, ⊤, List}
 use Rattle.std.specs.Prelude.{[], ◌∷◌, length, slice_get, reverse, Option, None, Some, is_some}
 use Rattle.std.specs.Prelude.{IfSome, IsTrue, IsFalse, string_bytes}
+use Rattle.std.specs.List.{list_any}
 use Rattle.std.specs.Option.{option_map_or}
 use Rattle.jr_path.specs.Lists.{Text}
 use Rattle.jr_rev.specs.declared.revision.Revision.{Revision}
@@ -15,6 +16,8 @@ use Rattle.jr_part.specs.declared.need.Need.TheVariants as need
 use Rattle.oak_machine.specs.declared.event.Draw.{Draw}
 use Rattle.oak_machine.specs.declared.event.Event.{Event}
 use Rattle.oak_machine.specs.declared.event.Event.TheVariants as event
+use Rattle.oak_machine.specs.declared.event.StepKind.{StepKind}
+use Rattle.oak_machine.specs.declared.event.StepKind.TheVariants as kind
 use Rattle.oak_machine.specs.History.{History, Past}
 use Rattle.oak_machine.specs.Commits.{is_committed, is_ended, refusal_of, tree_at}
 use Rattle.oak_machine.specs.Heads.{head_of}
@@ -22,7 +25,7 @@ use Rattle.oak_machine.specs.Laws.{after, is_revision_of}
 use Rattle.oak_machine.specs.Runs.{AreNodes, IsRun}
 use Rattle.oak_machine.specs.Sessions.{base_of, drawn_since, has_left, has_login, is_attached}
 use Rattle.oak_machine.specs.Sessions.{is_drawing, next_index, refreshed_since}
-use Rattle.oak_machine.specs.Steps.{is_appended_by}
+use Rattle.oak_machine.specs.Steps.{is_appended_by, is_kind}
 use Rattle.oak_port.specs.Ports.{Awaiting, Deciding, Grows, HasRoom, HoldsBack, Idle, Shown}
 use Rattle.oak_port.specs.Ports.{Starting, Undoing, Work, Writing, is_by_due}
 use Rattle.oak_port.specs.declared.task.Task.TheVariants as task
@@ -35,18 +38,19 @@ use Rattle.jcr_trans.specs.declared.command.Command.TheVariants as command
 use Rattle.jcr_law.specs.declared.law.JcrLaw.{JcrLaw}
 use Rattle.jcr_law.specs.Built.{is_built, is_forbidden}
 use Rattle.jcr_law.specs.Lasting.{says_of, starts_of}
-use Rattle.jcr_law.specs.Since.{before_turn, draw_since}
+use Rattle.jcr_law.specs.Makes.{commits, steps_of}
+use Rattle.jcr_law.specs.Since.{before_turn, draw_since, is_unmoved}
 use Rattle.jcr_law.specs.State.{Call, call_of, command_at}
 use Rattle.jcr_law.specs.Calls.{call_moved}
 use Rattle.jcr_call.specs.Comings.{IsAcceptedOf}
 use Rattle.jcr_call.specs.declared.coming.Accepted.{Accepted}
 use Rattle.jcr_held.specs.Begins.{IsNewHeld}
-use Rattle.jcr_held.specs.Comes.{commits}
 use Rattle.jcr_held.specs.Holds.{Holds, IsReady}
 use Rattle.jcr_held.specs.Unread.{IsWanted}
 use Rattle.jcr_held.specs.declared.held.Held.{Held}
 use Rattle.core_calls.specs.Seeing.{SeesTrees, SeesTyped}
 use Rattle.jcr_session.specs.declared.limits.TheConstants.{COMMIT_REPLY_BYTES, MOST_COMMANDS}
+use Rattle.jcr_session.specs.declared.limits.TheConstants.{VECTOR_REPLY_BYTES}
 use Rattle.jcr_session.specs.declared.next.Due.{Due}
 use Rattle.jcr_session.specs.declared.next.Due.TheVariants as due
 use Rattle.jcr_session.specs.declared.commit.Pledge.{Pledge}
@@ -149,8 +153,10 @@ IsReading work (Some _) = ⊥
 
 -- ---- a commit
 
--- on its base the session drew for its next command, and this is all of it that is in flight
+-- on its base, which hasn't moved since its next command began, the session drew for that command,
+-- and this is all of it that is in flight
 pub record HasDrawn (past : Past) (s : ℕ) (r : Revision) : Type 0 where
+  pub unmoved : IsTrue (is_unmoved past s)
   pub made : Draw
   pub revision : made.revision ≡ r
   pub draw : draw_since past s ≡ Some made
@@ -175,8 +181,9 @@ IsCommitting past s (Awaiting r) =
     HasDrawn past s r × IsTrue (is_committed past r) × IsTrue (is_ended past r)
 IsCommitting past s _ = ⊥
 
--- the commit that has ended was not made
+-- the commit that has ended was not made, and the base hasn't moved for it
 pub record IsUnmade (past : Past) (s : ℕ) (r : Revision) : Type 0 where
+  pub unmoved : IsTrue (is_unmoved past s)
   pub drawn : drawn_since past s ≡ Some r
   pub unmade : IsFalse (is_committed past r)
   pub idle : IsFalse (is_drawing past s)
@@ -245,9 +252,10 @@ pub record HoldsNone (session earlier : ℕ) (types : List TypeDef) (held : Held
   pub earlier_is : held.who.earlier ≡ earlier
   pub types_are : held.types ≡ types
 
--- the session has not logged in
+-- the session has not logged in, and has answered nothing
 pub record IsOutside (law : JcrLaw) (p : Shown) (run : SessionRun) : Type 0 where
   pub idle : p.work ≡ Idle
+  pub first : run.index ≡ 0
   pub out : IsFalse (has_login p.history.past p.session)
   pub unread : run.fetch ≡ None
   pub holds : HoldsNone run.session law.earlier law.types run.held
@@ -258,9 +266,10 @@ abbrev pub IsWantedNext : Call → SessionRun → Type 0
 IsWantedNext c run = (m : Command) → slice_get run.commands run.index ≡ Some m
     → IfSome run.fetch (IsWanted c run.held m)
 
--- it is between two commands, and what it holds is what the next one is run with; what is being
--- read is for that one
+-- it is between two commands, its base hasn't moved since the next one began, and what it holds is
+-- what that one is run with; what is being read is for that one
 pub record IsBetween (law : JcrLaw) (p : Shown) (run : SessionRun) : Type 0 where
+  pub unmoved : IsTrue (is_unmoved p.history.past p.session)
   pub call : Call
   pub is : IsCalled law p call
   pub holds : Holds call run.held
@@ -269,8 +278,10 @@ pub record IsBetween (law : JcrLaw) (p : Shown) (run : SessionRun) : Type 0 wher
   pub due : IsTrue (is_some run.fetch) → IsTrue (reads_for (due_for run))
   pub wanted : IsWantedNext call run
 
--- its base moved to v for a refresh
+-- its base moved to v, of eight entries, for a refresh, for whose reply there is a place
 pub record IsRefreshed (law : JcrLaw) (p : Shown) (run : SessionRun) (v : RevVec) : Type 0 where
+  pub eight : length v ≡ 8
+  pub place : HasRoom p.room VECTOR_REPLY_BYTES
   pub idle : p.work ≡ Idle
   pub unread : run.fetch ≡ None
   pub refreshes : due_for run ≡ due.Refresh
@@ -326,6 +337,60 @@ pub record Stands (law : JcrLaw) (p : Shown) (run : SessionRun) : Type 0 where
   pub index : run.index ≡ next_index p.history.past run.session
   pub within : run.index ≤ length run.commands
   pub at : StandsAt law p run run.phase
+
+-- the next command of session s moves the base: it is a refresh, or what was drawn for it is
+-- committed
+abbrev pub MovesBase : JcrLaw → History → ℕ → Type 0
+MovesBase law h s =
+    ((keep : Bool)
+    × (command_at law s (next_index h.past s) ≡ Some (command.Refresh keep)))
+    ⊎ ((r : Revision) × (drawn_since h.past s ≡ Some r) × IsTrue (is_committed h.past r))
+
+-- ---- in which order
+
+-- how many stages of a commit are behind, by what is being done; of anything else none is
+abbrev pub stage_of : Work → ℕ
+stage_of (Writing r) = 1
+stage_of (Undoing r e) = 3
+stage_of (Deciding r) = 4
+stage_of (Awaiting r) = 5
+stage_of _ = 0
+
+-- how many stages of its next command are behind a session: all but the reply once the base has
+-- moved for a refresh, or the commit has ended
+abbrev pub stage_at : Phase → Work → ℕ
+stage_at (phase.Refreshed v) work = 1
+stage_at (phase.Committed e pledge) work = 6
+stage_at f work = stage_of work
+
+-- the kind is of one of the stages, from this place on until that one
+pub record IsOfStage (stages : List (List StepKind)) (from until : ℕ) (k : StepKind) : Type 0 where
+  pub place : ℕ
+  pub kinds : List StepKind
+  pub there : slice_get stages place ≡ Some kinds
+  pub among : IsTrue (list_any (is_kind k) kinds)
+  pub behind : from ≤ place
+  pub before : place ≤ until
+
+-- the same of the stages of a command; where none is left, the session leaves
+abbrev pub IsOfCommand : Option Command → (from until : ℕ) → StepKind → Type 0
+IsOfCommand None from until k = k ≡ kind.End
+IsOfCommand (Some m) from until k = IsOfStage (steps_of m) from until k
+
+-- the kind of a counted step of session s: it logs in first, and then each step is of a stage of its
+-- next command, from this place on until that one
+pub record IsInTurn (law : JcrLaw) (h : History) (s : ℕ) (from until : ℕ) (k : StepKind)
+    : Type 0 where
+  pub outside : IsFalse (has_login h.past s) → k ≡ kind.Login
+  pub inside : IsTrue (has_login h.past s)
+      → IsOfCommand (command_at law s (next_index h.past s)) from until k
+
+-- the counted steps of a command are made in the order of its stages: each is of a stage that isn't
+-- behind, and once it is made no stage before its own is left
+abbrev pub IsInOrder : JcrLaw → (old new : Shown) → (run now : SessionRun) → Turn → Type 0
+IsInOrder law old new run now (turn.Stepped k) = IsInTurn law old.history old.session
+    (stage_at run.phase old.work) (stage_at now.phase new.work) k
+IsInOrder law old new run now _ = ⊤
 
 -- ---- what a turn makes
 
@@ -398,8 +463,8 @@ IsMade h old new now own turn.Ended = (new ≡ old) × IsTrue (has_left h.past o
 IsMade h old new now own turn.Read = ⊥
 IsMade h old new now own turn.Memory = ⊥
 
--- events of others were added, none where nobody else steps the world, and then those of the turn;
--- the session stands where the history says
+-- events of others were added, none where nobody else steps the world, and then those of the turn,
+-- which is in its order; the session stands where the history says
 pub record IsTurned (law : JcrLaw) (old new : Shown) (run now : SessionRun) (answer : Turn)
     : Type 0 where
   pub others : Past
@@ -409,6 +474,7 @@ pub record IsTurned (law : JcrLaw) (old new : Shown) (run now : SessionRun) (ans
   pub alone : IfSome old.beside.seats (λ seats. others ≡ [])
   pub tells : Tells (after others old.history) old.session run.index answer own
   pub made : IsMade (after others old.history) old new now own answer
+  pub in_order : IsInOrder law old new run now answer
   pub same : (now.session ≡ run.session) × (now.commands ≡ run.commands)
   pub stands : Stands law new now
 
@@ -442,6 +508,11 @@ abbrev pub is_saving : Phase → Bool
 is_saving (phase.Committing pledge) = true
 is_saving (phase.Committed e pledge) = true
 is_saving _ = false
+
+-- the base moved for a refresh that isn't answered yet
+abbrev pub has_moved : Phase → Bool
+has_moved (phase.Refreshed v) = true
+has_moved _ = false
 
 -- a turn doesn't answer that memory was refused
 abbrev pub IsGranted : Turn → Type 0

@@ -2,13 +2,16 @@
 ghost use Rattle.std.specs.Prelude.{◌≡◌, ◌≤◌, IfOk, IsTrue, IsFalse, is_some, length};
 ghost use Rattle.jcr_session.specs.Answered.{IsLeaveAnswer, IsPinAnswer, ended_by, pinned_by};
 ghost use Rattle.jcr_session.specs.Nearing.{ComesNearer, CommitsSooner, DrawsNoOther, EndsSooner, IsReply, ReadsOn, StepsOn, turns_left};
-ghost use Rattle.jcr_session.specs.Standing.{HasCounted, HasTurned, IsGranted, IsNew, IsPrepared, Stands, due_for, is_committing, is_saving, may_read};
+ghost use Rattle.oak_port.specs.Ports.{HasRoom};
+ghost use Rattle.jcr_session.specs.Standing.{HasCounted, HasTurned, IsGranted, IsNew, IsPrepared, Stands, due_for, has_moved, is_committing, is_saving, may_read};
+ghost use Rattle.jcr_session.specs.declared.limits.TheConstants.{VECTOR_REPLY_BYTES};
 ghost use Rattle.jcr_session.specs.declared.next.Due.TheVariants as due;
 ghost use Rattle.jcr_session.specs.declared.run.Phase.TheVariants as phase;
 
 use crate::commit::Pledge;
-use crate::limits::MOST_COMMANDS;
+use crate::limits::{MOST_COMMANDS, VECTOR_REPLY_BYTES};
 use crate::next::Due;
+use crate::shown::shown_vector;
 use crate::turn::Turn;
 use jcr_held::Held;
 use jcr_law::JcrLaw;
@@ -63,7 +66,8 @@ pub(crate) enum Phase {
     Outside,
     // It is between two of its commands, or before its end.
     Between,
-    // Its base moved to this vector for a refresh, which it has not answered yet.
+    // Its base moved to this vector for a refresh, which it has not answered yet; its reply has a
+    // place.
     Refreshed(RevVec),
     // It commits, and keeps this for its reply.
     Committing(Pledge),
@@ -102,14 +106,18 @@ impl SessionRun {
     /// session waits or has ended. Where memory is refused for a command, that command is answered
     /// so; where it is refused for the place of a reply, or for the login or the leave, the run
     /// ends. From the draw of a commit until its reply it never ends so, and draws no other: a
-    /// commit that is made is answered. A counted step and a reply bring the session nearer to its
-    /// end, a reading step to what its next command asks for.
+    /// commit that is made is answered. Nor does it end so once the base has moved for a refresh,
+    /// which is then accepted: a command that is answered by want of memory has left the base where
+    /// it stood. The counted steps of a command are made in the order of its stages. A counted step
+    /// and a reply bring the session nearer to its end, a reading step to what its next command
+    /// asks for.
     pub fn turn<P: Port<L = JcrLaw>>(&mut self, port: &mut P) -> Turn
         requires stands { Stands (P.law port.old) (P.shown port.old) self.old }
         ensures law { P.law port.new ≡ P.law port.old }
         ensures turned { HasTurned (P.law port.old) (P.shown port.old) (P.shown port.new)
             self.old self.new result }
         ensures granted { IsTrue (is_saving self.old.phase) → IsGranted result }
+        ensures moved { IsTrue (has_moved self.old.phase) → IsGranted result }
         ensures draws { IsTrue (is_saving self.old.phase)
             → DrawsNoOther (P.shown port.old) (P.shown port.new) }
         ensures nears { ComesNearer
@@ -151,6 +159,7 @@ impl SessionRun {
         ensures turned { HasCounted (P.law port.old) (P.shown port.old) (P.shown port.new)
             self.old self.new result }
         ensures granted { IsTrue (is_saving self.old.phase) → IsGranted result }
+        ensures moved { IsTrue (has_moved self.old.phase) → IsGranted result }
         ensures draws { IsTrue (is_saving self.old.phase)
             → DrawsNoOther (P.shown port.old) (P.shown port.new) }
         ensures steps { StepsOn
@@ -263,7 +272,8 @@ impl SessionRun {
         self.say_settled(port, text)
     }
 
-    // Moves the base to the head. What is pending is kept until the reply.
+    // Keeps the place of the reply to a refresh, and moves the base. Where memory is refused, the
+    // base stays.
     fn refresh<P: Port<L = JcrLaw>>(&mut self, port: &mut P) -> Turn
         requires stands { Stands (P.law port.old) (P.shown port.old) self.old }
         requires between { self.old.phase ≡ phase.Between }
@@ -274,30 +284,51 @@ impl SessionRun {
             self.old self.new result }
         ensures steps { StepsOn ⊥ (turns_left self.old) (turns_left self.new) result }
     {
-        match port.start(Task::Refresh) {
+        match port.reserve_say(VECTOR_REPLY_BYTES) {
+            Ok(()) => self.move_base(port),
             Err(AllocError) => self.say_memory(port),
+        }
+    }
+
+    // Moves the base to the head. What is pending is kept until the reply, which has a place.
+    fn move_base<P: Port<L = JcrLaw>>(&mut self, port: &mut P) -> Turn
+        requires stands { Stands (P.law port.old) (P.shown port.old) self.old }
+        requires between { self.old.phase ≡ phase.Between }
+        requires next { due_for self.old ≡ due.Refresh }
+        requires ready { IsPrepared self.old }
+        requires place { HasRoom (P.shown port.old).room VECTOR_REPLY_BYTES }
+        ensures law { P.law port.new ≡ P.law port.old }
+        ensures turned { HasCounted (P.law port.old) (P.shown port.old) (P.shown port.new)
+            self.old self.new result }
+        ensures granted { IsGranted result }
+        ensures steps { StepsOn ⊥ (turns_left self.old) (turns_left self.new) result }
+    {
+        match port.start(Task::Refresh) {
+            Err(AllocError) => self.forgo(port, false),
             Ok(()) => match pinned(port.step()) {
                 Some(pin) => {
                     self.held.move_to(pin.base);
                     self.phase = Phase::Refreshed(pin.base);
                     Turn::Stepped(StepKind::Pin)
                 }
-                None => self.say_memory(port),
+                None => self.forgo(port, false),
             },
         }
     }
 
-    // Shows the vector to which the base moved.
+    // Shows the vector to which the base moved, without memory.
     fn say_vector<P: Port<L = JcrLaw>>(&mut self, port: &mut P, vector: RevVec) -> Turn
         requires stands { Stands (P.law port.old) (P.shown port.old) self.old }
         requires refreshed { self.old.phase ≡ phase.Refreshed vector }
         ensures law { P.law port.new ≡ P.law port.old }
         ensures turned { HasCounted (P.law port.old) (P.shown port.old) (P.shown port.new)
             self.old self.new result }
+        ensures granted { IsGranted result }
         ensures said { IsReply result }
     {
-        let text = vector_reply(self.alloc, &vector);
-        self.say_settled(port, text)
+        let text = shown_vector(&vector);
+        self.accept(false, None);
+        self.say_kept(port, text.as_str())
     }
 }
 

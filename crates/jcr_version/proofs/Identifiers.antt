@@ -1,5 +1,5 @@
 -- The text of an identifier by the number of its session.
-use Rattle.std.proofs.Common.{◌≡◌, ℕ, ◌+◌, ◌*◌, ◌%◌, ◌^◌, List, sym, ap, ◌∙◌}
+use Rattle.std.proofs.Common.{◌≡◌, ℕ, ◌+◌, ◌*◌, ◌%◌, ◌^◌, sym, ap, ◌∙◌}
 use Rattle.jr_value.specs.Words.{identifier_text}
 use Rattle.jr_tree.specs.declared.shared.Who.{Who}
 use Rattle.jcr_ref.specs.References.{identifier, identifier_number, uuid_text}

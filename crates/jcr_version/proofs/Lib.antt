@@ -1,2 +1,3 @@
 pub mod Due
+mod FirstBeyond
 mod Identifiers

@@ -1,5 +1,5 @@
 -- The edits of check-in, check-out and labels.
-use Rattle.std.specs.Prelude.{ℕ, ℤ, ◌+◌, ◌++◌, Bool, true, false, not, ◌&&◌, cond, nat_lt, List, [], ◌∷◌, Option, None, Some, is_some, option_and_then, option_map, option_to_list, map, codes, length, Result, Ok, Err}
+use Rattle.std.specs.Prelude.{ℕ, ℤ, ◌+◌, ◌++◌, Bool, true, false, not, ◌&&◌, cond, List, [], ◌∷◌, Option, None, Some, is_some, option_and_then, option_map, option_to_list, map, codes, length, Result, Ok, Err}
 use Rattle.std.specs.List.{filter, find}
 use Rattle.std.specs.BTreeMap.{insert_entry}
 use Rattle.jr_path.specs.Names.{name_cmp}
@@ -18,13 +18,19 @@ use Rattle.jr_tree.specs.declared.edit.Write.TheVariants.{Put, Unset}
 use Rattle.jr_tree.specs.Trees.{Nodes, property_at}
 use Rattle.jr_items.specs.Names.{base_version, created, frozen_node, is_checked_out, predecessors, primary_type, successors, uuid, version_type}
 use Rattle.jr_items.specs.Items.{adding, child_path, first_some, is_checked_in, many_references, one_reference}
-use Rattle.jr_items.specs.Refusals.{checked_in, no_item, or_else, over_limit, refusal, when}
+use Rattle.jr_items.specs.Refusals.{checked_in, no_item, or_else, refusal, when}
 use Rattle.jr_types.specs.declared.TypeDef.{TypeDef}
 use Rattle.jcr_lock.specs.Needed.{is_needed}
 use Rattle.jcr_ref.specs.Drawn.{latest_date, too_many_ids}
 use Rattle.jcr_ref.specs.Histories.{history_of, labels_of, number_at, number_by, reference_to, version_names}
 use Rattle.jcr_frozen.specs.Frozen.{aborting, frozen_tree, with_property}
 use Rattle.jcr_frozen.specs.Histories.{drawn_id, is_numbered, no_version, no_versions, predecessors_of, version_name}
+use Rattle.jcr_version.specs.Limits.{within_limits}
+
+-- refused, or else this
+abbrev pub unless_refused : {A : Type 0} → Option Refusal → Result A Refusal → Result A Refusal
+unless_refused None due = due
+unless_refused (Some r) due = Err r
 
 -- an item stands in the way of a check-in
 abbrev pub aborted : List TypeDef → Nodes → Path → Option Refusal
@@ -73,16 +79,11 @@ checkin_writes types t p who =
 
 -- the edit that checks in a node that is checked out
 abbrev pub checkin_due : List TypeDef → Nodes → Path → Who → Result (List Write) Refusal
-checkin_due types t p who = or_else (checkin_refusal types t p who) (filter (is_needed t) (checkin_writes types t p who))
+checkin_due types t p who = unless_refused (checkin_refusal types t p who) (within_limits (filter (is_needed t) (checkin_writes types t p who)))
 
 -- the edit that checks a versionable node in; of a node that is checked in none
 abbrev pub checkin_own : List TypeDef → Nodes → Path → Who → Result (List Write) Refusal
 checkin_own types t p who = cond (is_checked_in t p) (Ok []) (checkin_due types t p who)
-
--- refused, or else this
-abbrev pub unless_refused : {A : Type 0} → Option Refusal → Result A Refusal → Result A Refusal
-unless_refused None due = due
-unless_refused (Some r) due = Err r
 
 -- the edit that checks a node in
 abbrev pub checkin_edit : List TypeDef → Nodes → Path → Who → Result (List Write) Refusal

@@ -13,14 +13,16 @@ ghost use Rattle.jr_tree.specs.Trees.{property_at};
 ghost use Rattle.jr_items.specs.Items.{adding, child_path, is_checked_in, many_references};
 ghost use Rattle.jr_items.specs.Names.{predecessors, uuid};
 ghost use Rattle.jr_items.specs.Own.{own_name};
-ghost use Rattle.jr_items.specs.Refusals.{IsOrMemory, IsTheRefusal, out_of_memory, refusal};
+ghost use Rattle.jr_items.specs.Refusals.{IsOrMemory, IsTheRefusal, refusal};
 ghost use Rattle.jcr_lock.specs.Locks.{IsDue, IsDueRefusal};
 ghost use Rattle.jcr_lock.specs.Needed.{is_needed};
 ghost use Rattle.jcr_ref.specs.Histories.{history_of, number_by, version_names};
 ghost use Rattle.jcr_version.specs.Edits.{aborted, base_name, checked_in_version, checked_in_writes, checkin_drawn, checkin_due, checkin_edit, checkin_own, checkin_refusal, checkin_writes, having_drawn, new_version, next_version, succeed, version_nodes, version_props};
+ghost use Rattle.jcr_version.specs.Limits.{within_limits};
 ghost use Rattle.jcr_ref.specs.Drawn.{latest_date, too_many_ids};
 ghost use Rattle.jcr_frozen.specs.Histories.{drawn_id, is_named, is_numbered, version_name};
 
+use crate::limits::within_limits;
 use crate::writes::{needed, push_adding, push_property};
 use jcr_frozen::{
     find_history, first_aborting, is_named, is_numbered, is_versionable, one_reference, own_child,
@@ -42,7 +44,8 @@ use std::alloc::{AllocError, Global};
 /// identifier of the session; its date is the greatest time of the session's base. Of a node that is checked in the edit
 /// is empty, and nothing is drawn. Refused, in this order: the path, as every version command; 12 where the node isn't
 /// versionable; 8 with the first item whose attribute is ABORT, in path order; 15 where the session has drawn 16,777,215
-/// identifiers. After a refusal nothing is drawn.
+/// identifiers; 15 by the first path of a frozen node, in path order, that has more than 64 names or 1,024 bytes. After a
+/// refusal nothing is drawn.
 #[tactic(auto, using(crate::proofs::Due::own_due, crate::proofs::Due::own_refused, crate::proofs::Due::first_refused))]
 pub fn checkin_edit(
     alloc: Global,
@@ -99,7 +102,7 @@ pub(crate) fn is_checked_in(alloc: Global, tree: &Tree, path: &Path) -> Result<b
 }
 
 // The edit of a node that isn't checked in.
-#[tactic(auto, using(crate::proofs::Due::due_else, crate::proofs::Due::else_refused, crate::proofs::Due::else_memory))]
+#[tactic(auto, using(crate::proofs::Due::own_due, crate::proofs::Due::own_refused, crate::proofs::Due::first_refused))]
 fn check_in(
     alloc: Global,
     types: &Registry,
@@ -131,17 +134,31 @@ fn draw(
 ) -> Result<Edit, Refusal>
     requires history { history.now ≡ history_of tree.now path.now }
     requires more { who.old.ids < 16777215 }
-    ensures ok { IfOk result (λ edit. edit.writes ≡ filter (is_needed tree.now) (checkin_writes types.now tree.now path.now who.old)) }
-    ensures err { IfErr result (λ refusal. refusal ≡ out_of_memory) }
+    ensures ok { IfOk result (IsDue (within_limits (filter (is_needed tree.now) (checkin_writes types.now tree.now path.now who.old)))) }
+    ensures err { IfErr result (IsDueRefusal (within_limits (filter (is_needed tree.now) (checkin_writes types.now tree.now path.now who.old)))) }
     ensures drawn { OnOk result (who.new ≡ having_drawn who.old 1) }
     ensures kept { OnErr result (who.new ≡ who.old) }
 {
     match checkin_writes(alloc, types, tree, path, history, who) {
+        Ok(edit) => draw_for(alloc, edit, who),
+        Err(AllocError) => Err(Refusal::memory(alloc)),
+    }
+}
+
+// The edit, if what it adds is within the limits, and one identifier more.
+fn draw_for(alloc: Global, edit: Edit, who: &mut Who) -> Result<Edit, Refusal>
+    requires { who.old.ids < 16777215 }
+    ensures ok { IfOk result (IsDue (within_limits edit.writes)) }
+    ensures err { IfErr result (IsDueRefusal (within_limits edit.writes)) }
+    ensures drawn { OnOk result (who.new ≡ having_drawn who.old 1) }
+    ensures kept { OnErr result (who.new ≡ who.old) }
+{
+    match within_limits(alloc, edit) {
         Ok(edit) => {
             who.ids += 1;
             Ok(edit)
         }
-        Err(AllocError) => Err(Refusal::memory(alloc)),
+        Err(refusal) => Err(refusal),
     }
 }
 

@@ -37,12 +37,10 @@ use Rattle.jr_order.specs.Order.{ordered}
 use Rattle.jcr_write.specs.Places.{above}
 use Rattle.jcr_write.proofs.Reading.{move_reads, order_reads, remove_reads, set_reads, unset_reads}
 use Rattle.jr_overlay.specs.Drafts.{Steps}
-use Rattle.jcr_fill.specs.Filled.{next_text}
 use Rattle.jcr_fill.specs.Makings.{Making, making}
 use Rattle.jcr_make.specs.AlikeViews.{AreAlikeFrom}
-use Rattle.jcr_mixin.specs.Histories.{due_history, own_text}
+use Rattle.jcr_mixin.specs.Histories.{due_history}
 use Rattle.jcr_make.specs.Subtrees.{makes_histories}
-use Rattle.jcr_make.proofs.Counted.{of_due}
 use Rattle.jcr_make.proofs.ReadBelow.{add_same, here, mixin_same, type_same, unmixin_same}
 use Rattle.jcr_make.proofs.ReadTrees.{tree_same}
 use Rattle.jcr_view.specs.Needs.{children_needs, history_needs, listing_needs, needs_of, parent_needs, storage_needs, versionable_needs}
@@ -265,8 +263,7 @@ outcome_same types who t k c (command.Mixin p n) part all =
     let met = mixin_met who k c p n all in
     made_same who.ids _ _ (mixin_same types who (known_view k c) (whole_view (view_of t c)) p n (making [] who.ids)
     (alike t k c p part met.0)
-    (λ h. of_due (own_text (seen k.nodes c p)) (next_text who who.ids) (AreAlikeFrom (known_view k c) (whole_view (view_of t c)))
-    (history_alike t k c part (due_history who who.ids (seen k.nodes c p)) (met.1 h))))
+    (λ h. history_alike t k c part (due_history who who.ids (seen k.nodes c p)) (met.1 h)))
 outcome_same types who t k c (command.SetType p n) part all =
     made_same who.ids _ _ (type_same types who (known_view k c) (whole_view (view_of t c)) p n (making [] who.ids)
     (alike t k c p part (first_met k (need.Subtree p) [] all)))

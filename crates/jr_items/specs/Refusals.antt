@@ -66,7 +66,7 @@ checked_in p = refusal_at 8 p
 abbrev pub dangling : Item → Refusal
 dangling item = refusal 9 (datum.Item item ∷ [])
 
--- 10: another commit wrote the item first
+-- 10: another commit, made or under way, clashes in the item
 abbrev pub clash : Item → Revision → Refusal
 clash item other = refusal 10 (datum.Item item ∷ datum.Revision other ∷ [])
 

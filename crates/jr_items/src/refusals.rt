@@ -90,7 +90,7 @@ pub fn dangling(alloc: Global, item: &Item) -> Refusal
     or_memory(alloc, of_item(alloc, 9, item))
 }
 
-/// Another commit wrote the item first.
+/// Another commit, made or under way, clashes in the item.
 pub fn clash(alloc: Global, item: &Item, other: Revision) -> Refusal
     ensures { IsOrMemory (clash item.now other) result }
 {

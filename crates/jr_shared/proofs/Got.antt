@@ -8,7 +8,7 @@ use Rattle.std.proofs.lemmas.List.{reverse-reverse}
 use Rattle.jr_path.specs.Lists.{Text}
 use Rattle.oak_machine.specs.declared.law.Law.{Ghosts}
 use Rattle.oak_machine.specs.History.{History, Past}
-use Rattle.oak_machine.specs.Laws.{AreOthers, after}
+use Rattle.oak_machine.specs.Laws.{AreOthers, Asks, after}
 use Rattle.oak_machine.specs.Runs.{AreNodes, IsRunOf}
 use Rattle.oak_machine.specs.Sessions.{base_of, has_left, has_login, is_attached, next_index}
 use Rattle.oak_machine.proofs.Induction.{base_stays}
@@ -16,7 +16,7 @@ use Rattle.core_heads.proofs.Passing.{next_stays}
 use Rattle.core_world.specs.States.{State, memory_of}
 use Rattle.oak_port.specs.declared.task.Task.{Task}
 use Rattle.oak_port.specs.declared.task.Task.TheVariants as task
-use Rattle.oak_port.specs.Ports.{MayBegin}
+use Rattle.oak_port.specs.Ports.{IsAskedOf, MayBegin}
 use Rattle.oak_step.specs.declared.work.Work.{Work}
 use Rattle.oak_world.specs.Left.{left_in, left_of}
 use Rattle.oak_world.specs.Worlds.{ActorState, WorldOf, actor_in, idle, live, state_of, work_in}
@@ -188,6 +188,10 @@ module _ {L : Type 0} (law : Ghosts L) (old : Known L) (got : WorldOf L) (g : Is
 
       pub next_same : next_index got.history.past s ≡ next_index (reverse old.seen) s
       next_same = ap (λ (xs : Past). next_index xs s) past_got ∙ next_stays (more ++ reverse old.seen) more (reverse old.seen) s others
+
+      -- what is asked for by the history seen is asked for still
+      pub asked_got : (asks : Asks) (t : Task) → IsAskedOf asks (history_by old) s t → IsAskedOf asks (live got.history) s t
+      asked_got asks t so = λ e appends. subst (λ (n : ℕ). asks s n e) (sym next_same) (so e appends)
 
       pub left_got : has_left got.history.past s ≡ has_left (reverse old.seen) s
       left_got = ap (λ (xs : Past). has_left xs s) past_got ∙ left_same

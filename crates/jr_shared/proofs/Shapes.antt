@@ -14,7 +14,7 @@ use Rattle.oak_machine.specs.declared.event.StepKind.TheVariants as kind
 use Rattle.oak_machine.specs.History.{History, Past}
 use Rattle.oak_machine.specs.Commits.{draw_of}
 use Rattle.oak_machine.specs.Laws.{is_event_of}
-use Rattle.oak_machine.specs.Steps.{is_appended_by, is_kind, kinds_for, leaves_went, where_test}
+use Rattle.oak_machine.specs.Steps.{is_appended_by, is_kind, kinds_for, leaves_went}
 use Rattle.oak_machine.proofs.Induction.{first_of_both}
 use Rattle.core_world.proofs.Flights.{same_number}
 use Rattle.oak_port.specs.declared.task.StepOut.{StepOut}
@@ -22,6 +22,7 @@ use Rattle.oak_port.specs.declared.task.StepOut.TheVariants as out
 use Rattle.oak_port.specs.declared.task.Task.TheVariants as task
 use Rattle.oak_port.specs.declared.task.TaskEnd.TheVariants as end
 use Rattle.oak_port.specs.Ports.{AreOfStep, Awaiting, Deciding, IsFinish, Learning, Makes, Publishing, Starting, Undoing, Work as Shows, Writing, WritesOn, last_kind}
+use Rattle.oak_world.proofs.Asking.{of_kind, tested}
 use Rattle.jr_shared.proofs.Lists.{flipped}
 use Rattle.jr_shared.specs.Meanings.{own_events}
 
@@ -123,17 +124,8 @@ none_between false own mine others a b h = empty_second mine others (h ∙ a)
 
 -- ---- whose it is
 
-tested : (k : StepKind) (b : Bool) (ks : List StepKind) → list_any (is_kind k) (where_test b ks) ≡ true → b ≡ true
-tested k true ks h = refl
-tested k false ks h = absurd (false≢true h)
-
 not_theirs : (t s q : ℕ) → (t == s) ≡ true → (q == s) ≡ false → (t == q) ≡ false
 not_theirs t s q own apart = subst (λ (n : ℕ). (n == q) ≡ false) (sym (same_number t s own)) (flipped q s apart)
-
--- a kind is appended by events that are those of the kind
-of_kind : (h : History) (s : ℕ) (k : StepKind) (e : Event) → is_appended_by h s k (e ∷ []) ≡ true → list_any (is_kind k) (kinds_for h s (e ∷ [])) ≡ true
-of_kind h s kind.Read e t = t
-of_kind h s _ e t = t
 
 revision_apart : (s q : ℕ) (o : Option Draw) → option_map_or (λ d. d.session == s) o false ≡ true → (q == s) ≡ false → option_map_or (λ d. d.session == q) o false ≡ false
 revision_apart s q None own apart = refl
@@ -161,7 +153,7 @@ own_kept past q e none = ap (λ b. cond b (e ∷ own_events past q) (own_events 
 module _ (h : History) (s q : ℕ) (apart : (q == s) ≡ false) where
   added_apart : (k : StepKind) (own : Past) → IsAdded own → is_appended_by h s k (reverse own) ≡ true → own_events (own ++ h.past) q ≡ own_events h.past q
   added_apart k own (inl a) t = subst (λ (xs : Past). own_events (xs ++ h.past) q ≡ own_events h.past q) (sym a.1)
-      (own_kept h.past q a.0 (one_apart h s k a.0 (of_kind h s k a.0 (subst (λ (xs : Past). is_appended_by h s k (reverse xs) ≡ true) a.1 t)) q apart))
+      (own_kept h.past q a.0 (one_apart h s k a.0 (of_kind h s k a.0 [] (subst (λ (xs : Past). is_appended_by h s k (reverse xs) ≡ true) a.1 t)) q apart))
   added_apart k own (inr a) t = subst (λ (xs : Past). own_events (xs ++ h.past) q ≡ own_events h.past q) (sym a.3) refl
 
   none_apart : (own : Past) → own ≡ [] → own_events (own ++ h.past) q ≡ own_events h.past q

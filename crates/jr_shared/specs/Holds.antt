@@ -10,6 +10,7 @@ use Rattle.oak_machine.specs.declared.event.Event.{Event}
 use Rattle.oak_machine.specs.declared.law.Law.{Ghosts}
 use Rattle.jr_rev.specs.declared.vector.Pin.{Pin}
 use Rattle.oak_machine.specs.declared.event.StepKind.{StepKind}
+use Rattle.oak_machine.specs.Asked.{AreAsked}
 use Rattle.oak_machine.specs.Sessions.{base_of, has_left}
 use Rattle.oak_node.specs.Pins.{pin_of}
 use Rattle.core_world.specs.Kept.{IsKept}
@@ -23,7 +24,7 @@ use Rattle.oak_world.specs.Left.{left_in}
 use Rattle.oak_world.specs.Seen.{shown_at}
 use Rattle.oak_step.specs.Works.{Begins, kind_due}
 use Rattle.oak_world.specs.Steps.{StepsIn}
-use Rattle.oak_world.specs.Worlds.{ActorState, WorldOf, idle, state_of, with_reply, with_work, work_in}
+use Rattle.oak_world.specs.Worlds.{ActorState, WorldOf, idle, live, state_of, with_reply, with_work, work_in}
 use Rattle.seat_lock.specs.declared.rule.Round.TheVariants as round
 use Rattle.seat_lock.specs.declared.rule.View.{View}
 use Rattle.seat_lock.specs.Views.{OwnsPart, new_places}
@@ -84,10 +85,12 @@ module _ {L : Type 0} where
     pub others : (q : ℕ) → q ≢ s → owned_of new q ≡ owned_of old q
     pub steady_is : journal_of new ≡ journal_of old → steady_of new ≡ steady_of old
 
-  -- what every world is: its state is one that every step keeps, and each of its sessions has a seat
+  -- what every world is: its state is one that every step keeps, each of its sessions has a seat,
+  -- and each event was made for a command that asks for it
   pub record IsWhole (law : Ghosts L) (w : WorldOf L) : Type 0 where
     pub kept : IsKept (law.may_start w.law) (law.may_say w.law) (state_of w)
     pub seats : length w.actors ≡ length w.history.sessions
+    pub asked : AreAsked (law.asks w.law) (live w.history)
 
   -- of each of its sessions the pass knows just the events that it has seen of it
   abbrev pub IsTold : Known L → Type 0

@@ -1,7 +1,7 @@
 // A world under a lock, and its calls for one session, each under one hold.
 ghost use Rattle.std.specs.Prelude.{◌≡◌, ◌≢◌, ◌<◌, ℕ, if◌then◌else◌, length, IfOk, IsTrue, None};
 ghost use Rattle.oak_machine.specs.Sessions.{next_index};
-ghost use Rattle.oak_port.specs.Ports.{HasRoom, MayBegin};
+ghost use Rattle.oak_port.specs.Ports.{HasRoom, IsAskedOf, MayBegin};
 ghost use Rattle.oak_step.specs.declared.work.Work.TheVariants as work;
 ghost use Rattle.oak_world.specs.Worlds.{said_in};
 ghost use Rattle.seat_lock.specs.Passes.{HasFrame, HasPart, IsAtRest, IsOf, seen_of, view_of, weight_of};
@@ -87,7 +87,8 @@ impl<L: Law + Drop> SharedWorld<L> {
         world
     }
 
-    /// Tells a session of the pass that does nothing what to do. Where memory is refused nothing changes.
+    /// Tells a session of the pass that does nothing what to do; its next command asks for the events
+    /// of the task. Where memory is refused nothing changes.
     pub fn start<R: Wait>(
         &self,
         rt: &R,
@@ -101,6 +102,8 @@ impl<L: Law + Drop> SharedWorld<L> {
         requires idle { (actor_by (view_of pass.old) actor).work ≡ work.Rest }
         requires may { (law : L) → HasLaw (view_of pass.old) law
             → MayBegin (L.may_start law) (history_by (view_of pass.old)) actor task }
+        requires asked { (law : L) → HasLaw (view_of pass.old) law
+            → IsAskedOf (L.asks law) (history_by (view_of pass.old)) actor task }
         ensures own { IsOf self.now.lock pass.new }
         ensures hold { OneHold L.Law (view_of pass.old) (view_of pass.new) actor
             (λ got left. Begun got actor task result left) }

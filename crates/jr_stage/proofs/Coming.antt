@@ -37,7 +37,7 @@ use Rattle.jcr_trans.specs.declared.command.SessionScript.{SessionScript}
 use Rattle.jr_stage.specs.declared.stage.Seat.{Seat}
 use Rattle.jr_stage.specs.Awaited.{IsSeenBut}
 use Rattle.jr_stage.specs.Flights.{IsFlight}
-use Rattle.jr_stage.specs.Places.{commands_of, history_at, is_commit, is_on, is_over, is_own, is_resting, is_unseen, is_waiting, is_write_or_mark}
+use Rattle.jr_stage.specs.Places.{commands_of, history_at, is_commit, is_over, is_own, is_resting, is_unseen, is_waiting, is_write_or_mark}
 use Rattle.jr_stage.specs.SoFar.{IsDouble, IsSingle, IsStepAt, is_last_due}
 use Rattle.jr_stage.specs.Stages.{IsSeated, awaited, due_at, flight_behind, law_of}
 use Rattle.jr_stage.proofs.Flying.{flight_head, flight_other, flight_own, halves, none_is_some, some_is_some}
@@ -286,7 +286,7 @@ module _ (script : Script) (n : GName) (s : ℕ) (old new : WorldOf JcrLaw) (sea
         revision = r;
         is = is;
         theirs = theirs;
-        near = on (slice_get script.sessions s) refl;
+        near = ap (λ (o : Option ℕ). option_map_or (λ m. m == c) o false) at_node ∙ near_cluster;
         idle = idle_mid;
         awake = or_none (is_waiting script (event.End r ∷ past) s) _ (not_waiting script.clusters (map (λ x. x.cluster) script.sessions) nodes (starts_of old.law) (says_of old.law) script refl (event.End r ∷ past) run_mid s mid_seen)
             (ap (λ b. (next_index (event.End r ∷ past) s == length (commands_of script s)) && b) step.stays ∙ and_none _);
@@ -294,12 +294,6 @@ module _ (script : Script) (n : GName) (s : ℕ) (old new : WorldOf JcrLaw) (sea
         where
           at_node : slice_get (map (λ (x : SessionScript). x.cluster) script.sessions) s ≡ Some r.cluster
           at_node = cluster_of script.clusters (map (λ x. x.cluster) script.sessions) nodes (starts_of old.law) (says_of old.law) past run_mid.1 s r theirs
-
-          on : (o : Option SessionScript) → slice_get script.sessions s ≡ o → is_on script s c ≡ true
-          on None h = none_is_some r.cluster (sym (slice_get-map (λ (x : SessionScript). x.cluster) script.sessions s ∙ ap (option_map (λ (x : SessionScript). x.cluster)) h) ∙ at_node)
-          on (Some x) h =
-              let same : x.cluster ≡ r.cluster = some_is_some x.cluster r.cluster (sym (slice_get-map (λ (x : SessionScript). x.cluster) script.sessions s ∙ ap (option_map (λ (x : SessionScript). x.cluster)) h) ∙ at_node) in
-              ap (λ (o : Option SessionScript). option_map_or (λ x. x.cluster == c) o false) h ∙ (ap (λ m. m == c) same ∙ near_cluster)
 
     pub stepped : (k : StepKind) → is_appended_by (history_at script past) s k (reverse own) ≡ true → IsOneStep own → IsStepAt script past s (due_at old s) own × (list_any (is_reply_of s) own ≡ false)
     stepped k appended (inl (e, is, plain)) =

@@ -69,7 +69,7 @@ module _ (stage : Stage) (s : ℕ) (is : IsStage stage) (seat : Seat) (at : slic
   idle_said : (old : Stage) (i : ℕ) → HasCome old stage s (turn.Said i) → is_drawing (past_of stage) s ≡ false
   idle_said old i come = said_idle stage.world.law (shown_at 0 stage.world s) seat.run ((is.each s seat at).stands 0) i come.came.0 (past_of old) (come.past ∙ ap (λ (o : Past). o ++ past_of old) come.came.1)
 
-has_left_over : (script : Script) (past : Past) (s : ℕ) → is_over script past s ≡ true → has_left past s ≡ true
+pub has_left_over : (script : Script) (past : Past) (s : ℕ) → is_over script past s ≡ true → has_left past s ≡ true
 has_left_over script past s over = (halves (next_index past s == length (commands_of script s)) (has_left past s) over).1
 
 -- ---- to the next reply

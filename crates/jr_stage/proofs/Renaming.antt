@@ -51,6 +51,7 @@ module _ (law : JcrLaw) (p : Shown) (b : Beside) (d : Option StepKind) (run : Se
   at_renamed : (f : Phase) → StandsAt law p run f → StandsAt law q run f
   at_renamed phase.Outside h = record {
     idle = h.idle;
+    first = h.first;
     out = h.out;
     unread = h.unread;
     holds = h.holds;
@@ -59,6 +60,7 @@ module _ (law : JcrLaw) (p : Shown) (b : Beside) (d : Option StepKind) (run : Se
   at_renamed phase.Between (i, h) = (
     in_renamed i,
     record {
+      unmoved = h.unmoved;
       call = h.call;
       is = h.is;
       holds = h.holds;
@@ -71,6 +73,8 @@ module _ (law : JcrLaw) (p : Shown) (b : Beside) (d : Option StepKind) (run : Se
   at_renamed (phase.Refreshed v) (i, h) = (
     in_renamed i,
     record {
+      eight = h.eight;
+      place = h.place;
       idle = h.idle;
       unread = h.unread;
       refreshes = h.refreshes;

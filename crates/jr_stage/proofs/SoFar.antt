@@ -14,10 +14,10 @@ use Rattle.oak_machine.specs.declared.event.StepKind.{StepKind}
 use Rattle.oak_machine.specs.History.{Past}
 use Rattle.oak_machine.specs.Commits.{draw_of}
 use Rattle.oak_machine.specs.Laws.{is_revision_of}
-use Rattle.oak_machine.specs.Sessions.{is_drawing, is_reply_of}
+use Rattle.oak_machine.specs.Sessions.{is_drawing, is_reply_of, is_stopped}
 use Rattle.jr_script.specs.declared.script.Script.{Script}
 use Rattle.jr_script.specs.declared.script.Entry.TheVariants as entry
-use Rattle.jr_stage.specs.Places.{is_at_last, is_commit, is_next, is_of_task, is_of_turn, is_own, is_resting, is_waiting, is_write_or_mark, next_of}
+use Rattle.jr_stage.specs.Places.{is_at_last, is_commit, is_next, is_of_turn, is_own, is_resting, is_waiting, is_write_or_mark, next_of}
 use Rattle.jr_stage.specs.Parts.{Rule, by_entry, to_reply, to_end, Part, session_of, is_done, is_part, is_turn, may_end, must_end, events_of, IsCut}
 use Rattle.jr_stage.specs.Growing.{StayParts, StaysPart, is_quiet}
 use Rattle.jr_stage.specs.SoFar.{AreQuiet, IsCutSoFar, IsDouble, IsQuiet, IsQuietNext, IsSingle, IsStepAt, IsUnderWay, is_last_due}
@@ -203,11 +203,17 @@ module _ (script : Script) (due now : ℕ → Option StepKind) (same : (s : ℕ)
 -- ---- the part under way
 
 own_of_turn : (script : Script) (past : Past) (s : ℕ) (e : Event) → is_own past s e ≡ true → is_of_turn script past s e ≡ true
+own_of_turn script past s (event.End r) h = ap (λ b. b || is_stopped past r.cluster) h
 own_of_turn script past s (event.Head k v) h = absurd (false≢true h)
 own_of_turn script past s (event.Out k r) h = absurd (false≢true h)
 own_of_turn script past s (event.In k v) h = absurd (false≢true h)
 own_of_turn script past s (event.Sweep k r) h = absurd (false≢true h)
-own_of_turn script past s e h = ap (λ b. b || is_of_task script past s e) h
+own_of_turn script past s (event.Bound m t) h = absurd (false≢true h)
+own_of_turn script past s (event.Checkpoint id v) h = absurd (false≢true h)
+own_of_turn script past s (event.Release id) h = absurd (false≢true h)
+own_of_turn script past s (event.Stop k) h = absurd (false≢true h)
+own_of_turn script past s (event.Recover k) h = absurd (false≢true h)
+own_of_turn script past s e h = h
 
 neither : (a b : Bool) → (a || b) ≡ false → (a ≡ false) × (b ≡ false)
 neither true b h = absurd (false≢true (sym h))

@@ -8,10 +8,12 @@ use Rattle.std.proofs.lemmas.List.{map-append, reverse-append, take_all, take_mo
 use Rattle.std.proofs.lemmas.List.Elements.{All-get_or}
 use Rattle.std.proofs.lemmas.Option.{slice_get_within}
 use Rattle.oak_machine.specs.History.{History, Past}
+use Rattle.oak_machine.specs.Asked.{AreAsked}
 use Rattle.oak_machine.specs.Runs.{IsRun}
 use Rattle.oak_machine.specs.Sessions.{has_left, next_index}
 use Rattle.jcr_law.specs.declared.law.JcrLaw.{JcrLaw}
 use Rattle.jcr_law.specs.Lasting.{says_of, starts_of}
+use Rattle.jcr_law.specs.Makes.{asks_of}
 use Rattle.core_heads.specs.Sound.{IsNodesRun}
 use Rattle.core_obeys.specs.Answering.{AnswersThroughout, NameOthers}
 use Rattle.core_obeys.specs.Obeying.{ObeysThroughout}
@@ -31,6 +33,7 @@ use Rattle.jr_stage.specs.SoFar.{IsCutSoFar}
 use Rattle.jr_stage.specs.Stages.{AreOver, Closes, ClosesAll, IsBegun, IsStage, due_at, law_of, past_of}
 use Rattle.jr_stage.proofs.Answering.{range_more, said_so_far}
 use Rattle.jr_stage.proofs.Flying.{halves}
+use Rattle.jr_stage.proofs.Looping.{has_left_over}
 use Rattle.jr_stage.proofs.Reaching.{seats_stay}
 use Rattle.jr_stage.proofs.Within.{within_nodes}
 
@@ -146,22 +149,34 @@ over_more old new n rule one before ended t below = by (t == n) refl
 
 -- ---- the run
 
--- a world whose journal is a run by the law of the script, over its cluster nodes and sessions, each of which has answered all its commands, answers the script
-pub answers_all : (script : Script) (h : Story) → IsWithin script → (live h) ≡ history_at script h.past → IsRun (starts_of (law_of script)) (says_of (law_of script)) (live h) → AreApart h.past
-    → ((s : ℕ) (session : SessionScript) → slice_get script.sessions s ≡ Some session → next_index h.past s ≡ length session.commands)
+-- a session that is over has answered each command
+all_said : (script : Script) (past : Past) (s : ℕ) (session : SessionScript) → slice_get script.sessions s ≡ Some session → is_over script past s ≡ true → next_index past s ≡ length session.commands
+all_said script past s session there over =
+    equal (next_index past s) (length (commands_of script s)) (halves (next_index past s == length (commands_of script s)) (has_left past s) over).0
+    ∙ ap (λ (o : Option SessionScript). length (option_map_or (λ x. x.commands) o [])) there
+
+-- a world whose journal is a run by the law of the script, over its cluster nodes and sessions, each of which is over, answers the script
+pub answers_all : (script : Script) (h : Story) → IsWithin script → (live h) ≡ history_at script h.past → IsRun (starts_of (law_of script)) (says_of (law_of script)) (live h) → AreAsked (asks_of (law_of script)) (live h) → AreApart h.past
+    → ((s : ℕ) → s < length script.sessions → is_over script h.past s ≡ true)
     → ((law : JcrLaw) (h : History) → IsProductRun law h → ObeysThroughout law h)
     → ((law : JcrLaw) (h : History) → IsNodesRun (starts_of law) (says_of law) h → NameOthers h.past → AnswersThroughout law h)
     → AnswersScript script (live h)
-answers_all script h within is run apart all obey answer = record {
+answers_all script h within is run asked apart over obey answer = record {
   clusters = ap (λ (h : History). h.clusters) is;
   sessions = ap (λ (h : History). h.sessions) is;
+  begin = refl;
   run = run;
-  answered = λ s session there. said_so_far h.clusters h.sessions (starts_of (law_of script)) (says_of (law_of script)) s h.past run ∙ ap (range_with_len 0) (all s session there);
+  made = asked;
+  answered = λ s session there. said_so_far h.clusters h.sessions (starts_of (law_of script)) (says_of (law_of script)) s h.past run ∙ ap (range_with_len 0) (all_said script h.past s session there (ended s session there));
+  left = λ s session there. has_left_over script h.past s (ended s session there);
   apart = apart;
   obeys = obey (law_of script) (live h) product_run;
   reasons = answer (law_of script) (live h) (record { nodes = product_run.nodes; run = run }) (λ r item o is. (apart.causes r item o is).another);
 }
   where
+    ended : (s : ℕ) (session : SessionScript) → slice_get script.sessions s ≡ Some session → is_over script h.past s ≡ true
+    ended s session there = over s (slice_get_within script.sessions s session there)
+
     -- the run is one of the product
     product_run : IsProductRun (law_of script) (live h)
     product_run = subst (λ (h : History). IsProductRun (law_of script) h) (sym is) (record {
@@ -171,18 +186,12 @@ answers_all script h within is run apart all obey answer = record {
       typed = within.types.typed;
     })
 
--- a session that is over has answered each command
-all_said : (script : Script) (past : Past) (s : ℕ) (session : SessionScript) → slice_get script.sessions s ≡ Some session → is_over script past s ≡ true → next_index past s ≡ length session.commands
-all_said script past s session there over =
-    equal (next_index past s) (length (commands_of script s)) (halves (next_index past s == length (commands_of script s)) (has_left past s) over).0
-    ∙ ap (λ (o : Option SessionScript). length (option_map_or (λ x. x.commands) o [])) there
-
 module _ (script : Script) (begun played replied finished : Stage) (flying : List ℕ)
     (begins : IsBegun script begun) (plays : ClosesAll begun played (map by_entry begun.schedule))
     (flies : flying ≡ flying_sessions (past_of played)) (replies : ClosesAll played replied (map to_reply flying))
     (finishes : ClosesAll replied finished (map to_end (range_with_len 0 (length replied.seats.items))))
     (over : AreOver finished (length replied.seats.items))
-    (run : IsRun (starts_of finished.world.law) (says_of finished.world.law) (live finished.world.history)) (apart : AreApart finished.world.history.past)
+    (run : IsRun (starts_of finished.world.law) (says_of finished.world.law) (live finished.world.history)) (asked : AreAsked (asks_of finished.world.law) (live finished.world.history)) (apart : AreApart finished.world.history.past)
     (obey : (law : JcrLaw) (h : History) → IsProductRun law h → ObeysThroughout law h)
     (answer : (law : JcrLaw) (h : History) → IsNodesRun (starts_of law) (says_of law) h → NameOthers h.past → AnswersThroughout law h) where
   script_played : played.script.value ≡ script
@@ -205,6 +214,9 @@ module _ (script : Script) (begun played replied finished : Stage) (flying : Lis
 
   run_is : IsRun (starts_of (law_of script)) (says_of (law_of script)) (live finished.world.history)
   run_is = subst (λ (l : JcrLaw). IsRun (starts_of l) (says_of l) (live finished.world.history)) law_is run
+
+  asked_is : AreAsked (asks_of (law_of script)) (live finished.world.history)
+  asked_is = subst (λ (l : JcrLaw). AreAsked (asks_of l) (live finished.world.history)) law_is asked
 
   -- before any turn nothing is cut
   first_cut : IsCutSoFar begun.script.value (due_at begun.world) [] [] (past_of begun)
@@ -265,9 +277,8 @@ module _ (script : Script) (begun played replied finished : Stage) (flying : Lis
   ran = record {
     law = law_is;
     follows = record {
-      answers = answers_all script finished.world.history within history_is run_is apart
-          (λ s session there. all_said script (past_of finished) s session there
-          (subst (λ (x : Script). is_over x (past_of finished) s ≡ true) script_finished (over s (subst (λ (n : ℕ). s < n) (sym seats_are) (slice_get_within script.sessions s session there)))))
+      answers = answers_all script finished.world.history within history_is run_is asked_is apart
+          (λ s below. subst (λ (x : Script). is_over x (past_of finished) s ≡ true) script_finished (over s (subst (λ (n : ℕ). s < n) (sym seats_are) below)))
           obey answer;
       scheduled = scheduled;
     };

@@ -19,8 +19,8 @@ use Rattle.oak_machine.specs.Commits.{is_committed, is_refused, is_ended, is_in_
 use Rattle.oak_machine.specs.Heads.{head_of}
 use Rattle.oak_machine.specs.Sessions.{is_drawing, has_left, next_index}
 use Rattle.oak_machine.specs.Laws.{is_event_of, is_revision_of}
+use Rattle.oak_machine.specs.Asked.{is_made_by}
 use Rattle.jcr_trans.specs.declared.command.Command.{Command}
-use Rattle.jcr_trans.specs.declared.command.Command.TheVariants as command
 use Rattle.jr_script.specs.declared.script.Script.{Script}
 
 -- the history of a script's run that has come so far
@@ -35,10 +35,6 @@ history_at script past = record {
 -- the commands of session s; none, where there is no such session
 abbrev pub commands_of : Script → ℕ → List Command
 commands_of script s = option_map_or (λ x. x.commands) (slice_get script.sessions s) []
-
--- s is a session of cluster node k
-abbrev pub is_on : Script → ℕ → ℕ → Bool
-is_on script s k = option_map_or (λ x. x.cluster == k) (slice_get script.sessions s) false
 
 -- the draws, the last one first
 abbrev pub draws_in : Past → List Draw
@@ -131,28 +127,6 @@ is_write_or_mark _ = false
 abbrev pub is_next : (Event → Bool) → Past → ℕ → List Event → Bool
 is_next test past s later = option_map_or test (next_of past s later) false
 
--- the command makes such an event of its cluster node
-abbrev pub is_made_by : Event → Command → Bool
-is_made_by (event.Out k r) command.BackWrite = true
-is_made_by (event.In k v) command.BackRead = true
-is_made_by (event.Sweep k r) command.Sweep = true
-is_made_by (event.Bound m t) command.Collect = true
-is_made_by (event.Checkpoint id v) command.Checkpoint = true
-is_made_by (event.Release id) (command.Release other) = true
-is_made_by e c = false
-
--- the command of s that isn't answered yet makes such an event
-abbrev pub is_of_task : Script → Past → ℕ → Event → Bool
-is_of_task script past s e =
-    option_map_or (is_made_by e) (slice_get (commands_of script s) (next_index past s)) false
-
--- an event of session s, or of its cluster node and its task
+-- a step of session s may append the event
 abbrev pub is_of_turn : Script → Past → ℕ → Event → Bool
-is_of_turn script past s (event.Head k v) = is_on script s k
-is_of_turn script past s (event.Out k r) =
-    is_on script s k && is_of_task script past s (event.Out k r)
-is_of_turn script past s (event.In k v) =
-    is_on script s k && is_of_task script past s (event.In k v)
-is_of_turn script past s (event.Sweep k r) =
-    is_on script s k && is_of_task script past s (event.Sweep k r)
-is_of_turn script past s e = is_own past s e || is_of_task script past s e
+is_of_turn script past s e = is_made_by (history_at script past) s e

@@ -9,8 +9,10 @@ use Rattle.jcr_trans.specs.declared.command.SessionScript.{SessionScript}
 use Rattle.oak_machine.specs.declared.event.Event.{Event}
 use Rattle.oak_machine.specs.declared.event.Event.TheVariants as event
 use Rattle.oak_machine.specs.History.{History, Past}
+use Rattle.oak_machine.specs.Asked.{AreAsked}
 use Rattle.oak_machine.specs.Commits.{are_clashing, is_committed, is_ended, is_in_base, refusal_of}
 use Rattle.oak_machine.specs.Runs.{IsRun}
+use Rattle.oak_machine.specs.Sessions.{has_left}
 use Rattle.core_clash.specs.Sound.{Cause}
 use Rattle.core_obeys.specs.Answering.{AnswersThroughout}
 use Rattle.core_obeys.specs.Obeying.{ObeysThroughout}
@@ -19,6 +21,7 @@ use Rattle.oak_world.specs.Clashes.{Wanted}
 use Rattle.oak_world.specs.Worlds.{WorldOf, live}
 use Rattle.jcr_law.specs.declared.law.JcrLaw.{JcrLaw}
 use Rattle.jcr_law.specs.Lasting.{says_of, starts_of}
+use Rattle.jcr_law.specs.Makes.{asks_of}
 use Rattle.jr_stage.specs.Schedules.{Scheduled}
 use Rattle.jr_stage.specs.Stages.{law_of}
 
@@ -44,14 +47,20 @@ pub record AreApart (past : Past) : Type 0 where
       → IsTrue (is_committed past r) ⊎ Wanted past r
 
 -- the history is a run of the machine by the law of the script, over its cluster nodes and its
--- sessions, in which each command of a session is answered once, in order; its commits are apart;
--- at each time it obeyed the types, the locks and the references; and each reply had its reason
+-- sessions and from no tree before it; each event is one for which the command asks that its session
+-- hasn't answered yet; each command of a session is answered once, in order, and at the end the
+-- session has left; its commits are apart; at each time it obeyed the types, the locks and the
+-- references; and each reply had its reason
 pub record AnswersScript (script : Script) (h : History) : Type 0 where
   pub clusters : h.clusters ≡ script.clusters
   pub sessions : h.sessions ≡ map (λ s. s.cluster) script.sessions
+  pub begin : h.begin ≡ None
   pub run : IsRun (starts_of (law_of script)) (says_of (law_of script)) h
+  pub made : AreAsked (asks_of (law_of script)) h
   pub answered : (s : ℕ) (session : SessionScript) → slice_get script.sessions s ≡ Some session
       → indexes_said h s ≡ range_with_len 0 (length session.commands)
+  pub left : (s : ℕ) (session : SessionScript) → slice_get script.sessions s ≡ Some session
+      → IsTrue (has_left h.past s)
   pub apart : AreApart h.past
   pub obeys : ObeysThroughout (law_of script) h
   pub reasons : AnswersThroughout (law_of script) h

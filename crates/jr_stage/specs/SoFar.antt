@@ -11,10 +11,10 @@ use Rattle.oak_machine.specs.declared.event.StepKind.TheVariants as kind
 use Rattle.oak_machine.specs.History.{Past}
 use Rattle.oak_machine.specs.Laws.{is_revision_of}
 use Rattle.oak_machine.specs.Sessions.{is_drawing}
-use Rattle.oak_machine.specs.Steps.{is_kind, is_one_step}
+use Rattle.oak_machine.specs.Steps.{is_kind, is_on, is_one_step}
 use Rattle.jr_script.specs.declared.script.Script.{Script}
 use Rattle.jr_script.specs.declared.script.Entry.TheVariants as entry
-use Rattle.jr_stage.specs.Places.{history_at, is_commit, is_on, is_own, is_resting}
+use Rattle.jr_stage.specs.Places.{history_at, is_commit, is_own, is_resting}
 use Rattle.jr_stage.specs.Places.{is_write_or_mark, next_of}
 use Rattle.jr_stage.specs.Parts.{Rule, by_entry, Part, session_of, is_done, goes_on, events_of}
 use Rattle.jr_stage.specs.Parts.{IsCut}
@@ -40,7 +40,7 @@ pub record IsDouble (script : Script) (past : Past) (s : ℕ) (own : Past) : Typ
   pub revision : Revision
   pub is : own ≡ event.Head cluster head ∷ event.End revision ∷ []
   pub theirs : IsTrue (is_revision_of past s revision)
-  pub near : IsTrue (is_on script s cluster)
+  pub near : IsTrue (is_on (history_at script past) s cluster)
   pub idle : IsFalse (is_drawing (event.End revision ∷ past) s)
   pub awake : IsFalse (is_resting script (event.End revision ∷ past) s)
 

@@ -5,7 +5,6 @@ use Rattle.std.proofs.lemmas.Bool.Decides.{nat_tests}
 use Rattle.std.proofs.lemmas.List.Elements.{Contains-append_left, Contains-append_right}
 use Rattle.std.proofs.lemmas.Nat.{mod_below}
 use Rattle.oak_machine.specs.History.{History}
-use Rattle.oak_machine.specs.Sessions.{next_index}
 use Rattle.oak_world.specs.Worlds.{WorldOf, live}
 use Rattle.jcr_law.specs.declared.law.JcrLaw.{JcrLaw}
 use Rattle.jr_script.specs.declared.script.Script.{Script}
@@ -14,16 +13,16 @@ use Rattle.jr_shared.specs.Holds.{Known}
 use Rattle.jr_shared.specs.Meanings.{Owned, frame_of, owned_of}
 use Rattle.seat_lock.specs.declared.rule.Round.TheVariants as round
 use Rattle.seat_lock.specs.Views.{OwnsPart, joined}
-use Rattle.jr_stage.specs.Places.{commands_of, history_at}
-use Rattle.jr_work.specs.Workers.{HasAll, HasAnswered, HasHandedOut, HasWorked, frame_for}
-use Rattle.jr_work.proofs.Owning.{own_next}
+use Rattle.jr_stage.specs.Places.{history_at, is_over}
+use Rattle.jr_work.specs.Workers.{HasAll, HasHandedOut, HasOver, HasWorked, frame_for}
+use Rattle.jr_work.proofs.Owning.{own_over}
 
 -- the first pass, while those of the first n of so many workers are still to come
 pub record IsGathering (script : Script) (workers n : ℕ) (v : Known JcrLaw) : Type 0 where
   pub rest : v.round ≡ round.Idle
   pub frame : v.frame ≡ Some (frame_for script)
   pub weight : v.weight + n ≡ 1024
-  pub said : (s : ℕ) → s < length script.sessions → n ≤ s % workers → HasAnswered script v s
+  pub over : (s : ℕ) → s < length script.sessions → n ≤ s % workers → HasOver script v s
 
 equal : (a b : ℕ) → (a == b) ≡ true → a ≡ b
 equal a b h = grind (arith, nat_tests)
@@ -37,27 +36,27 @@ module _ (script : Script) (workers : ℕ) where
     rest = out.knows.rest;
     frame = out.knows.frame;
     weight = out.weight;
-    said = λ s below over. none s (mod_below s workers (let h : 0 < workers = omega (arith, some) in h)) over;
+    over = λ s below above. none s (mod_below s workers (let h : 0 < workers = omega (arith, some) in h)) above;
   }
     where
       none : {A : Type 0} (s : ℕ) → s % workers < workers → workers ≤ s % workers → A
-      none s less over = absurd (omega arith)
+      none s less above = absurd (omega arith)
 
   pub gathering_ends : (v : Known JcrLaw) → IsGathering script workers 0 v → HasAll script v
-  gathering_ends v is = record { rest = is.rest; frame = is.frame; weight = let sum = is.weight in omega (arith, sum); said = λ s below. is.said s below (let h : 0 ≤ s % workers = omega arith in h) }
+  gathering_ends v is = record { rest = is.rest; frame = is.frame; weight = let sum = is.weight in omega (arith, sum); over = λ s below. is.over s below (let h : 0 ≤ s % workers = omega arith in h) }
 
   module _ (n : ℕ) (v w u : Known JcrLaw) (is : IsGathering script workers (n + 1) v) (worked : HasWorked script workers n w) (known : u ≡ joined v w) where
-    -- who had answered in one of the two passes has in both together
-    in_first : (s : ℕ) → HasAnswered script v s → HasAnswered script u s
-    in_first s (part, owns, said) = (part, subst (λ (x : Known JcrLaw). OwnsPart x s part) (sym known) (Contains-append_left v.parts w.parts (s, part) owns), said)
+    -- who is over in one of the two passes is in both together
+    in_first : (s : ℕ) → HasOver script v s → HasOver script u s
+    in_first s (part, owns, over) = (part, subst (λ (x : Known JcrLaw). OwnsPart x s part) (sym known) (Contains-append_left v.parts w.parts (s, part) owns), over)
 
-    in_second : (s : ℕ) → HasAnswered script w s → HasAnswered script u s
-    in_second s (part, owns, said) = (part, subst (λ (x : Known JcrLaw). OwnsPart x s part) (sym known) (Contains-append_right v.parts w.parts (s, part) owns), said)
+    in_second : (s : ℕ) → HasOver script w s → HasOver script u s
+    in_second s (part, owns, over) = (part, subst (λ (x : Known JcrLaw). OwnsPart x s part) (sym known) (Contains-append_right v.parts w.parts (s, part) owns), over)
 
-    answered : (s : ℕ) → s < length script.sessions → n ≤ s % workers → HasAnswered script u s
-    answered s below over = elim (s % workers == n) as (λ b. (s % workers == n) ≡ b → HasAnswered script u s) [
-      | true ↦ λ same. in_second s (worked.said s below (equal (s % workers) n same))
-      | false ↦ λ apart. in_first s (is.said s below (later (s % workers) n over apart))
+    over_in_both : (s : ℕ) → s < length script.sessions → n ≤ s % workers → HasOver script u s
+    over_in_both s below above = elim (s % workers == n) as (λ b. (s % workers == n) ≡ b → HasOver script u s) [
+      | true ↦ λ same. in_second s (worked.over s below (equal (s % workers) n same))
+      | false ↦ λ apart. in_first s (is.over s below (later (s % workers) n above apart))
     ] refl
 
     -- the pass of one more worker is taken in
@@ -66,7 +65,7 @@ module _ (script : Script) (workers : ℕ) where
       rest = ap (λ (x : Known JcrLaw). x.round) known ∙ is.rest;
       frame = ap (λ (x : Known JcrLaw). x.frame) known ∙ is.frame;
       weight = sum v.weight w.weight u.weight (ap (λ (x : Known JcrLaw). x.weight) known) worked.weight is.weight;
-      said = answered;
+      over = over_in_both;
     }
       where
         sum : (a b c : ℕ) → c ≡ a + b → b ≡ 1 → a + (n + 1) ≡ 1024 → c + n ≡ 1024
@@ -81,6 +80,6 @@ module _ (script : Script) (w : WorldOf JcrLaw) (frame : frame_of w ≡ frame_fo
   pub history_back : live w.history ≡ history_at script w.history.past
   history_back = ap (λ (f : WorldFrame JcrLaw). record { clusters = f.clusters; sessions = f.sessions; begin = None; past = w.history.past }) frame
 
--- a session that had answered in the pass has in the world
-pub answered_back : (script : Script) (v : Known JcrLaw) (w : WorldOf JcrLaw) (s : ℕ) → HasAnswered script v s → ((part : Owned) → OwnsPart v s part → owned_of w s ≡ part) → next_index w.history.past s ≡ length (commands_of script s)
-answered_back script v w s (part, owns, said) parts = sym (own_next s w.history.past) ∙ (ap (λ (p : Owned). next_index p.events s) (parts part owns) ∙ said)
+-- a session that is over in the pass is in the world
+pub over_back : (script : Script) (v : Known JcrLaw) (w : WorldOf JcrLaw) (s : ℕ) → HasOver script v s → ((part : Owned) → OwnsPart v s part → owned_of w s ≡ part) → is_over script w.history.past s ≡ true
+over_back script v w s (part, owns, over) parts = sym (own_over s script w.history.past) ∙ (ap (λ (p : Owned). is_over script p.events s) (parts part owns) ∙ over)

@@ -1,16 +1,17 @@
 -- Turns of a session to its end, at a port; and what its pass then knows.
-use Rattle.std.proofs.Common.{◌≡◌, ◌≢◌, ℕ, ◌<◌, ◌≤◌, true, false, cond, Some, None, Option, Result, Ok, Err, List, [], ◌∷◌, ◌++◌, length, map, is_some, refl, sym, ap, ◌∙◌, subst, arith}
+use Rattle.std.proofs.Common.{◌≡◌, ◌≢◌, ℕ, ◌<◌, ◌≤◌, true, false, ◌&&◌, cond, Some, None, Option, Result, Ok, Err, List, [], ◌∷◌, ◌++◌, length, map, is_some, refl, sym, ap, ◌∙◌, subst, arith}
 use mathlib.Core.Bool.{false≢true}
-use Rattle.std.specs.Prelude.{IfOk, IfSome, reverse, slice_get}
+use Rattle.std.specs.Prelude.{◌==◌, IfOk, IfSome, IsTrue, reverse, slice_get}
 use Rattle.std.specs.Borrow.{GName}
 use Rattle.std.specs.Result.{OnOk}
 use Rattle.std.specs.List.{list_any}
 use Rattle.std.specs.Option.{option_and_then, option_map_or, unwrap_or}
 use Rattle.std.proofs.lemmas.List.{append-nil}
+use Rattle.basics.proofs.Bools.{number_itself}
 use Rattle.oak_machine.specs.History.{History, Past}
-use Rattle.oak_machine.specs.Laws.{is_event_of}
+use Rattle.oak_machine.specs.Laws.{after, is_event_of}
 use Rattle.oak_machine.specs.Runs.{AreNodes, IsRun}
-use Rattle.oak_machine.specs.Sessions.{next_index}
+use Rattle.oak_machine.specs.Sessions.{has_left, next_index}
 use Rattle.oak_port.specs.Ports.{Idle, Shown}
 use Rattle.oak_world.specs.Seen.{shown_work}
 use Rattle.oak_world.specs.Worlds.{idle}
@@ -36,11 +37,11 @@ use Rattle.jr_shared.specs.Seen.{history_by, law_by, shown_through}
 use Rattle.jr_shared.proofs.Events.{are_others}
 use Rattle.jr_shared.proofs.Got.{some_part, the_is}
 use Rattle.seat_lock.specs.declared.rule.Round.TheVariants as round
-use Rattle.jr_stage.specs.Places.{commands_of, history_at}
+use Rattle.jr_stage.specs.Places.{commands_of, history_at, is_over}
 use Rattle.jr_stage.specs.Stages.{law_of}
-use Rattle.jr_work.specs.Workers.{HasRunOut, HasGoneOn, HasNotBegun, HasRunOne, HasSaidAll, KnowsScript, frame_for}
+use Rattle.jr_work.specs.Workers.{HasRunOut, HasGoneOn, HasNotBegun, HasRunOne, KnowsScript, frame_for}
 use Rattle.jr_work.proofs.Handing.{history_known}
-use Rattle.jr_work.proofs.Owning.{own_next}
+use Rattle.jr_work.proofs.Owning.{own_over}
 use Rattle.jr_stage.proofs.Reaching.{seat_at}
 use Rattle.jr_stage.proofs.Turning.{commands_at}
 use Rattle.jr_stage.proofs.Within.{session_within, within_nodes}
@@ -94,7 +95,13 @@ module _ (law : JcrLaw) (first mid new : Shown) (run was now : SessionRun) (on :
   ends answer is turned = by (subst (λ (a : Turn). HasTurned law mid new was now a) is turned)
     where
       by : IsTurned law mid new was now turn.Ended → HasRunOut law first new run now
-      by turned = record { on = on_more turn.Ended turned; all = turned.made.2 }
+      by turned = record {
+        on = on_more turn.Ended turned;
+        all = turned.made.2;
+        left =
+            ap (λ (p : Past). has_left p new.session) (ap (λ (h : History). h.past) turned.grows.grown ∙ ap (λ (o : Past). (after o (after turned.others mid.history)).past) turned.tells)
+            ∙ (ap (λ (p : Shown). has_left (after turned.others mid.history).past p.session) turned.made.0 ∙ turned.made.1);
+      }
 
 -- ---- a session of a pass begins
 
@@ -179,24 +186,30 @@ module _ (script : Script) (v w : Known JcrLaw) (s t : ℕ) (n m : GName) (run n
           (ap (λ (o : Option (WorldFrame JcrLaw)). option_map_or (λ f. f.clusters) o 0) (sym is) ∙ (ended.on.clusters ∙ ap (λ (h : History). h.clusters) history))
           (ap (λ (o : Option (WorldFrame JcrLaw)). option_map_or (λ f. f.sessions) o []) (sym is) ∙ (ended.on.sessions ∙ ap (λ (h : History). h.sessions) history)))
 
-  said_now : (part : Owned) × (owned_by w s ≡ Some part) × HasSaidAll script s part
-  said_now = subst (λ (i : ℕ). (part : Owned) × (owned_by w i ≡ Some part) × HasSaidAll script s part) same_session (by (some_part (owned_by w t) seat))
+  over_now : (part : Owned) × (owned_by w s ≡ Some part) × IsTrue (is_over script part.events s)
+  over_now = subst (λ (i : ℕ). (part : Owned) × (owned_by w i ≡ Some part) × IsTrue (is_over script part.events s)) same_session (by (some_part (owned_by w t) seat))
     where
       said : next_index (reverse w.seen) s ≡ length (commands_of script s)
       said = ap (next_index (reverse w.seen)) (sym session_now) ∙ (sym ended.on.stands.index ∙ (ended.all ∙ ap (λ (l : List Command). length l) (ended.on.commands ∙ commands)))
 
-      by : (part : Owned) × (owned_by w t ≡ Some part) → (part : Owned) × (owned_by w t ≡ Some part) × HasSaidAll script s part
+      left : has_left (reverse w.seen) s ≡ true
+      left = ap (has_left (reverse w.seen)) (sym same_session) ∙ ended.left
+
+      over : is_over script (reverse w.seen) s ≡ true
+      over = ap (λ (n : ℕ). n == length (commands_of script s) && has_left (reverse w.seen) s) said ∙ (ap (λ b. b && has_left (reverse w.seen) s) (number_itself (length (commands_of script s))) ∙ left)
+
+      by : (part : Owned) × (owned_by w t ≡ Some part) → (part : Owned) × (owned_by w t ≡ Some part) × IsTrue (is_over script part.events s)
       by (part, found) =
           let told_here = told t in
           let events : part.events ≡ own_events (reverse w.seen) t = subst (λ (o : Option Owned). IfSome o (λ part. part.events ≡ own_events (reverse w.seen) t)) found told_here in
-          (part, found, ap (λ (p : Past). next_index p s) (events ∙ ap (own_events (reverse w.seen)) same_session) ∙ (own_next s (reverse w.seen) ∙ said))
+          (part, found, ap (λ (p : Past). is_over script p s) (events ∙ ap (own_events (reverse w.seen)) same_session) ∙ (own_over s script (reverse w.seen) ∙ over))
 
   pub ran_one : w.weight ≡ v.weight → ((q : ℕ) → q ≢ t → owned_by w q ≡ owned_by v q) → HasRunOne script v w s
   ran_one weight others = record {
     knows = record { rest = rest; frame = frame_now; told = told; run = ended.on.stands.run_is };
     weight = weight;
     others = λ q apart. others q (subst (λ (i : ℕ). q ≢ i) (sym same_session) apart);
-    said = said_now;
+    over = over_now;
   }
 
 -- the same of the pass that the port leaves, which is the caller's where its reference was

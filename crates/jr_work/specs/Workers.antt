@@ -1,9 +1,9 @@
 -- What passes of the world of a script know while workers run it.
-use Rattle.std.specs.Prelude.{◌≡◌, ◌≢◌, ◌<◌, ◌≤◌, ◌+◌, ◌%◌, ℕ, List, [], length, map, slice_get, Option, Some, IfOk, Result}
+use Rattle.std.specs.Prelude.{◌≡◌, ◌≢◌, ◌<◌, ◌≤◌, ◌+◌, ◌%◌, ℕ, List, [], length, map, slice_get, Option, Some, IfOk, IsTrue, Result}
 use Rattle.std.specs.declared.alloc.AllocError.{AllocError}
 use Rattle.oak_machine.specs.declared.event.Event.{Event}
 use Rattle.oak_machine.specs.Runs.{IsRun}
-use Rattle.oak_machine.specs.Sessions.{next_index}
+use Rattle.oak_machine.specs.Sessions.{has_left}
 use Rattle.oak_port.specs.Ports.{Shown}
 use Rattle.oak_world.specs.Worlds.{WorldOf, idle, live}
 use Rattle.jcr_law.specs.declared.law.JcrLaw.{JcrLaw}
@@ -26,7 +26,7 @@ use Rattle.jr_shared.specs.Meanings.{Owned}
 use Rattle.jr_shared.specs.Seen.{history_by}
 use Rattle.jr_work.specs.declared.worker.Job.{Job}
 use Rattle.jr_work.specs.Hands.{IsInHand}
-use Rattle.jr_stage.specs.Places.{commands_of}
+use Rattle.jr_stage.specs.Places.{is_over}
 use Rattle.jr_stage.specs.Runs.{AnswersScript}
 use Rattle.jr_stage.specs.Stages.{law_of}
 
@@ -63,13 +63,10 @@ pub record KnowsScript (script : Script) (v : Known JcrLaw) : Type 0 where
 abbrev pub HasNotBegun : Known JcrLaw → ℕ → Type 0
 HasNotBegun v s = owned_by v s ≡ Some (record { seat = Some idle; events = [] })
 
--- what session s owns has a reply to each of its commands
-abbrev pub HasSaidAll : Script → ℕ → Owned → Type 0
-HasSaidAll script s part = next_index part.events s ≡ length (commands_of script s)
-
--- the pass has session s, which has answered all its commands
-abbrev pub HasAnswered : Script → Known JcrLaw → ℕ → Type 0
-HasAnswered script v s = (part : Owned) × OwnsPart v s part × HasSaidAll script s part
+-- the pass has session s, which has answered all its commands and has left
+abbrev pub HasOver : Script → Known JcrLaw → ℕ → Type 0
+HasOver script v s =
+    (part : Owned) × OwnsPart v s part × IsTrue (is_over script part.events s)
 
 -- ---- a session
 
@@ -83,17 +80,19 @@ pub record HasGoneOn (law : JcrLaw) (old new : Shown) (run now : SessionRun) : T
   pub beside : new.beside ≡ old.beside
   pub stands : Stands law new now
 
--- and all its commands are answered
+-- and all its commands are answered, and it has left
 pub record HasRunOut (law : JcrLaw) (old new : Shown) (run now : SessionRun) : Type 0 where
   pub on : HasGoneOn law old new run now
   pub all : now.index ≡ length now.commands
+  pub left : IsTrue (has_left new.history.past new.session)
 
 -- session s of a pass was run to its end; the pass's other sessions own what they owned
 pub record HasRunOne (script : Script) (old new : Known JcrLaw) (s : ℕ) : Type 0 where
   pub knows : KnowsScript script new
   pub weight : new.weight ≡ old.weight
   pub others : (t : ℕ) → t ≢ s → owned_by new t ≡ owned_by old t
-  pub said : (part : Owned) × (owned_by new s ≡ Some part) × HasSaidAll script s part
+  pub over : (part : Owned) × (owned_by new s ≡ Some part)
+      × IsTrue (is_over script part.events s)
 
 -- ---- a worker
 
@@ -103,11 +102,11 @@ pub record IsHandedOut (script : Script) (workers worker : ℕ) (v : Known JcrLa
   pub weight : v.weight ≡ 1
   pub first : (s : ℕ) → s < length script.sessions → s % workers ≡ worker → HasNotBegun v s
 
--- the worker has run them, and each has answered all its commands
+-- the worker has run them, and each is over
 pub record HasWorked (script : Script) (workers worker : ℕ) (v : Known JcrLaw) : Type 0 where
   pub rest : v.round ≡ round.Idle
   pub weight : v.weight ≡ 1
-  pub said : (s : ℕ) → s < length script.sessions → s % workers ≡ worker → HasAnswered script v s
+  pub over : (s : ℕ) → s < length script.sessions → s % workers ≡ worker → HasOver script v s
 
 -- a worker begins with a pass of the lock that is handed out to it, and the commands of its sessions
 abbrev pub IsJob : Script → ℕ → SeatLock (LockedWorld JcrLaw) Event Owned (WorldFrame JcrLaw) (WorldOf JcrLaw)
@@ -148,7 +147,7 @@ pub record HasAll (script : Script) (v : Known JcrLaw) : Type 0 where
   pub rest : v.round ≡ round.Idle
   pub frame : v.frame ≡ Some (frame_for script)
   pub weight : v.weight ≡ 1024
-  pub said : (s : ℕ) → s < length script.sessions → HasAnswered script v s
+  pub over : (s : ℕ) → s < length script.sessions → HasOver script v s
 
 -- the script was run to its end by workers, whatever its schedule: the world is of its law, and what
 -- its journal tells answers the script

@@ -26,6 +26,10 @@ Starts = History → ℕ → Edit → List MarkAt → Type 0
 abbrev pub Says : Type 1
 Says = History → ℕ → ℕ → Text → Type 0
 
+-- the command of that index of a session asks for such an event
+abbrev pub Asks : Type 1
+Asks = ℕ → ℕ → Event → Type 0
+
 -- the revision is one of session s
 abbrev pub is_revision_of : Past → ℕ → Revision → Bool
 is_revision_of past s r = option_map_or (λ d. d.session == s) (draw_of past r) false

@@ -1,19 +1,24 @@
-// Which edits may start, and which texts may be said.
+// Which edits may start, which texts may be said, and for which events a command asks.
 ghost use Rattle.std.specs.Prelude.{◌↔◌, ℕ, List};
 ghost use Rattle.jr_path.specs.Lists.{Text};
 ghost use Rattle.jr_tree.specs.declared.edit.Edit.{Edit};
 ghost use Rattle.oak_clash.specs.declared.mark.MarkAt.{MarkAt};
+ghost use Rattle.oak_machine.specs.declared.event.Event.{Event};
 ghost use Rattle.oak_machine.specs.History.{History};
 ghost use Rattle.oak_machine.specs.Laws.{StartsProper};
 ghost use Rattle.oak_machine.specs.Runs.{IsLawful, MayFollow, StartsLast, SaysLast, SaysLastBehind, any_said, any_start};
 
-/// A law of a machine: which edits may start, and which texts may be said.
+/// A law of a machine: which edits may start, which texts may be said, and for which events a command
+/// asks.
 pub trait Law {
     /// An edit with its marks may start for a session at a history.
     ghost may_start: { Self → History → ℕ → Edit → List MarkAt → Type 0 };
 
     /// A text may be said as the reply of that index of a session at a history.
     ghost may_say: { Self → History → ℕ → ℕ → Text → Type 0 };
+
+    /// The command of that index of a session asks for such an event.
+    ghost asks: { Self → ℕ → ℕ → Event → Type 0 };
 
     /// What may start may still start, after events of others.
     ghost starts_last: { (law : Self) → StartsLast (may_start law) (may_say law) };
@@ -26,7 +31,7 @@ pub trait Law {
     ghost proper: { (law : Self) → StartsProper (may_start law) };
 }
 
-/// The law under which nothing starts, and anything may be said.
+/// The law under which nothing starts, anything may be said, and each event is asked for.
 #[derive(Clone, Copy, PartialEq, Eq)]
 pub struct IdleLaw;
 
@@ -34,6 +39,8 @@ impl Law for IdleLaw {
     ghost may_start = { λ law h s edit marks. ⊥ };
 
     ghost may_say = { λ law h s i text. Unit {0} };
+
+    ghost asks = { λ law s i e. Unit {0} };
 
     ghost starts_last = { λ law h added s edit marks nodes run later others starts. starts };
 

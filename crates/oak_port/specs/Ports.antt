@@ -14,15 +14,18 @@ use Rattle.jr_tree.specs.declared.edit.Edit.{Edit}
 use Rattle.jr_tree.specs.Trees.{Nodes, dated_children_of, node_at}
 use Rattle.oak_clash.specs.declared.mark.MarkAt.{MarkAt}
 use Rattle.oak_machine.specs.declared.event.Draw.{Draw}
+use Rattle.oak_machine.specs.declared.event.Event.{Event}
 use Rattle.oak_machine.specs.declared.event.Event.TheVariants as event
 use Rattle.oak_machine.specs.declared.event.StepKind.{StepKind}
 use Rattle.oak_machine.specs.declared.event.StepKind.TheVariants as kind
 use Rattle.oak_machine.specs.History.{Begin, History, Past, begin_tree}
 use Rattle.oak_machine.specs.Commits.{is_in_flight, tree_at}
 use Rattle.oak_machine.specs.Heads.{head_of, local, published}
-use Rattle.oak_machine.specs.Laws.{AreOthers, Says, Starts, after}
+use Rattle.oak_machine.specs.Asked.{is_of_commit}
+use Rattle.oak_machine.specs.Laws.{AreOthers, Asks, Says, Starts, after}
 use Rattle.oak_machine.specs.Runs.{IsNode, IsRun}
 use Rattle.oak_machine.specs.Sessions.{base_of, has_left, has_login, is_attached, kept_checkpoint}
+use Rattle.oak_machine.specs.Sessions.{next_index}
 use Rattle.oak_machine.specs.Steps.{is_appended_by, is_kind}
 use Rattle.oak_commit.specs.declared.outcome.CommitEnd.{CommitEnd}
 use Rattle.oak_commit.specs.declared.outcome.CommitEnd.TheVariants as commit
@@ -315,3 +318,36 @@ MayBegin starts h s _ = IsTrue (has_login h.past s) × IsFalse (has_left h.past 
 abbrev pub HasRoom : Option ℕ → ℕ → Type 0
 HasRoom None n = ⊥
 HasRoom (Some room) n = n ≤ room
+
+-- ---- for which command
+
+-- the steps of a task append such an event
+abbrev pub Appends : Task → Event → Type 0
+Appends task.Login (event.Login s v) = ⊤
+Appends task.End (event.Went s kind.End) = ⊤
+Appends task.Refresh (event.Refresh s v) = ⊤
+Appends (task.Commit edit marks) e = IsTrue (is_of_commit e)
+Appends task.BackWrite (event.Went s kind.Back) = ⊤
+Appends task.BackWrite (event.Out k r) = ⊤
+Appends task.BackRead (event.Went s kind.Back) = ⊤
+Appends task.BackRead (event.In k v) = ⊤
+Appends (task.Checkpoint i) (event.Checkpoint id v) = id ≡ i
+Appends (task.Release i) (event.Release id) = id ≡ i
+Appends (task.Release i) (event.Went s kind.Settings) = ⊤
+Appends task.Observe (event.Went s kind.Pin) = ⊤
+Appends _ _ = ⊥
+
+-- what is being done may still append such an event
+abbrev pub MayAppend : Work → Event → Type 0
+MayAppend (Starting t) e = Appends t e
+MayAppend (Writing r) e = IsTrue (is_of_commit e)
+MayAppend (Undoing r f) e = IsTrue (is_of_commit e)
+MayAppend (Deciding r) e = IsTrue (is_of_commit e)
+MayAppend (Awaiting r) e = IsTrue (is_of_commit e)
+MayAppend (Publishing r) e = Appends task.BackWrite e
+MayAppend (Learning v) e = Appends task.BackRead e
+MayAppend Idle e = ⊥
+
+-- the next command of session s asks for each event that the task appends
+abbrev pub IsAskedOf : Asks → History → ℕ → Task → Type 0
+IsAskedOf asks h s t = (e : Event) → Appends t e → asks s (next_index h.past s) e

@@ -2,7 +2,7 @@
 ghost use Rattle.std.specs.Prelude.{◌≡◌, ◌↔◌, ◌≢◌, ℕ, OnErr, OnOk, None, Some, IsSome, IsFalse, length};
 ghost use Rattle.std.specs.Option.{option_map};
 ghost use Rattle.oak_machine.specs.Sessions.{base_of, has_left, next_index};
-ghost use Rattle.oak_port.specs.Ports.{Answers, HasRoom, Idle, LastsLess, LastsOn, MayBegin, OthersAlone, Shown, Starting, StaysSo, Steps};
+ghost use Rattle.oak_port.specs.Ports.{Answers, HasRoom, Idle, IsAskedOf, LastsLess, LastsOn, MayBegin, OthersAlone, Shown, Starting, StaysSo, Steps};
 
 use crate::task::{StepOut, Task};
 use jr_rev::Pin;
@@ -25,10 +25,13 @@ pub trait Port {
     /// raise it.
     ghost left: { Self → ℕ };
 
-    /// Begins a task. Memory may be refused, and then nothing is begun.
+    /// Begins a task, for whose events the session's next command asks. Memory may be refused, and
+    /// then nothing is begun.
     fn start(&mut self, task: Task) -> Result<(), AllocError>
         requires idle { (shown self.old).work ≡ Idle }
         requires may { MayBegin (Self.L.may_start (law self.old)) (shown self.old).history
+            (shown self.old).session task }
+        requires asked { IsAskedOf (Self.L.asks (law self.old)) (shown self.old).history
             (shown self.old).session task }
         ensures law { law self.new ≡ law self.old }
         ensures ok { OnOk result (OthersAlone (Self.L.may_start (law self.old))

@@ -10,7 +10,7 @@ use Rattle.jr_rev.specs.declared.vector.Pin.{Pin}
 use Rattle.oak_machine.specs.declared.event.Event.TheVariants as event
 use Rattle.oak_machine.specs.declared.event.Journal.{Journal}
 use Rattle.oak_machine.specs.Recorded.{Recorded}
-use Rattle.oak_machine.specs.Laws.{Says, Starts, StartsProper}
+use Rattle.oak_machine.specs.Laws.{Asks, Says, Starts, StartsProper}
 use Rattle.oak_machine.specs.Runs.{StartsLast}
 use Rattle.oak_machine.specs.Sessions.{next_index}
 use Rattle.oak_node.specs.Memory.{NodeState}
@@ -21,18 +21,19 @@ use Rattle.core_world.specs.States.{memory_at, memory_of}
 use Rattle.oak_port.specs.declared.task.StepOut.{StepOut}
 use Rattle.oak_port.specs.declared.task.Task.{Task}
 use Rattle.oak_port.specs.declared.task.Task.TheVariants as task
-use Rattle.oak_port.specs.Ports.{MayBegin, Steps as StepSeen}
+use Rattle.oak_port.specs.Ports.{IsAskedOf, MayBegin, Steps as StepSeen}
 use Rattle.oak_world.specs.declared.actor.Actor.{Actor}
 use Rattle.oak_step.specs.declared.work.Work.{Work}
 use Rattle.oak_step.specs.declared.work.Work.TheVariants as work
-use Rattle.oak_world.specs.Kept.{ArePlaced, IsPlaced, IsWorld}
+use Rattle.oak_world.specs.Kept.{ArePlaced, IsAskedWorld, IsPlaced, IsWorld}
 use Rattle.oak_step.specs.Parts.{CanStep, Steps, needed, parts}
 use Rattle.oak_world.specs.Seen.{shown_at}
 use Rattle.oak_step.specs.Works.{Begins}
 use Rattle.oak_world.specs.Steps.{StepsIn, reads_after}
 use Rattle.oak_world.specs.Worlds.{ActorState, WorldOf, actor_in, live, said_in, shown_actor, shown_world, state_of, with_reply, with_work, work_in}
+use Rattle.oak_world.proofs.Asking.{reply_asked, said_asked, start_asked, step_keeps_asked}
 use Rattle.oak_world.proofs.Calls.{actor_shown, begun_is, can, its_placed, own_are, replied_is, said_is, same_is, seen, set_placed, step_keeps_all, steps_in}
-use Rattle.oak_world.proofs.Keeping.{reply_keeps, said_keep, start_keeps}
+use Rattle.oak_world.proofs.Keeping.{reply_keeps, said_keep, seat, start_keeps}
 use Rattle.oak_world.proofs.Seats.{actor_within, memory_is, read_at}
 
 -- no place is kept for a task that begins
@@ -61,6 +62,9 @@ module _ (starts : Starts) (says : Says) (proper : StartsProper starts) (last : 
   here : slice_get actors s ≡ Some a
   here = read_at actors s a a (actor_within starts says proper law j t ms actors is s there) at
 
+  seated : s < length w.actors
+  seated = seat starts says proper last w is s there
+
   works : work_in w.actors s ≡ a.work
   works = ap (λ (b : ActorState). b.work) (actor_shown actors s a here)
 
@@ -83,11 +87,14 @@ module _ (starts : Starts) (says : Says) (proper : StartsProper starts) (last : 
     abbrev now : WorldOf L
     now = shown_world law (record j { events = es }) t ms (slice_set actors s b)
 
-    abbrev Stands : Type 0
-    Stands = IsWorld starts says now × ArePlaced (slice_set actors s b) es.places
+    abbrev Stands : Asks → Type 0
+    Stands asks = (IsWorld starts says now × ArePlaced (slice_set actors s b) es.places) × IsAskedWorld asks now
 
-    stands : (v : WorldOf L) → now ≡ v → IsWorld starts says v → Stands
-    stands v e kept = (subst (λ (x : WorldOf L). IsWorld starts says x) (sym e) kept, set_placed starts says proper last law j t ms actors is placed s k on a here b es.places its places)
+    stands : (asks : Asks) (v : WorldOf L) → now ≡ v → IsWorld starts says v → IsAskedWorld asks v → Stands asks
+    stands asks v e kept asked = (
+      (subst (λ (x : WorldOf L). IsWorld starts says x) (sym e) kept, set_placed starts says proper last law j t ms actors is placed s k on a here b es.places its places),
+      subst (λ (x : WorldOf L). IsAskedWorld asks x) (sym e) asked,
+    )
 
     module _ (list : es.list ≡ j.events.list) where
       pub reserved_is : (room : Option ℕ) → shown_actor b ≡ record (shown_actor a) { reply = room } → now ≡ with_reply w s room
@@ -96,9 +103,9 @@ module _ (starts : Starts) (says : Says) (proper : StartsProper starts) (last : 
       pub unchanged_is : shown_actor b ≡ shown_actor a → now ≡ w
       unchanged_is shown = same_is starts says proper last law j t ms actors is placed s k on a here b es shown list
 
-      pub reserve_stands : (r : Result Unit AllocError) (room : ℕ) → OnOk r (shown_actor b ≡ record (shown_actor a) { reply = Some room }) → OnErr r (shown_actor b ≡ shown_actor a) → Stands
-      reserve_stands (Ok x) room ok err = stands (with_reply w s (Some room)) (reserved_is (Some room) ok) (reply_keeps starts says proper last w is s there (Some room))
-      reserve_stands (Err x) room ok err = stands w (unchanged_is err) is
+      pub reserve_stands : (asks : Asks) → IsAskedWorld asks w → (r : Result Unit AllocError) (room : ℕ) → OnOk r (shown_actor b ≡ record (shown_actor a) { reply = Some room }) → OnErr r (shown_actor b ≡ shown_actor a) → Stands asks
+      reserve_stands asks asked (Ok x) room ok err = stands asks (with_reply w s (Some room)) (reserved_is (Some room) ok) (reply_keeps starts says proper last w is s there (Some room)) (reply_asked asks w asked s seated (Some room))
+      reserve_stands asks asked (Err x) room ok err = stands asks w (unchanged_is err) is asked
 
     -- ---- a reply
 
@@ -106,8 +113,8 @@ module _ (starts : Starts) (says : Says) (proper : StartsProper starts) (last : 
       pub saying_is : now ≡ said_in w s i text
       saying_is = said_is starts says proper last law j t ms actors is placed s k on a here b es i text shown list
 
-      pub say_stands : work_in w.actors s ≡ work.Rest → i ≡ next_index w.history.past s → says (live w.history) s i text → Stands
-      say_stands idle next lawful = stands (said_in w s i text) saying_is (said_keep starts says proper last w is s there idle i text next lawful)
+      pub say_stands : (asks : Asks) → IsAskedWorld asks w → work_in w.actors s ≡ work.Rest → i ≡ next_index w.history.past s → says (live w.history) s i text → Stands asks
+      say_stands asks asked idle next lawful = stands asks (said_in w s i text) saying_is (said_keep starts says proper last w is s there idle i text next lawful) (said_asked asks w asked s seated idle i text)
 
   -- ---- a task
 
@@ -124,10 +131,14 @@ module _ (starts : Starts) (says : Says) (proper : StartsProper starts) (last : 
     pub starting_is : shown_world law j t ms (slice_set actors s begun) ≡ with_work w s v
     starting_is = begun_is starts says proper last law j t ms actors is placed s k on a here begun j.events v (ap (λ (c : ℕ). record (shown_actor a) { work = v; began = c }) count) refl
 
-    pub start_stands : work_in w.actors s ≡ work.Rest → MayBegin starts (live w.history) s x → pin ≡ pin_of (memory_of (state_of w) s) s → IsWorld starts says (shown_world law j t ms (slice_set actors s begun)) × ArePlaced (slice_set actors s begun) j.events.places
-    start_stands idle may same = (
-      subst (λ (x : WorldOf L). IsWorld starts says x) (sym starting_is) (start_keeps starts says proper last w is s there idle x v may (subst (λ (p : Option Pin). Begins p x v) same begins)),
-      set_placed starts says proper last law j t ms actors is placed s k on a here begun j.events.places begun_placed refl,
+    pub start_stands : (asks : Asks) → IsAskedWorld asks w → IsAskedOf asks (live w.history) s x → work_in w.actors s ≡ work.Rest → MayBegin starts (live w.history) s x → pin ≡ pin_of (memory_of (state_of w) s) s
+        → (IsWorld starts says (shown_world law j t ms (slice_set actors s begun)) × ArePlaced (slice_set actors s begun) j.events.places) × IsAskedWorld asks (shown_world law j t ms (slice_set actors s begun))
+    start_stands asks asked so idle may same = (
+      (
+        subst (λ (x : WorldOf L). IsWorld starts says x) (sym starting_is) (start_keeps starts says proper last w is s there idle x v may (subst (λ (p : Option Pin). Begins p x v) same begins)),
+        set_placed starts says proper last law j t ms actors is placed s k on a here begun j.events.places begun_placed refl,
+      ),
+      subst (λ (x : WorldOf L). IsAskedWorld asks x) (sym starting_is) (start_asked asks w asked s seated pin x v begins so),
     )
 
   -- ---- a step
@@ -144,11 +155,14 @@ module _ (starts : Starts) (says : Says) (proper : StartsProper starts) (last : 
       abbrev stepped : WorldOf L
       stepped = shown_world law (record j { events = es }) u (slice_set ms (k - 1) n) (slice_set actors s b)
 
-      pub step_stands : IsTable u.documents → IsPlaced b → es.places + a.places ≡ j.events.places + b.places → IsWorld starts says stepped × ArePlaced (slice_set actors s b) es.places
-      step_stands table its places = step_keeps_all starts says proper last law j t ms actors is placed s k on a here m remembered u n es b o (seat_busy busy) made began reply reads table its places
-
       pub step_made : StepsIn w s stepped o
       step_made = steps_in starts says proper last law j t ms actors is placed s k on a here m remembered u n es b o (seat_busy busy) made began reply reads
+
+      pub step_stands : (asks : Asks) → IsAskedWorld asks w → IsTable u.documents → IsPlaced b → es.places + a.places ≡ j.events.places + b.places → (IsWorld starts says stepped × ArePlaced (slice_set actors s b) es.places) × IsAskedWorld asks stepped
+      step_stands asks asked table its places = (
+        step_keeps_all starts says proper last law j t ms actors is placed s k on a here m remembered u n es b o (seat_busy busy) made began reply reads table its places,
+        step_keeps_asked starts says proper last w is s there stepped o step_made asks asked,
+      )
 
       pub step_shown : (name : GName) → StepSeen starts says (shown_at name w s) (shown_at name stepped s) o
       step_shown name = seen starts says proper last law j t ms actors is placed s k on a here m remembered u n es b o (seat_busy busy) made began reply reads name

@@ -90,7 +90,7 @@ module _ {L : Type 0} (w : WorldOf L) (s : ℕ) (seat : s < length w.actors) whe
   pub set_is : (actors : List ActorState) (a : ActorState) → actors ≡ slice_set w.actors s a → actor_in actors s ≡ a
   set_is actors a same = ap (λ (xs : List ActorState). actor_in xs s) same ∙ actor_set w.actors s a seat
 
-  others_are : (actors : List ActorState) (a : ActorState) → actors ≡ slice_set w.actors s a → (q : ℕ) → (q == s) ≡ false → actor_in actors q ≡ actor_in w.actors q
+  pub others_are : (actors : List ActorState) (a : ActorState) → actors ≡ slice_set w.actors s a → (q : ℕ) → (q == s) ≡ false → actor_in actors q ≡ actor_in w.actors q
   others_are actors a same q apart = ap (λ (xs : List ActorState). actor_in xs q) same ∙ actor_other w.actors s a q apart
 
   -- the seats of the others stay
@@ -273,16 +273,16 @@ module _ (starts : Starts) (says : Says) (proper : StartsProper starts) (last : 
   few_sessions = none_behind (cursor_owner s) w.history.sessions (let few : length w.history.sessions ≤ 64 = is.few in omega (arith, few))
 
   module _ (u : WorldOf L) (o : StepOut) (m : StepsIn w s u o) where
-    step_is : IsStepOf starts says s (state_of w) (work_in w.actors s) (state_of u) m.does o
+    pub step_is : IsStepOf starts says s (state_of w) (work_in w.actors s) (state_of u) m.does o
     step_is = any_step starts says proper (state_of w) is.kept s there few_sessions (is.detached s) is.unstopped is.table (work_in w.actors s) refl refl (is.may s) (state_of u) m.does o m.makes
 
-    grown : (live u.history) ≡ after step_is.own (live w.history)
+    pub grown : (live u.history) ≡ after step_is.own (live w.history)
     grown = step_is.grown
 
     run_now : IsRun starts says (after step_is.own (live w.history))
     run_now = subst (λ (h : History). IsRun starts says h) grown step_is.kept.sessions.run
 
-    does_now : work_in u.actors s ≡ m.does
+    pub does_now : work_in u.actors s ≡ m.does
     does_now = ap (λ (a : ActorState). a.work) (set_is w s seat u.actors _ m.actors)
 
     may_by : (q : ℕ) (b : Bool) → (q == s) ≡ b → May starts (live u.history) q (work_in u.actors q)

@@ -7,7 +7,8 @@ use Rattle.std.proofs.lemmas.List.{length-map}
 use Rattle.std.proofs.lemmas.Option.{slice_get-get_or, slice_get_within}
 use Rattle.jr_rev.specs.Vectors.{no_entries}
 use Rattle.oak_machine.specs.declared.event.Journal.{Journal}
-use Rattle.oak_machine.specs.Laws.{Says, Starts, StartsProper}
+use Rattle.oak_machine.specs.Asked.{AreAsked}
+use Rattle.oak_machine.specs.Laws.{Asks, Says, Starts, StartsProper}
 use Rattle.oak_machine.specs.Runs.{IsNode}
 use Rattle.oak_node.specs.Memory.{NodeState, begun}
 use Rattle.oak_node.specs.Pins.{pin_of}
@@ -15,9 +16,9 @@ use Rattle.oak_store.specs.Tables.{Table}
 use Rattle.core_world.specs.States.{memory_at, memory_of}
 use Rattle.core_world.proofs.Lives.{its_node, on_node}
 use Rattle.oak_world.specs.declared.actor.Actor.{Actor}
-use Rattle.oak_world.specs.Kept.{IsWorld}
+use Rattle.oak_world.specs.Kept.{IsAskedWorld, IsWorld}
 use Rattle.oak_step.specs.Works.{kind_due}
-use Rattle.oak_world.specs.Worlds.{ActorState, WorldOf, actor_in, node_in, shown_actor, shown_world, state_of, work_in}
+use Rattle.oak_world.specs.Worlds.{ActorState, WorldOf, actor_in, live, node_in, shown_actor, shown_world, state_of, work_in}
 use Rattle.oak_world.proofs.Calls.{actor_shown}
 
 -- what is read at a place of a list
@@ -73,6 +74,10 @@ module _ (starts : Starts) (says : Says) (proper : StartsProper starts) {L : Typ
 -- what a world keeps, by what is seen of it
 pub world_is : {L : Type 0} (starts : L → Starts) (says : L → Says) (v w : WorldOf L) → v ≡ w → IsWorld (starts v.law) (says v.law) v → IsWorld (starts w.law) (says w.law) w
 world_is {L} starts says v w same is = subst (λ (x : WorldOf L). IsWorld (starts x.law) (says x.law) x) same is
+
+-- and that its events were asked for
+pub asked_by : {L : Type 0} (asks : L → Asks) (v w : WorldOf L) → v ≡ w → IsAskedWorld (asks v.law) v → AreAsked (asks w.law) (live w.history)
+asked_by {L} asks v w same asked = subst (λ (x : WorldOf L). AreAsked (asks x.law) (live x.history)) same asked.made
 
 pub there_by : {L : Type 0} (v w : WorldOf L) (s : ℕ) → v ≡ w → is_some (slice_get w.history.sessions s) ≡ true → is_some (slice_get v.history.sessions s) ≡ true
 there_by {L} v w s same there = subst (λ (x : WorldOf L). is_some (slice_get x.history.sessions s) ≡ true) (sym same) there

@@ -11,7 +11,7 @@ use Rattle.std.proofs.lemmas.List.{length-map}
 use Rattle.std.proofs.lemmas.List.Elements.{All-from_recursion}
 use Rattle.oak_doc.specs.declared.document.Document.{Document}
 use Rattle.oak_doc.specs.declared.document.PrevEntry.{PrevEntry}
-use Rattle.oak_machine.specs.Laws.{Says, Starts}
+use Rattle.oak_machine.specs.Laws.{Asks, Says, Starts}
 use Rattle.oak_machine.specs.Runs.{AreNodes}
 use Rattle.jr_rev.specs.declared.revision.Revision.{Revision}
 use Rattle.jr_rev.specs.Vectors.{Entries, entry, start}
@@ -28,9 +28,11 @@ use Rattle.oak_read.specs.declared.reader.Reader.{Reader}
 use Rattle.core_clash.specs.Sessions.{Running}
 use Rattle.std.proofs.Math.Path.{fun_ext}
 use Rattle.oak_world.specs.declared.actor.Actor.{Actor}
+use Rattle.oak_port.specs.Ports.{MayAppend}
 use Rattle.oak_step.specs.declared.work.Work.{Work}
 use Rattle.oak_step.specs.declared.work.Work.TheVariants as work
-use Rattle.oak_world.specs.Kept.{ArePlaced, IsPlaced, IsWorld, May}
+use Rattle.oak_world.specs.Kept.{ArePlaced, IsAskedWorld, IsPlaced, IsWorld, May}
+use Rattle.oak_world.specs.Seen.{shown_work}
 use Rattle.oak_world.specs.Worlds.{ActorState, WorldOf, idle, live, reading_of, running_of, shown_actor, shown_world, start_world, state_of, work_in}
 
 -- the seat of a session that does nothing
@@ -73,6 +75,13 @@ start_is_world starts says law clusters sessions few nodes = record {
   may = λ s. subst (λ (v : Work). May starts (live (start_world law clusters sessions).history) s v) (sym (idle_works sessions s)) tt;
 }
 
+-- no event was made, and nothing is done
+pub start_is_asked : (asks : Asks) {L : Type 0} (law : L) (clusters : ℕ) (sessions : List ℕ) → IsAskedWorld asks (start_world law clusters sessions)
+start_is_asked asks law clusters sessions = record {
+  made = tt;
+  coming = λ s e may. absurd (subst (λ (v : Work). MayAppend (shown_work v) e) (idle_works sessions s) may);
+}
+
 -- ---- places
 
 no_places : (sessions : List ℕ) → sum_by (λ a. a.places) (map (λ k. idle_actor) sessions) ≡ 0
@@ -105,6 +114,9 @@ module _ {L : Type 0} (law : L) (clusters : ℕ) (sessions numbers : List ℕ) (
       ∙ (ap (λ (u : Table). record (start_world law clusters sessions) { table = u; memories = ms; actors = map shown_actor actors }) table
       ∙ (ap (λ (ns : List NodeState). record (start_world law clusters sessions) { memories = ns; actors = map shown_actor actors }) memories
       ∙ ap (λ (xs : List ActorState). record (start_world law clusters sessions) { actors = xs }) (ap (map shown_actor) seats ∙ seen_idle sessions))))
+
+  pub start_asks : (asks : Asks) → IsAskedWorld asks now
+  start_asks asks = subst (λ (w : WorldOf L). IsAskedWorld asks w) (sym start_is) (start_is_asked asks law clusters sessions)
 
   pub start_call : (starts : Starts) (says : Says) → length sessions ≤ 64 → AreNodes clusters sessions → IsWorld starts says now × ArePlaced actors es.places
   start_call starts says few nodes = (

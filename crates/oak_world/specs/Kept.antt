@@ -5,8 +5,10 @@ use Rattle.std.specs.Prelude.{◌≡◌, ◌≤◌, ◌+◌, ℕ, false, cond, [
 use Rattle.oak_commit.specs.Committing.{Committing}
 use Rattle.oak_machine.specs.History.{History}
 use Rattle.oak_machine.specs.Commits.{is_ended}
-use Rattle.oak_machine.specs.Laws.{Says, Starts}
-use Rattle.oak_machine.specs.Sessions.{has_login, is_attached, is_stopped}
+use Rattle.oak_machine.specs.declared.event.Event.{Event}
+use Rattle.oak_machine.specs.Asked.{AreAsked}
+use Rattle.oak_machine.specs.Laws.{Asks, Says, Starts}
+use Rattle.oak_machine.specs.Sessions.{has_login, is_attached, is_stopped, next_index}
 use Rattle.oak_read.specs.Reading.{IsTable}
 use Rattle.core_clash.specs.Core.{root_of}
 use Rattle.core_world.specs.Kept.{IsKept, WereOnRoot}
@@ -16,6 +18,7 @@ use Rattle.jr_path.specs.declared.path.DocId.{DocId}
 use Rattle.jr_rev.specs.declared.revision.Revision.{Revision}
 use Rattle.jr_rev.specs.Revisions.{is_at_most}
 use Rattle.oak_machine.specs.Heads.{local}
+use Rattle.oak_port.specs.Ports.{MayAppend}
 use Rattle.oak_step.specs.declared.upkeep.Upkeep.{Upkeep}
 use Rattle.oak_step.specs.declared.upkeep.Upkeep.TheVariants as upkeep
 use Rattle.std.specs.Ordering.{eq_by_cmp}
@@ -24,6 +27,7 @@ use Rattle.oak_step.specs.declared.work.Work.{Work}
 use Rattle.oak_step.specs.declared.work.Work.TheVariants as work
 use Rattle.oak_step.specs.Parts.{needed}
 use Rattle.oak_world.specs.Worlds.{WorldOf, live, state_of, work_in}
+use Rattle.oak_world.specs.Seen.{shown_work}
 use Rattle.oak_world.specs.Steps.{HasCome}
 
 -- the session has come, and the commit hasn't ended; it goes to the commit roots of those that it is to mark, and looks at no previous document
@@ -73,6 +77,12 @@ pub record IsWorld (starts : Starts) (says : Says) {L : Type 0} (w : WorldOf L) 
   pub unsplit : (p : Path) → listed_at w.table p ≡ []
   pub seats : length w.actors ≡ length w.history.sessions
   pub may : (s : ℕ) → May starts (live w.history) s (work_in w.actors s)
+
+-- each event was made for a command that asks for it, and the next command of each session asks for
+-- each event that what is being done for it may still append
+pub record IsAskedWorld (asks : Asks) {L : Type 0} (w : WorldOf L) : Type 0 where
+  pub made : AreAsked asks (live w.history)
+  pub coming : (s : ℕ) (e : Event) → MayAppend (shown_work (work_in w.actors s)) e → asks s (next_index w.history.past s) e
 
 -- the places that are kept for what a session does, and for its reply
 abbrev pub IsPlaced : Actor → Type 0

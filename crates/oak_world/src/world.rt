@@ -9,13 +9,14 @@ ghost use Rattle.jr_rev.specs.declared.revision.Revision.{Revision};
 ghost use Rattle.jr_rev.specs.Vectors.{is_below, start};
 ghost use Rattle.jr_tree.specs.Trees.{node_at};
 ghost use Rattle.oak_doc.specs.declared.document.Document.{Document};
+ghost use Rattle.oak_machine.specs.Asked.{AreAsked};
 ghost use Rattle.oak_machine.specs.Commits.{IsClosed, IsSettled, are_clashing, is_committed, is_ended, is_in_base, refusal_of, tree_at};
 ghost use Rattle.oak_machine.specs.History.{history_of};
 ghost use Rattle.oak_machine.specs.Runs.{AreNodes, IsRun};
 ghost use Rattle.oak_machine.specs.Sessions.{base_of, has_left};
 ghost use Rattle.oak_node.specs.Memory.{begun};
 ghost use Rattle.oak_node.specs.Pins.{pin_of};
-ghost use Rattle.oak_port.specs.Ports.{IsWait, MayBegin, Steps};
+ghost use Rattle.oak_port.specs.Ports.{IsAskedOf, IsWait, MayBegin, Steps};
 ghost use Rattle.oak_read.specs.Meaning.{documents_in, found_node};
 ghost use Rattle.core_clash.specs.Sound.{Cause};
 ghost use Rattle.core_world.specs.Kept.{IsFreeOf, IsKept};
@@ -77,7 +78,7 @@ impl<L: Law + Drop> Drop for World<L> {
 impl<L: Law> Model for World<L> {
     ghost use Rattle.std.specs.Prelude.{None, ◌≡◌};
     ghost use Rattle.oak_world.specs.Worlds.{WorldOf, shown_world};
-    ghost use Rattle.oak_world.specs.Kept.{ArePlaced, IsWorld};
+    ghost use Rattle.oak_world.specs.Kept.{ArePlaced, IsAskedWorld, IsWorld};
 
     ghost Value = { WorldOf L };
 
@@ -85,7 +86,9 @@ impl<L: Law> Model for World<L> {
 
     ghost invariant = { λ w. (IsWorld (L.may_start w.law.value) (L.may_say w.law.value)
         (shown_world w.law.value w.journal w.table w.memories.items w.actors.items)
-        × ArePlaced w.actors.items w.journal.events.places) × (w.journal.start ≡ None) };
+        × ArePlaced w.actors.items w.journal.events.places) × (w.journal.start ≡ None)
+        × IsAskedWorld (L.asks w.law.value)
+        (shown_world w.law.value w.journal w.table w.memories.items w.actors.items) };
 }
 
 impl<L: Law + Drop> World<L> {
@@ -131,6 +134,7 @@ impl<L: Law + Drop> World<L> {
     /// The events so far: a run of the machine by the law. Each of its sessions has a seat. Of two commits that are made and
     /// clash, the base of one sees the other. A refusal names its cause: another's commit, outside the base, made or under way.
     /// What has ended and clashes with no other draw outside its base is committed, or wanted memory before its commit point.
+    /// Each event was made by a session for its next command, which asks for it.
     pub fn journal(&self) -> &Journal
         ensures journal { history_of result.now ≡ live self.now.history }
         ensures run { IsRun (L.may_start self.now.law) (L.may_say self.now.law)
@@ -148,6 +152,7 @@ impl<L: Law + Drop> World<L> {
         ensures through { (r : Revision) → IsTrue (is_ended self.now.history.past r)
             → IsUnclashing self.now.history.past r
             → IsTrue (is_committed self.now.history.past r) ⊎ Wanted self.now.history.past r }
+        ensures asked { AreAsked (L.asks self.now.law) (live self.now.history) }
     {
         &self.journal
     }
@@ -169,6 +174,7 @@ impl<L: Law + Drop> World<L> {
         ensures through { (r : Revision) → IsTrue (is_ended self.now.history.past r)
             → IsUnclashing self.now.history.past r
             → IsTrue (is_committed self.now.history.past r) ⊎ Wanted self.now.history.past r }
+        ensures asked { AreAsked (L.asks self.now.law) (live self.now.history) }
     {
         let _ = &self.journal;
     }
@@ -208,10 +214,12 @@ impl<L: Law + Drop> World<L> {
         memory.pin_of(actor)
     }
 
-    /// Tells a session that does nothing what to do. Where memory is refused nothing changes.
+    /// Tells a session that does nothing what to do; its next command asks for the events of the task.
+    /// Where memory is refused nothing changes.
     pub fn start(&mut self, actor: u32, task: Task) -> Result<(), AllocError>
         requires idle { IsIdle self.old actor }
         requires may { MayBegin (L.may_start self.old.law) (live self.old.history) actor task }
+        requires asked { IsAskedOf (L.asks self.old.law) (live self.old.history) actor task }
         ensures ok { OnOk result ((v : Work)
             × Begins (pin_of (memory_of (state_of self.old) actor) actor) task v
             × (self.new ≡ with_work self.old actor v)) }

@@ -1,5 +1,5 @@
 -- The grammar of queries, read aloud: above each part stands its line. A keyword is read where the grammar has one and
--- a name can't stand; the words before `(` are such, and NOT where nothing follows that can follow a name.
+-- a name can't stand; the words before `(` are such, and NOT unless what can follow a name, and is none itself, follows.
 use Rattle.std.specs.Prelude.{◌≡◌, ℕ, ◌+◌, nat_lt, Bool, true, false, ◌&&◌, ◌||◌, not, List, [], ◌∷◌, ◌++◌, Option, None, Some, is_some, length, Result, Ok, Err, if◌then◌else◌, codes}
 use Rattle.jr_value.specs.declared.value.Kind.{Kind}
 use Rattle.jr_value.specs.declared.value.Kind.TheVariants as kind
@@ -54,10 +54,11 @@ declared_at names s = do
 abbrev pub only_at : Names → ℕ → Result ℕ ℕ
 only_at names at = if is_one names then Ok 0 else Err at
 
+-- . name, behind a selector's name, of which is asked once the property is read
 abbrev pub property_of : Names → ℕ → List ℕ → State → Read PropertyOf
 property_of names at name s = do
-  p ← required (place_named names name) at
   n ← name_at (after s)
+  p ← required (place_named names name) at
   Ok (record { selector = p; name = n.0 }, n.1)
 
 abbrev pub bare_property : Names → ℕ → List ℕ → State → Read PropertyOf
@@ -263,6 +264,74 @@ abbrev pub sources_at : Option ℕ → State → Read Sources
 sources_at bare s = do
   t ← source_at s
   many join_first (join_at bare) t.1.pieces t.0 t.1
+
+-- ---- selectors as far as the grammar reads them, whatever the names in ON mean
+
+-- property = [name .] name
+abbrev pub skim_property : State → Read (Unit {0})
+skim_property s = do
+  n ← any_name_at s
+  (if sign_first sign.Dot n.1.pieces then any_name_at (after n.1) else Ok (tt, n.1))
+
+-- ( name , name ), behind the function's word
+abbrev pub skim_pair : State → Read (Unit {0})
+skim_pair s = do
+  o ← sign_at sign.Open (after s)
+  a ← any_name_at o.1
+  c ← sign_at sign.Comma a.1
+  b ← any_name_at c.1
+  sign_at sign.Close b.1
+
+-- property = property
+abbrev pub skim_equal : State → Read (Unit {0})
+skim_equal s = do
+  p ← skim_property s
+  e ← sign_at sign.Equal p.1
+  skim_property e.1
+
+abbrev pub pair_first : List Placed → Bool
+pair_first ps = call_first (codes "ISSAMENODE") ps || call_first (codes "ISCHILDNODE") ps || call_first (codes "ISDESCENDANTNODE") ps
+
+-- on = property = property | ISSAMENODE(name, name) | ISCHILDNODE(name, name) | ISDESCENDANTNODE(name, name)
+abbrev pub skim_on : State → Read (Unit {0})
+skim_on s = if pair_first s.pieces then skim_pair s else skim_equal s
+
+-- ON on
+abbrev pub skim_condition : State → Read (Unit {0})
+skim_condition s = do
+  w ← word_at (codes "ON") s
+  skim_on w.1
+
+-- the name of a selector
+abbrev pub skim_selector : State → Read (List ℕ)
+skim_selector s = do
+  t ← selector_at s
+  Ok (t.0.1, t.1)
+
+-- A join, as the name of its selector.
+-- join = [INNER | LEFT OUTER | RIGHT OUTER] JOIN selector ON on
+abbrev pub skim_join : State → Read (List ℕ)
+skim_join s = do
+  k ← join_kind_at s
+  n ← skim_selector k.1
+  c ← skim_condition n.1
+  Ok (n.0, c.1)
+
+abbrev pub names_more : Names → State → Read Names
+names_more names s = do
+  n ← skim_join s
+  Ok (names ++ n.0 ∷ [], n.1)
+
+abbrev pub first_name : State → Read Names
+first_name s = do
+  n ← skim_selector s
+  Ok (n.0 ∷ [], n.1)
+
+-- selector {join}, as the names of the selectors
+abbrev pub skim_sources : State → Read Names
+skim_sources s = do
+  n ← first_name s
+  many join_first names_more n.1.pieces n.0 n.1
 
 -- ---- operands and values
 
@@ -482,13 +551,17 @@ test_at names s =
     else (if call_first (codes "ISDESCENDANTNODE") s.pieces then descendant_test names s
     else operand_test names s))
 
--- what can follow a property's first name in a condition: `.`, an operator or IS
+-- what can follow a property's first name in a condition comes next: `.`, an operator or IS
 abbrev pub follows_name : List Placed → Bool
 follows_name ps = sign_first sign.Dot ps || is_some (operator_first ps) || word_first (codes "IS") ps
 
--- NOT is the keyword where nothing follows that can follow a name
+-- a name comes next that what can follow a name follows; LIKE and IS too are names there
+abbrev pub led_name_first : List Placed → Bool
+led_name_first ps = selector_first ps && follows_name (behind ps)
+
+-- NOT is the keyword unless what follows can follow a name and is none itself
 abbrev pub not_first : List Placed → Bool
-not_first ps = word_first (codes "NOT") ps && not (follows_name (behind ps))
+not_first ps = word_first (codes "NOT") ps && (not (follows_name (behind ps)) || led_name_first (behind ps))
 
 abbrev pub and_more : (State → Read Test) → Test → State → Read Test
 and_more term left s = do
@@ -604,12 +677,39 @@ froms_at s = do
   w ← whole_at g.1
   Ok (g.0, g.1)
 
+-- columns FROM selector {join}, as the names of the selectors, whatever the names in ON mean
+abbrev pub skim_froms : State → Read Names
+skim_froms s = do
+  b ← skim_columns s
+  f ← word_at (codes "FROM") b.1
+  n ← skim_sources f.1
+  w ← whole_at n.1
+  Ok n
+
+-- the columns name selectors of these
+abbrev pub columns_named : Names → State → Result (Unit {0}) ℕ
+columns_named names s = do
+  c ← columns_at names s
+  Ok tt
+
+-- the columns name selectors that are there, once the selectors are whole
+abbrev pub columns_stand : State → Read Names → Result (Unit {0}) ℕ
+columns_stand s (Ok n) = columns_named n.0 s
+columns_stand s (Err at) = Ok tt
+
+-- A fault in the columns' names stands before one behind them.
+abbrev pub columns_before : State → Read Sources → Read Sources
+columns_before s (Ok g) = Ok g
+columns_before s (Err at) = do
+  c ← columns_stand s (skim_froms s)
+  Err at
+
 -- The names in the columns mean something only once the selectors are known, so the columns are read twice.
 -- SELECT columns FROM selector {join}
 unfoldable pub selected_at : State → Read (Sources × List Column)
 selected_at s = do
   a ← word_at (codes "SELECT") s
-  g ← froms_at a.1
+  g ← columns_before a.1 (froms_at a.1)
   c ← columns_at g.0.names a.1
   Ok ((g.0, c.0), g.1)
 

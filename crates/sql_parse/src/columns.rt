@@ -45,7 +45,7 @@ fn node_columns(alloc: Global, names: &[Name]) -> Result<List<Column>, AllocErro
 
 impl<'a> Cursor<'a> {
     // Reads past a name.
-    fn any_name(&mut self) -> Result<(), SqlFault>
+    pub(crate) fn any_name(&mut self) -> Result<(), SqlFault>
         ensures { Reads result self.new (any_name_at self.old) }
     {
         if name_first(self.pieces).is_none() {

@@ -1,7 +1,7 @@
 // What is asked of a row.
-ghost use Rattle.std.specs.Prelude.{◌≡◌, ◌≤◌};
+ghost use Rattle.std.specs.Prelude.{◌≡◌};
 ghost use Rattle.std.specs.Option.{option_map};
-ghost use Rattle.sql_parse.specs.Grammar.{and_with, compared, filter_at, follows_name, grouped, negated, not_at, not_first, or_with, path_at, place_call, selector_before, test_at, tested};
+ghost use Rattle.sql_parse.specs.Grammar.{and_with, compared, filter_at, follows_name, grouped, led_name_first, negated, not_at, not_first, or_with, path_at, place_call, selector_before, test_at, tested};
 ghost use Rattle.sql_pieces.specs.Reading.{Reads, ReadsAs};
 ghost use Rattle.sql_parse.specs.Depths.{tested_in};
 ghost use Rattle.sql_query.specs.Trees.{look_of, test_of};
@@ -17,18 +17,25 @@ use sql_pieces::{
 use sql_query::{Condition, DEEPEST, Operand};
 use std::alloc::Global;
 
-// Whether the first piece can follow a property's first name.
+// Whether what can follow a property's first name comes first: `.`, an operator or IS.
 fn follows_name(pieces: &[Placed]) -> bool
     ensures { result ≡ follows_name pieces.now }
 {
     sign_first(Sign::Dot, pieces) || operator_first(pieces).is_some() || word_first("IS", pieces)
 }
 
-// Whether NOT comes first, as the keyword.
+// Whether a name comes first that what can follow a name follows; LIKE and IS too are names there.
+fn led_name_first(pieces: &[Placed]) -> bool
+    ensures { result ≡ led_name_first pieces.now }
+{
+    selector_first(pieces) && follows_name(behind(pieces))
+}
+
+// Whether NOT comes first, as the keyword: unless what follows can follow a name and is none itself.
 fn not_first(pieces: &[Placed]) -> bool
     ensures { result ≡ not_first pieces.now }
 {
-    word_first("NOT", pieces) && !follows_name(behind(pieces))
+    word_first("NOT", pieces) && (!follows_name(behind(pieces)) || led_name_first(behind(pieces)))
 }
 
 impl<'a> Cursor<'a> {
@@ -124,11 +131,10 @@ impl<'a> Cursor<'a> {
             return Ok(Condition::Descendant(selector, path));
         }
         let operand = self.operand(alloc, names, self.pieces, 0)?;
-        let condition = self.tested(operand)?;
-        Ok(condition)
+        self.tested(operand)
     }
 
-    // NOT not
+    // NOT not; `level` counts this NOT.
     #[cycle(condition)]
     #[tactic(auto, unfolding(crate::specs::Grammar::negated))]
     fn negated(
@@ -138,16 +144,15 @@ impl<'a> Cursor<'a> {
         room: &[Placed],
         level: usize,
     ) -> Result<Nested, SqlFault>
-        requires { level ≤ DEEPEST }
         ensures { ReadsAs tested_in result self.new (negated (not_at names.now room.now) self.old) }
     {
         self.advance();
-        let inner = self.negation(alloc, names, room, level + 1)?;
+        let inner = self.negation(alloc, names, room, level)?;
         let nested = not(alloc, inner)?;
         Ok(nested)
     }
 
-    // ( or )
+    // ( or ); `level` counts this `(`.
     #[cycle(condition)]
     #[tactic(auto, unfolding(crate::specs::Grammar::grouped))]
     fn grouped(
@@ -157,14 +162,11 @@ impl<'a> Cursor<'a> {
         room: &[Placed],
         level: usize,
     ) -> Result<Nested, SqlFault>
-        requires { level ≤ DEEPEST }
         ensures { ReadsAs tested_in result self.new (grouped (not_at names.now room.now) self.old) }
     {
         self.advance();
-        let nested = self.condition(alloc, names, room, level + 1)?;
-        let close = self.sign(Sign::Close);
-        let (nested, ()) = both(nested, close)?;
-        Ok(nested)
+        let nested = self.condition(alloc, names, room, level)?;
+        self.closed(nested)
     }
 
     // not = NOT not | primary; primary = ( or ) | .. No more NOT and `(` stand inside one another than `room` has
@@ -186,12 +188,10 @@ impl<'a> Cursor<'a> {
             return Err(SqlFault::Memory);
         }
         if self.is_not() {
-            let nested = self.negated(alloc, names, room, level)?;
-            return Ok(nested);
+            return self.negated(alloc, names, room, level + 1);
         }
         if self.is_sign(Sign::Open) {
-            let nested = self.grouped(alloc, names, room, level)?;
-            return Ok(nested);
+            return self.grouped(alloc, names, room, level + 1);
         }
         let condition = self.test(alloc, names)?;
         Ok(Nested {

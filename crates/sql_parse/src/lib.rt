@@ -10,6 +10,7 @@ mod names;
 mod operands;
 mod orders;
 mod parser;
+mod skims;
 mod sources;
 
 pub use laws::answers_are_one;

@@ -1,6 +1,6 @@
 // Names of selectors and properties.
 ghost use Rattle.std.specs.Prelude.{◌≡◌};
-ghost use Rattle.sql_parse.specs.Grammar.{declared_at, is_one, only_at, property_at};
+ghost use Rattle.sql_parse.specs.Grammar.{declared_at, is_one, only_at, property_at, property_of};
 ghost use Rattle.sql_pieces.specs.Leaves.{place_named};
 ghost use Rattle.sql_pieces.specs.Reading.{Gives, Reads, required};
 
@@ -53,6 +53,25 @@ impl<'a> Cursor<'a> {
         place_or(names, name, at)
     }
 
+    // . name, behind the name of a selector, of which is asked once the property is read
+    fn property_of(
+        &mut self,
+        names: &[Name],
+        at: usize,
+        first: &Name,
+    ) -> Result<PropertyOf, SqlFault>
+        ensures { Reads result self.new (property_of names.now at first.now self.old) }
+    {
+        self.advance();
+        let Some(name) = name_first(self.pieces) else {
+            return Err(self.fault());
+        };
+        let selector = place_or(names, first, at)?;
+        let name = name.copy()?;
+        self.advance();
+        Ok(PropertyOf { selector, name })
+    }
+
     // property = [name .] name
     pub(crate) fn property(&mut self, names: &[Name]) -> Result<PropertyOf, SqlFault>
         ensures { Reads result self.new (property_at names.now self.old) }
@@ -63,10 +82,7 @@ impl<'a> Cursor<'a> {
         };
         self.advance();
         if self.is_sign(Sign::Dot) {
-            let selector = place_or(names, first, at)?;
-            self.advance();
-            let name = self.name()?;
-            return Ok(PropertyOf { selector, name });
+            return self.property_of(names, at, first);
         }
         let selector = only_or(names, at)?;
         let name = first.copy()?;

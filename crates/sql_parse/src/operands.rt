@@ -1,5 +1,5 @@
 // Operands and values.
-ghost use Rattle.std.specs.Prelude.{◌≡◌, ◌≤◌, IfErr, IfOk};
+ghost use Rattle.std.specs.Prelude.{◌≡◌, IfErr, IfOk};
 ghost use Rattle.sql_parse.specs.Grammar.{cast_at, cast_value, first_kind, kind_at, literal_at, operand_at, operand_call, operator_at, operator_first, operator_in, plain_operand, property_call, selector_call, static_at, text_at};
 ghost use Rattle.sql_pieces.specs.Reading.{Reads, ReadsAs};
 ghost use Rattle.sql_query.specs.Trees.{look_of};
@@ -111,7 +111,7 @@ impl<'a> Cursor<'a> {
         self.property(names).map(Operand::Property)
     }
 
-    // ( operand ), behind a function's word
+    // ( operand ), behind a function's word; `level` counts this operand.
     #[cycle(operand)]
     fn operand_call(
         &mut self,
@@ -120,11 +120,10 @@ impl<'a> Cursor<'a> {
         room: &[Placed],
         level: usize,
     ) -> Result<Operand, SqlFault>
-        requires { level ≤ DEEPEST }
         ensures { ReadsAs look_of result self.new (operand_call (operand_at names.now room.now) self.old) }
     {
         self.open()?;
-        let operand = self.operand(alloc, names, room, level + 1)?;
+        let operand = self.operand(alloc, names, room, level)?;
         self.closed(operand)
     }
 
@@ -148,11 +147,11 @@ impl<'a> Cursor<'a> {
             return Err(SqlFault::Memory);
         }
         if self.is_call("LOWER") {
-            let operand = self.operand_call(alloc, names, room, level)?;
+            let operand = self.operand_call(alloc, names, room, level + 1)?;
             return lower(alloc, operand);
         }
         if self.is_call("UPPER") {
-            let operand = self.operand_call(alloc, names, room, level)?;
+            let operand = self.operand_call(alloc, names, room, level + 1)?;
             return upper(alloc, operand);
         }
         self.plain_operand(names)

@@ -2,11 +2,11 @@
 ghost use Rattle.std.specs.Prelude.{◌≡◌, Err, None, Ok, Some, length};
 ghost use Rattle.jr_value.specs.declared.value.Kind.{Kind};
 ghost use Rattle.jr_value.specs.declared.value.Kind.TheVariants.{Str};
-ghost use Rattle.sql_parse.specs.Grammar.{IsAnswer, IsParsed, end_at, froms_at, is_whole, no_pieces, query_at, rest_at, selected_at, whole_at};
+ghost use Rattle.sql_parse.specs.Grammar.{IsAnswer, IsParsed, columns_before, columns_named, columns_stand, end_at, froms_at, is_whole, no_pieces, query_at, rest_at, selected_at, skim_froms, whole_at};
 ghost use Rattle.sql_pieces.specs.Reading.{Gives, Reads, ReadsAs};
 ghost use Rattle.sql_query.specs.Trees.{asked_of, rest_of};
 
-use crate::cursor::{Cursor, both};
+use crate::cursor::{Cursor, both, kept};
 use crate::sources::Sources;
 use jr_path::{List, Name};
 use jr_value::{Kind, Value};
@@ -72,6 +72,51 @@ impl<'a> Cursor<'a> {
         }
     }
 
+    // columns FROM selector {join}, as the names of the selectors, whatever the names in ON mean
+    fn skim_froms(&mut self, alloc: Global) -> Result<List<Name>, SqlFault>
+        ensures { Reads result self.new (skim_froms self.old) }
+    {
+        self.skim_columns()?;
+        self.word("FROM")?;
+        let names = self.skim_sources(alloc)?;
+        let whole = self.whole();
+        kept(names, whole)
+    }
+
+    // The columns that come next name selectors of these.
+    fn columns_named(&self, alloc: Global, names: &[Name]) -> Result<(), SqlFault>
+        ensures { Gives result (columns_named names.now self.now) }
+    {
+        self.again().columns(alloc, names)?;
+        Ok(())
+    }
+
+    // The columns that come next name selectors that are there, once the selectors are whole.
+    fn columns_stand(&self, alloc: Global) -> Result<(), SqlFault>
+        ensures { Gives result (columns_stand self.now (skim_froms self.now)) }
+    {
+        match self.again().skim_froms(alloc) {
+            Ok(names) => self.columns_named(alloc, names.as_slice()),
+            Err(SqlFault::InvalidQuery(_)) => Ok(()),
+            Err(fault) => Err(fault),
+        }
+    }
+
+    // columns FROM selector {join}, as far as the selectors. A fault in the names of the columns, which begin at
+    // another cursor, stands before one behind them.
+    fn columns_before(&mut self, alloc: Global, columns: &Cursor<'a>) -> Result<Sources, SqlFault>
+        ensures { Reads result self.new (columns_before columns.now (froms_at self.old)) }
+    {
+        match self.froms(alloc) {
+            Ok(sources) => Ok(sources),
+            Err(SqlFault::InvalidQuery(at)) => {
+                columns.columns_stand(alloc)?;
+                Err(SqlFault::InvalidQuery(at))
+            }
+            Err(fault) => Err(fault),
+        }
+    }
+
     // SELECT columns FROM selector {join}. The names in the columns mean something only once the selectors are known,
     // so the columns are read twice.
     #[tactic(auto, unfolding(crate::specs::Grammar::selected_at))]
@@ -80,7 +125,7 @@ impl<'a> Cursor<'a> {
     {
         self.word("SELECT")?;
         let mut again = self.again();
-        let sources = self.froms(alloc)?;
+        let sources = self.columns_before(alloc, &again)?;
         let columns = again.columns(alloc, sources.names.as_slice())?;
         Ok((sources, columns))
     }

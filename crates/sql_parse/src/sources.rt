@@ -39,14 +39,14 @@ fn no_bare(bare: Option<usize>) -> Result<(), SqlFault>
 
 impl<'a> Cursor<'a> {
     // Whether a join comes next.
-    fn is_join(&self) -> bool
+    pub(crate) fn is_join(&self) -> bool
         ensures { result ≡ join_first self.now.pieces }
     {
         join_first(self.pieces)
     }
 
     // selector = name [AS name], as its type and its name
-    fn selector(&mut self) -> Result<(Name, Name), SqlFault>
+    pub(crate) fn selector(&mut self) -> Result<(Name, Name), SqlFault>
         ensures { Reads result self.new (selector_at self.old) }
     {
         let kind = self.name()?;
@@ -69,7 +69,7 @@ impl<'a> Cursor<'a> {
     }
 
     // [INNER | LEFT OUTER | RIGHT OUTER] JOIN
-    fn join_kind(&mut self) -> Result<JoinKind, SqlFault>
+    pub(crate) fn join_kind(&mut self) -> Result<JoinKind, SqlFault>
         ensures { Reads result self.new (join_kind_at self.old) }
     {
         if self.is_word("JOIN") {

@@ -15,7 +15,7 @@ pub returns-clause-stop : goal.returns-clause-stop
 returns-clause-stop g c = λ w k kept node first. stop_whole (g.L.Law.may_start c.args.law.now) (g.L.Law.may_say c.args.law.now) (g.L.Law.proper c.args.law.now) w k node first kept
 
 pub returns-clause-clear : goal.returns-clause-clear
-returns-clause-clear g c = λ w s d p kept login stays dead unended. clear_whole (g.L.Law.may_start c.args.law.now) (g.L.Law.may_say c.args.law.now) (g.L.Law.proper c.args.law.now) w s login stays d dead unended p kept
+returns-clause-clear g c = λ w s d p kept login stays dead. clear_whole (g.L.Law.may_start c.args.law.now) (g.L.Law.may_say c.args.law.now) (g.L.Law.proper c.args.law.now) w s login stays d dead p kept
 
 pub returns-clause-recover : goal.returns-clause-recover
 returns-clause-recover g c = λ w k kept node stopped clean. recover_whole (g.L.Law.may_start c.args.law.now) (g.L.Law.may_say c.args.law.now) (g.L.Law.proper c.args.law.now) w k node stopped clean kept
@@ -36,7 +36,7 @@ pub returns-clause-stop_holds : goal.returns-clause-stop_holds
 returns-clause-stop_holds g c = λ w k kept node first. stop_rises (g.L.Law.may_start c.args.law.now) (g.L.Law.may_say c.args.law.now) (g.L.Law.proper c.args.law.now) w k node first (layers_of (g.L.Law.may_start c.args.law.now) (g.L.Law.may_say c.args.law.now) w kept)
 
 pub returns-clause-clear_holds : goal.returns-clause-clear_holds
-returns-clause-clear_holds g c = λ w s d p kept login stays dead unended. clear_rises (g.L.Law.may_start c.args.law.now) (g.L.Law.may_say c.args.law.now) (g.L.Law.proper c.args.law.now) w s login stays d dead unended p (layers_of (g.L.Law.may_start c.args.law.now) (g.L.Law.may_say c.args.law.now) w kept)
+returns-clause-clear_holds g c = λ w s d p kept login stays dead. clear_rises (g.L.Law.may_start c.args.law.now) (g.L.Law.may_say c.args.law.now) (g.L.Law.proper c.args.law.now) w s login stays d dead p (layers_of (g.L.Law.may_start c.args.law.now) (g.L.Law.may_say c.args.law.now) w kept)
 
 pub returns-clause-recover_holds : goal.returns-clause-recover_holds
 returns-clause-recover_holds g c = λ w k kept node stopped clean. recover_rises (g.L.Law.may_start c.args.law.now) (g.L.Law.may_say c.args.law.now) (g.L.Law.proper c.args.law.now) w k node stopped clean (layers_of (g.L.Law.may_start c.args.law.now) (g.L.Law.may_say c.args.law.now) w kept)

@@ -3,9 +3,6 @@ use Rattle.jcr_eval.proofs.Iffs.{second_decides}
 use Rattle.jcr_eval.proofs.say.allowed_says.Goals as goal
 
 pub returns : goal.returns
-returns c = IfOk-weaker c.own_says.result _ _
-    (λ b is. second_decides c.in_ok-viewed_says.field-0 b c.in_ok-viewed_says.ensures
-    c.if-branch.false
-    (second_decides c.in_ok-commit_says.field-0 b c.in_ok-commit_says.ensures c.if-branch-2.false
-    is))
-    c.own_says.ensures
+returns c = IfOk-weaker c.unmoved_says.result _ _
+    (λ b is. second_decides c.in_ok-moved_says.field-0 b c.in_ok-moved_says.ensures c.if-branch.false is)
+    c.unmoved_says.ensures

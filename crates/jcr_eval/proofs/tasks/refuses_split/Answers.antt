@@ -3,5 +3,5 @@ use Rattle.jcr_eval.proofs.tasks.refuses_split.Goals as goal
 
 pub returns-in-Err : goal.returns-in-Err
 returns-in-Err c =
-    refused_due c.args.text.now _ _ c.is_refusal.result
+    refused_due c.args.text.now _ _ _ c.is_refusal.result
     (rw c.in-Err.is at c.check_split.ensures.err) c.is_refusal.ensures

@@ -1,5 +1,5 @@
 use Rattle.oak_machine.specs.History.{history_of}
-use Rattle.jcr_eval.proofs.TaskCauses.{any_recover_said, any_stop_said, attach_said, checkpoint_said, collect_said, detach_said, events_said, in_said, out_said, release_said, split_said, sweep_said, task_asked, task_read, task_said}
+use Rattle.jcr_eval.proofs.TaskCauses.{any_recover_said, any_stop_said, checkpoint_said, collect_said, events_said, in_said, missed_said, observe_said, out_said, release_said, split_said, sweep_said, task_asked, task_read, task_said}
 use Rattle.jcr_eval.proofs.tasks.task_says.Goals as goal
 
 pub returns-in-BackWrite : goal.returns-in-BackWrite
@@ -31,9 +31,9 @@ returns-in-Checkpoint c =
 pub returns-in-Attach : goal.returns-in-Attach
 returns-in-Attach c =
     task_read c.args.law.now (history_of c.args.journal.now) c.args.session _ _ c.args.text.now
-    c.attach_says.result _ c.in-Attach.is
-    (attach_said (history_of c.args.journal.now) c.args.session c.args.text.now _)
-    c.attach_says.ensures
+    c.refuses_checkpoint.result _ c.in-Attach.is
+    (missed_said (history_of c.args.journal.now) c.args.session c.args.text.now _)
+    c.refuses_checkpoint.ensures
 
 pub returns-in-Release : goal.returns-in-Release
 returns-in-Release c =
@@ -41,13 +41,6 @@ returns-in-Release c =
     c.release_says.result _ c.in-Release.is
     (release_said (history_of c.args.journal.now) c.args.session c.args.text.now _)
     c.release_says.ensures
-
-pub returns-in-Detach : goal.returns-in-Detach
-returns-in-Detach c =
-    task_read c.args.law.now (history_of c.args.journal.now) c.args.session _ _ c.args.text.now
-    c.detach_says.result _ c.in-Detach.is
-    (detach_said (history_of c.args.journal.now) c.args.session c.args.text.now)
-    c.detach_says.ensures
 
 pub returns-in-Split : goal.returns-in-Split
 returns-in-Split c =
@@ -76,6 +69,13 @@ returns-in-Recover c =
     c.any_recover_says.result _ c.in-Recover.is
     (any_recover_said (history_of c.args.journal.now) c.args.session c.args.text.now
     c.args.law.now _) c.any_recover_says.ensures
+
+pub returns-in-Observe : goal.returns-in-Observe
+returns-in-Observe c =
+    task_read c.args.law.now (history_of c.args.journal.now) c.args.session _ _ c.args.text.now
+    c.observe_says.result _ c.in-Observe.is
+    (observe_said (history_of c.args.journal.now) c.args.session c.args.text.now c.in-Observe.path)
+    c.observe_says.ensures
 
 pub returns-in-Events : goal.returns-in-Events
 returns-in-Events c =

@@ -4,7 +4,7 @@ use Rattle.jr_path.specs.declared.path.Path.{Path}
 use Rattle.jcr_lock.specs.Locks.{IsDue, IsDueRefusal}
 use Rattle.jcr_ref.specs.Histories.{history_of}
 use Rattle.jcr_version.specs.Edits.{label_own}
-use Rattle.jcr_version.proofs.Due.{first_refused, own_due, own_refused}
+use Rattle.jcr_version.proofs.Due.{own_due, own_refused}
 use Rattle.jcr_version.proofs.labels.label_edit.Goals as goal
 
 pub returns-in-Ok-clause-ok : goal.returns-in-Ok-clause-ok

@@ -3,7 +3,7 @@ use Rattle.jr_work.specs.Hands.{IsInHand}
 use Rattle.jr_work.proofs.Working.{IsWorking}
 use Rattle.jr_work.proofs.worker.run_sessions.Given as goal
 
--- the worker's sessions so far have answered, and the commands of the others are in hand
+-- the worker's sessions so far are over, and the commands of the others are in hand
 abbrev pub invariant-loop-s : goal.invariant-loop-s
 invariant-loop-s g l = record {
   own : IsOf l.crew.shared.now.lock l.pass;

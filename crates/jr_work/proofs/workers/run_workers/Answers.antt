@@ -20,5 +20,5 @@ run_all-requires-clause-sessions g c κs lives = ap (λ l. l.sessions) c.in_ok-s
 
 pub returns : goal.returns
 returns g c =
-    by_workers c.args.script c.requires.within (view_of c.run_all.new.main) (subst (λ s. HasAll s (view_of c.run_all.new.main)) c.of-shown.ensures c.in_ok-run_all.ensures.all) c.close-world.result c.close-world.ensures.frame c.close-world.ensures.parts c.journal.ensures.run
+    by_workers c.args.script c.requires.within (view_of c.run_all.new.main) (subst (λ s. HasAll s (view_of c.run_all.new.main)) c.of-shown.ensures c.in_ok-run_all.ensures.all) c.close-world.result c.close-world.ensures.frame c.close-world.ensures.parts c.journal.ensures.run c.journal.ensures.asked
     (record { seen = c.journal.ensures.apart; causes = c.journal.ensures.causes; complete = c.journal.ensures.through }) c.the_product_obeys_throughout.ensures c.the_product_answers_throughout.ensures

@@ -4,6 +4,7 @@ use Rattle.oak_port.specs.declared.task.StepOut.{StepOut}
 use Rattle.oak_port.specs.declared.task.Task.TheVariants as task
 use Rattle.oak_port.specs.Ports.{Steps}
 use Rattle.jcr_law.specs.Lasting.{says_of, starts_of}
+use Rattle.jcr_session.proofs.Asking.{commit_asked}
 use Rattle.jcr_session.proofs.Calling.{busy_by, forgo_behind, steps_law, turned_idle}
 use Rattle.jcr_session.proofs.Coming.{draw_comes, undrawn_is, went_is}
 use Rattle.jcr_session.proofs.Drawing.{draw_begins, draw_forgoes, draw_turns, draw_stops}
@@ -13,6 +14,9 @@ use Rattle.jcr_session.proofs.run.SessionRun.draw.Goals as goal
 
 pub start-requires-clause-may : goal.start-requires-clause-may
 start-requires-clause-may g c = draw_begins (g.P.Port.law c.args.port.now) (g.P.Port.shown c.args.port.now) c.args.self.now c.args.plan c.requires.draws
+
+pub start-requires-clause-asked : goal.start-requires-clause-asked
+start-requires-clause-asked g c = commit_asked (g.P.Port.law c.args.port.now) (g.P.Port.shown c.args.port.now) c.args.self.now c.args.plan c.requires.draws
 
 pub step-requires : goal.step-requires
 step-requires g c = record { busy = λ idle. busy_by (g.P.Port.shown c.start.new.self).work (task.Commit c.args.plan.edit c.args.plan.marks) c.in-Ok.ensures.ok.work_is idle }

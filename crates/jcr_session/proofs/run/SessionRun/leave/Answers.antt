@@ -4,6 +4,7 @@ use Rattle.oak_port.specs.declared.task.StepOut.{StepOut}
 use Rattle.oak_port.specs.declared.task.Task.TheVariants as task
 use Rattle.jcr_law.specs.Lasting.{says_of, starts_of}
 use Rattle.jcr_session.specs.Standing.{reads_for}
+use Rattle.jcr_session.proofs.Asking.{leave_asked}
 use Rattle.jcr_session.proofs.Calling.{busy_by, steps_law}
 use Rattle.jcr_session.proofs.Coming.{ended_is, leave_comes}
 use Rattle.jcr_session.proofs.Lawful.{idle_by, unread_by}
@@ -18,6 +19,9 @@ start-requires-clause-idle g c = idle_by (g.P.Port.law c.args.port.now) (g.P.Por
 
 pub start-requires-clause-may : goal.start-requires-clause-may
 start-requires-clause-may g c = leave_begins (g.P.Port.law c.args.port.now) (g.P.Port.shown c.args.port.now) c.args.self.now c.requires.stands c.requires.between
+
+pub start-requires-clause-asked : goal.start-requires-clause-asked
+start-requires-clause-asked g c = leave_asked (g.P.Port.law c.args.port.now) (g.P.Port.shown c.args.port.now) c.args.self.now c.requires.stands c.requires.next
 
 pub step-requires : goal.step-requires
 step-requires g c = record { busy = λ idle. busy_by (g.P.Port.shown c.start.new.self).work task.End c.in-Ok.ensures.ok.work_is idle }

@@ -3,6 +3,7 @@ use Rattle.oak_port.specs.Ports.{Steps}
 use Rattle.oak_port.specs.declared.task.StepOut.{StepOut}
 use Rattle.oak_port.specs.declared.task.Task.TheVariants as task
 use Rattle.jcr_law.specs.Lasting.{says_of, starts_of}
+use Rattle.jcr_session.proofs.Asking.{login_asked}
 use Rattle.jcr_session.proofs.Calling.{busy_by, steps_law}
 use Rattle.jcr_session.proofs.Coming.{login_comes, pinned_is}
 use Rattle.jcr_session.proofs.Living.{logged_in, outside_begins, outside_idle}
@@ -16,6 +17,9 @@ start-requires-clause-idle g c = outside_idle (g.P.Port.law c.args.port.now) (g.
 
 pub start-requires-clause-may : goal.start-requires-clause-may
 start-requires-clause-may g c = outside_begins (g.P.Port.law c.args.port.now) (g.P.Port.shown c.args.port.now) c.args.self.now c.requires.stands c.requires.outside
+
+pub start-requires-clause-asked : goal.start-requires-clause-asked
+start-requires-clause-asked g c = login_asked (g.P.Port.law c.args.port.now) (g.P.Port.shown c.args.port.now) c.args.self.now c.requires.stands c.requires.outside
 
 pub step-requires : goal.step-requires
 step-requires g c = record { busy = λ idle. busy_by (g.P.Port.shown c.start.new.self).work task.Login c.in-Ok.ensures.ok.work_is idle }

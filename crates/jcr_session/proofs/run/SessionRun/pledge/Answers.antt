@@ -5,7 +5,8 @@ use Rattle.jcr_session.specs.declared.run.Phase.TheVariants as phase
 use Rattle.jcr_session.proofs.Calling.{draws_law, forgo_behind, turned_idle}
 use Rattle.jcr_session.proofs.Drawing.{planned_draws, planned_forgoes}
 use Rattle.jcr_session.proofs.Lawful.{idle_by}
-use Rattle.jcr_session.proofs.Saying.{turned_like}
+use Rattle.jcr_session.proofs.Saying.{replied_like, turned_like}
+use Rattle.jcr_session.proofs.Stages.{pledged_stage}
 use Rattle.jcr_session.proofs.Waiting.{by_waits}
 use Rattle.jcr_session.proofs.Nearer.{pledged_steps, reply_steps}
 use Rattle.jcr_session.proofs.run.SessionRun.pledge.Goals as goal
@@ -27,7 +28,7 @@ returns-in-Ok-clause-turned g c =
     let mid = g.P.Port.shown c.reserve_say.new.self in
     let waits = c.in-Ok.ensures.ok in
     let planned = record c.args.self.now { phase = phase.Committing c.args.pledge } in
-    turned_like (g.P.Port.law c.args.port.now) (g.P.Port.shown c.args.port.now) (g.P.Port.shown c.draw.new.port) c.args.self.now planned c.draw.new.self c.draw.result refl refl refl
+    turned_like (g.P.Port.law c.args.port.now) (g.P.Port.shown c.args.port.now) (g.P.Port.shown c.draw.new.port) c.args.self.now planned c.draw.new.self c.draw.result refl refl refl (λ k is. pledged_stage (g.P.Port.shown c.args.port.now).work c.args.self.now c.args.pledge c.requires.between)
     (turned_idle (g.P.Port.law c.args.port.now) (g.P.Port.law c.reserve_say.new.self) c.in-Ok.ensures.law (g.P.Port.shown c.args.port.now) mid (by_waits (g.P.Port.law c.args.port.now) (g.P.Port.shown c.args.port.now) mid (g.P.Port.shown c.args.port.now).work (Some c.place_for-bytes.result) waits)
     (waits.work_is ∙ idle_by (g.P.Port.law c.args.port.now) (g.P.Port.shown c.args.port.now) c.args.self.now c.requires.stands c.requires.between c.requires.ready.done) planned Rattle.std.proofs.Common.false
     (planned_forgoes (g.P.Port.law c.args.port.now) (g.P.Port.shown c.args.port.now) c.args.self.now c.requires.stands c.requires.between c.requires.ready c.requires.next c.args.plan c.args.pledge c.requires.comes)
@@ -49,7 +50,7 @@ returns-in-Err-clause-turned g c =
     let mid = g.P.Port.shown c.reserve_say.new.self in
     let waits = c.in-Err.ensures.err in
     let planned = record c.args.self.now { phase = phase.Committing c.args.pledge } in
-    turned_like (g.P.Port.law c.args.port.now) (g.P.Port.shown c.args.port.now) (g.P.Port.shown c.say_memory.new.port) c.args.self.now planned c.say_memory.new.self c.say_memory.result refl refl refl
+    replied_like (g.P.Port.law c.args.port.now) (g.P.Port.shown c.args.port.now) (g.P.Port.shown c.say_memory.new.port) c.args.self.now planned c.say_memory.new.self c.say_memory.result refl refl refl c.say_memory.ensures.said
     (turned_idle (g.P.Port.law c.args.port.now) (g.P.Port.law c.reserve_say.new.self) c.in-Err.ensures.law (g.P.Port.shown c.args.port.now) mid (by_waits (g.P.Port.law c.args.port.now) (g.P.Port.shown c.args.port.now) mid (g.P.Port.shown c.args.port.now).work (g.P.Port.shown c.args.port.now).room waits)
     (waits.work_is ∙ idle_by (g.P.Port.law c.args.port.now) (g.P.Port.shown c.args.port.now) c.args.self.now c.requires.stands c.requires.between c.requires.ready.done) planned Rattle.std.proofs.Common.false
     (planned_forgoes (g.P.Port.law c.args.port.now) (g.P.Port.shown c.args.port.now) c.args.self.now c.requires.stands c.requires.between c.requires.ready c.requires.next c.args.plan c.args.pledge c.requires.comes)

@@ -1,3 +1,4 @@
+use Rattle.jcr_session.proofs.Asking.{asks_of, reading_asked}
 use Rattle.jcr_session.proofs.Calling.{stands_law}
 use Rattle.jcr_session.proofs.Loads.{begun_looked, unbegun_looked}
 use Rattle.jcr_session.proofs.Looking.{looked_both}
@@ -7,6 +8,9 @@ use Rattle.jcr_session.proofs.Waiting.{by_waits}
 use Rattle.oak_port.specs.Ports.{Starting}
 use Rattle.jcr_session.specs.Nearing.{EndsSooner}
 use Rattle.jcr_session.proofs.run.SessionRun.read_first.Goals as goal
+
+pub start-requires-clause-asked : goal.start-requires-clause-asked
+start-requires-clause-asked g c = reading_asked (asks_of (g.P.Port.law c.args.port.now)) (g.P.Port.shown c.args.port.now).history (g.P.Port.shown c.args.port.now).session c.in_ok-task.task c.args.need c.in_ok-task.ensures
 
 pub returns-in_err-start-clause-looked : goal.returns-in_err-start-clause-looked
 returns-in_err-start-clause-looked g c = (unbegun_looked (g.P.Port.law c.args.port.now) (g.P.Port.shown c.args.port.now) c.args.self.now c.requires.stands c.requires.reads (g.P.Port.shown c.start.new.self) c.requires.none c.in_err-start.ensures.err).0

@@ -8,7 +8,7 @@ use Rattle.jcr_session.specs.declared.run.SessionRun.{SessionRun}
 use Rattle.jcr_session.specs.Asked.{IsUnviewedNext, MayAnswer, Settles}
 use Rattle.jcr_session.proofs.Calling.{may_behind, turned_behind_place}
 use Rattle.jcr_session.proofs.Ending.{made_answers, made_base, made_holds, made_next, made_pin, told_as}
-use Rattle.jcr_session.proofs.Saying.{turned_like}
+use Rattle.jcr_session.proofs.Saying.{replied_like}
 use Rattle.jcr_session.proofs.run.SessionRun.say_committed.Goals as goal
 
 pub unreachable-requires : goal.unreachable-requires
@@ -44,13 +44,13 @@ say_revision-requires-clause-room g c =
 pub returns-in-Some-text-clause-turned : goal.returns-in-Some-text-clause-turned
 returns-in-Some-text-clause-turned g c =
     let same = c.accept.ensures.same in
-    turned_like (g.P.Port.law c.args.port.now) (g.P.Port.shown c.args.port.now) (g.P.Port.shown c.say_kept.new.port) c.args.self.now c.accept.new.self c.say_kept.new.self c.say_kept.result (ap (λ r. r.session) same ∙ ap (λ r. r.session) c.move_behind.ensures.same) (ap (λ r. r.commands) same ∙ ap (λ r. r.commands) c.move_behind.ensures.same) (ap (λ r. r.index) same ∙ ap (λ r. r.index) c.move_behind.ensures.same)
+    replied_like (g.P.Port.law c.args.port.now) (g.P.Port.shown c.args.port.now) (g.P.Port.shown c.say_kept.new.port) c.args.self.now c.accept.new.self c.say_kept.new.self c.say_kept.result (ap (λ r. r.session) same ∙ ap (λ r. r.session) c.move_behind.ensures.same) (ap (λ r. r.commands) same ∙ ap (λ r. r.commands) c.move_behind.ensures.same) (ap (λ r. r.index) same ∙ ap (λ r. r.index) c.move_behind.ensures.same) c.say_kept.ensures.said
     (turned_behind_place (g.P.Port.law c.args.port.now) (g.P.Port.law c.pin.new.self) c.in-Some.ensures.law (g.P.Port.shown c.args.port.now) (g.P.Port.shown c.pin.new.self) c.accept.new.self (told_as c.args.r c.args.pledge.accepted.text) (made_answers (g.P.Port.law c.args.port.now) (g.P.Port.shown c.args.port.now) c.args.self.now c.args.r c.args.pledge c.requires.stands c.move_behind.new.self.held (made_holds (g.P.Port.law c.args.port.now) (g.P.Port.shown c.args.port.now) c.args.self.now c.args.r c.args.pledge c.requires.stands c.in-Some.pin (made_pin (g.P.Port.law c.args.port.now) (g.P.Port.shown c.args.port.now) c.args.self.now c.args.r c.args.pledge c.requires.stands c.pin.result c.in-Some.pin c.in-Some.is c.pin.ensures.base) c.move_behind.new.self.held (λ k t. c.move_behind.ensures.holds k t)) c.accept.new.self (subst (λ (x : SessionRun). Settles x c.accept.new.self true true (Some c.args.pledge.accepted.tokens)) c.move_behind.ensures.same c.accept.ensures)) (g.P.Port.shown c.args.port.now).room c.in-Some.ensures.same
     (g.P.Port.shown c.say_kept.new.port) c.say_kept.new.self c.say_kept.result c.say_kept.ensures.turned)
 
 pub returns-clause-turned : goal.returns-clause-turned
 returns-clause-turned g c =
     let same = c.accept.ensures.same in
-    turned_like (g.P.Port.law c.args.port.now) (g.P.Port.shown c.args.port.now) (g.P.Port.shown c.say_revision.new.port) c.args.self.now c.accept.new.self c.say_revision.new.self c.say_revision.result (ap (λ r. r.session) same ∙ ap (λ r. r.session) c.move_behind.ensures.same) (ap (λ r. r.commands) same ∙ ap (λ r. r.commands) c.move_behind.ensures.same) (ap (λ r. r.index) same ∙ ap (λ r. r.index) c.move_behind.ensures.same)
+    replied_like (g.P.Port.law c.args.port.now) (g.P.Port.shown c.args.port.now) (g.P.Port.shown c.say_revision.new.port) c.args.self.now c.accept.new.self c.say_revision.new.self c.say_revision.result (ap (λ r. r.session) same ∙ ap (λ r. r.session) c.move_behind.ensures.same) (ap (λ r. r.commands) same ∙ ap (λ r. r.commands) c.move_behind.ensures.same) (ap (λ r. r.index) same ∙ ap (λ r. r.index) c.move_behind.ensures.same) c.say_revision.ensures.said
     (turned_behind_place (g.P.Port.law c.args.port.now) (g.P.Port.law c.pin.new.self) c.in-Some.ensures.law (g.P.Port.shown c.args.port.now) (g.P.Port.shown c.pin.new.self) c.accept.new.self (told_as c.args.r c.args.pledge.accepted.text) (made_answers (g.P.Port.law c.args.port.now) (g.P.Port.shown c.args.port.now) c.args.self.now c.args.r c.args.pledge c.requires.stands c.move_behind.new.self.held (made_holds (g.P.Port.law c.args.port.now) (g.P.Port.shown c.args.port.now) c.args.self.now c.args.r c.args.pledge c.requires.stands c.in-Some.pin (made_pin (g.P.Port.law c.args.port.now) (g.P.Port.shown c.args.port.now) c.args.self.now c.args.r c.args.pledge c.requires.stands c.pin.result c.in-Some.pin c.in-Some.is c.pin.ensures.base) c.move_behind.new.self.held (λ k t. c.move_behind.ensures.holds k t)) c.accept.new.self (subst (λ (x : SessionRun). Settles x c.accept.new.self true true (Some c.args.pledge.accepted.tokens)) c.move_behind.ensures.same c.accept.ensures)) (g.P.Port.shown c.args.port.now).room c.in-Some.ensures.same
     (g.P.Port.shown c.say_revision.new.port) c.say_revision.new.self c.say_revision.result c.say_revision.ensures.turned)

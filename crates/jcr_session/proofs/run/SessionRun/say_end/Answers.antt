@@ -1,7 +1,7 @@
 use Rattle.std.proofs.Common.{subst, sym, refl}
 use Rattle.jcr_session.specs.declared.run.Phase.{Phase}
 use Rattle.jcr_session.specs.Standing.{Stands}
-use Rattle.jcr_session.proofs.Saying.{turned_like}
+use Rattle.jcr_session.proofs.Saying.{replied_like}
 use Rattle.jcr_session.proofs.run.SessionRun.say_end.Goals as goal
 
 pub say_ended-requires : goal.say_ended-requires
@@ -10,4 +10,4 @@ say_ended-requires g c =
 
 pub returns-clause-turned : goal.returns-clause-turned
 returns-clause-turned g c =
-    turned_like (g.P.Port.law c.args.port.now) (g.P.Port.shown c.args.port.now) (g.P.Port.shown c.say_ended.new.port) c.args.self.now (record c.args.self.now { phase = c.replace.new.dest }) c.say_ended.new.self c.say_ended.result refl refl refl c.say_ended.ensures.turned
+    replied_like (g.P.Port.law c.args.port.now) (g.P.Port.shown c.args.port.now) (g.P.Port.shown c.say_ended.new.port) c.args.self.now (record c.args.self.now { phase = c.replace.new.dest }) c.say_ended.new.self c.say_ended.result refl refl refl c.say_ended.ensures.said c.say_ended.ensures.turned

@@ -2,7 +2,7 @@ use Rattle.std.proofs.Common.{ℕ, sym, subst, false, ◌∙◌}
 use Rattle.jcr_session.proofs.Calling.{forgo_law, stands_law, turned_law}
 use Rattle.jcr_session.proofs.Lawful.{idle_by}
 use Rattle.jcr_session.proofs.Looking.{looked_reads, refused_forgoes, turned_behind}
-use Rattle.jcr_session.proofs.Nexts.{reads_between, reads_unsaving}
+use Rattle.jcr_session.proofs.Nexts.{reads_between, reads_unmoved, reads_unsaving}
 use Rattle.jcr_session.proofs.Nearer.{counted_reads, counted_turns, left_looked, reply_steps, steps_sooner, turn_nearer}
 use Rattle.jcr_session.specs.Nearing.{CommitsSooner, EndsSooner, StepsOn, turns_left}
 use Rattle.jcr_session.proofs.run.SessionRun.turn.Goals as goal
@@ -86,6 +86,9 @@ returns-in-Ok-false-clause-reads g c =
 pub returns-in-Ok-false-clause-granted : goal.returns-in-Ok-false-clause-granted
 returns-in-Ok-false-clause-granted g c = λ saving. reads_unsaving c.args.self.now (sym c.may_read.ensures ∙ c.if-not-may_read.false) saving
 
+pub returns-in-Ok-false-clause-moved : goal.returns-in-Ok-false-clause-moved
+returns-in-Ok-false-clause-moved g c = λ moved. reads_unmoved c.args.self.now (sym c.may_read.ensures ∙ c.if-not-may_read.false) moved
+
 pub returns-in-Ok-false-clause-draws : goal.returns-in-Ok-false-clause-draws
 returns-in-Ok-false-clause-draws g c = λ saving. reads_unsaving c.args.self.now (sym c.may_read.ensures ∙ c.if-not-may_read.false) saving
 
@@ -136,6 +139,9 @@ returns-in-Err-clause-reads g c =
 -- a session that reads isn't in its commit
 pub returns-in-Err-clause-granted : goal.returns-in-Err-clause-granted
 returns-in-Err-clause-granted g c = λ saving. reads_unsaving c.args.self.now (sym c.may_read.ensures ∙ c.if-not-may_read.false) saving
+
+pub returns-in-Err-clause-moved : goal.returns-in-Err-clause-moved
+returns-in-Err-clause-moved g c = λ moved. reads_unmoved c.args.self.now (sym c.may_read.ensures ∙ c.if-not-may_read.false) moved
 
 pub returns-in-Err-clause-draws : goal.returns-in-Err-clause-draws
 returns-in-Err-clause-draws g c = λ saving. reads_unsaving c.args.self.now (sym c.may_read.ensures ∙ c.if-not-may_read.false) saving

@@ -2,7 +2,7 @@ use Rattle.std.proofs.Common.{sym, subst, ◌∙◌}
 use Rattle.atomic_table.specs.Seated.{TableId}
 use Rattle.seat_lock.specs.Passes.{view_of}
 use Rattle.std.proofs.lemmas.Result.{on_err_weaker, on_ok_weaker}
-use Rattle.oak_port.specs.Ports.{MayBegin}
+use Rattle.oak_port.specs.Ports.{IsAskedOf, MayBegin}
 use Rattle.oak_world.proofs.Keeping.{idle_shown}
 use Rattle.jr_shared.specs.Holds.{actor_by}
 use Rattle.jr_shared.specs.Seen.{history_by}
@@ -15,6 +15,9 @@ start-requires-clause-idle g c = idle_shown (actor_by (view_of c.args.self.now.p
 
 pub start-requires-clause-may : goal.start-requires-clause-may
 start-requires-clause-may g c l has = subst (λ k. MayBegin (g.L.Law.may_start k) (history_by (view_of c.args.self.now.pass.now)) c.args.self.now.actor c.args.task) (law_has (view_of c.args.self.now.pass.now) c.args.self.now.framed l has) c.requires.may
+
+pub start-requires-clause-asked : goal.start-requires-clause-asked
+start-requires-clause-asked g c l has = subst (λ k. IsAskedOf (g.L.Law.asks k) (history_by (view_of c.args.self.now.pass.now)) c.args.self.now.actor c.args.task) (law_has (view_of c.args.self.now.pass.now) c.args.self.now.framed l has) c.requires.asked
 
 pub invariant_of-self : goal.invariant_of-self
 invariant_of-self g c = record {

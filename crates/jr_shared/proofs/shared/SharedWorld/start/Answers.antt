@@ -1,7 +1,7 @@
 use Rattle.std.proofs.Common.{sym, ◌∙◌}
 use Rattle.seat_lock.specs.Passes.{view_of}
 use Rattle.jr_shared.proofs.Acts.{start_acts}
-use Rattle.jr_shared.proofs.Got.{has_law, may_begin, there, work_got}
+use Rattle.jr_shared.proofs.Got.{asked_got, has_law, may_begin, there, work_got}
 use Rattle.jr_shared.proofs.Holding.{has_author, is_got, locked, on_frame, on_longer, on_others, on_steady, one_hold}
 use Rattle.jr_shared.proofs.shared.SharedWorld.start.Goals as goal
 
@@ -20,6 +20,13 @@ start-result-requires-clause-may g c =
     (is_got g.L.Law (view_of c.args.pass.now) c.acquire-hold.result.value.world c.is_whole.ensures c.acquire-hold.ensures.frame c.acquire-hold.ensures.longer c.acquire-hold.ensures.parts c.acquire-hold.ensures.steady) c.args.actor c.requires.seat c.requires.told c.args.task
     (c.requires.may world.law (has_law g.L.Law (view_of c.args.pass.now) world
     (is_got g.L.Law (view_of c.args.pass.now) c.acquire-hold.result.value.world c.is_whole.ensures c.acquire-hold.ensures.frame c.acquire-hold.ensures.longer c.acquire-hold.ensures.parts c.acquire-hold.ensures.steady)))
+
+pub start-result-requires-clause-asked : goal.start-result-requires-clause-asked
+start-result-requires-clause-asked g c =
+    let world = c.acquire-hold.result.value.world in
+    let got = is_got g.L.Law (view_of c.args.pass.now) world c.is_whole.ensures c.acquire-hold.ensures.frame c.acquire-hold.ensures.longer c.acquire-hold.ensures.parts c.acquire-hold.ensures.steady in
+    asked_got g.L.Law (view_of c.args.pass.now) world got c.args.actor c.requires.seat c.requires.told (g.L.Law.asks world.law) c.args.task
+    (c.requires.asked world.law (has_law g.L.Law (view_of c.args.pass.now) world got))
 
 pub release-requires-clause-goes_on : goal.release-requires-clause-goes_on
 release-requires-clause-goes_on g c =

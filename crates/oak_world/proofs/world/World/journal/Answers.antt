@@ -1,7 +1,7 @@
 use Rattle.core_world.proofs.Truths.{has_cause, no_clash_unseen}
 use Rattle.oak_world.specs.Worlds.{state_of}
 use Rattle.oak_world.proofs.Clashing.{comes_or_wants}
-use Rattle.oak_world.proofs.Seats.{world_is}
+use Rattle.oak_world.proofs.Seats.{asked_by, world_is}
 use Rattle.oak_world.proofs.world.World.journal.Goals as goal
 
 pub returns-clause-run : goal.returns-clause-run
@@ -21,3 +21,6 @@ returns-clause-causes g c = λ r item o refused.
 pub returns-clause-through : goal.returns-clause-through
 returns-clause-through g c = λ r ended none.
     comes_or_wants (g.L.Law.may_start c.args.self.now.law) (g.L.Law.may_say c.args.self.now.law) (g.L.Law.proper c.args.self.now.law) (state_of c.args.self.now) (world_is g.L.Law.may_start g.L.Law.may_say _ c.args.self.now c.self.view_is c.self.invariant.0.0).kept (world_is g.L.Law.may_start g.L.Law.may_say _ c.args.self.now c.self.view_is c.self.invariant.0.0).unstopped r ended none
+
+pub returns-clause-asked : goal.returns-clause-asked
+returns-clause-asked g c = asked_by g.L.Law.asks _ c.args.self.now c.self.view_is c.self.invariant.2

@@ -1,6 +1,6 @@
 use Rattle.std.proofs.Common.{length, map, refl, take_all, ap, ◌∙◌, rules}
 use Rattle.oak_world.specs.Worlds.{start_world}
-use Rattle.oak_world.proofs.Starting.{idle_actor, start_call, start_is, start_stored, table_is}
+use Rattle.oak_world.proofs.Starting.{idle_actor, start_asks, start_call, start_is, start_stored, table_is}
 use Rattle.oak_world.proofs.world.World.new.Goals as goal
 
 pub of-requires : goal.of-requires
@@ -13,6 +13,8 @@ invariant_of-result g c =
       start_call c.of-2.result.value c.args.clusters c.args.sessions.now c.loop-node.numbers c.new-events.result c.in_ok-table.table c.in_ok-memories.memories.items c.loop-node.actors.items (c.loop-node.invariant.numbers ∙ all) c.new-events.ensures table c.in_ok-memories.ensures
           (c.loop-node.invariant.actors ∙ ap (map (λ k. idle_actor)) all) (g.L.Law.may_start c.of-2.result.value) (g.L.Law.may_say c.of-2.result.value) c.requires.sessions c.requires.nodes,
       refl,
+      start_asks c.of-2.result.value c.args.clusters c.args.sessions.now c.loop-node.numbers c.new-events.result c.in_ok-table.table c.in_ok-memories.memories.items c.loop-node.actors.items (c.loop-node.invariant.numbers ∙ all) c.new-events.ensures table c.in_ok-memories.ensures
+          (c.loop-node.invariant.actors ∙ ap (map (λ k. idle_actor)) all) (g.L.Law.asks c.of-2.result.value),
     )
 
 pub returns : goal.returns

@@ -18,11 +18,10 @@ pub reserve-requires-clause-places : goal.reserve-requires-clause-places
 reserve-requires-clause-places g c = seat_places (g.L.Law.may_start c.self.inside.law.value) (g.L.Law.may_say c.self.inside.law.value) (g.L.Law.proper c.self.inside.law.value) (g.L.Law.starts_last c.self.inside.law.value) c.self.inside.law.value c.self.inside.journal c.self.inside.table c.self.inside.memories.items c.self.inside.actors.items c.self.invariant.0.0 c.self.invariant.0.1 c.args.actor (node_in (shown_world c.self.inside.law.value c.self.inside.journal c.self.inside.table c.self.inside.memories.items c.self.inside.actors.items).history c.args.actor) (session_on (g.L.Law.may_start c.self.inside.law.value) (g.L.Law.may_say c.self.inside.law.value) (g.L.Law.proper c.self.inside.law.value) c.self.inside.law.value c.self.inside.journal c.self.inside.table c.self.inside.memories.items c.self.inside.actors.items c.self.invariant.0.0 c.args.actor (there_by _ c.args.self.now c.args.actor c.self.view_is c.requires)) c.index_mut-seat.result.now c.index_mut-seat.ensures.value
 
 pub invariant_of-self : goal.invariant_of-self
-invariant_of-self g c = (
-  reserve_stands (g.L.Law.may_start c.self.inside.law.value) (g.L.Law.may_say c.self.inside.law.value) (g.L.Law.proper c.self.inside.law.value) (g.L.Law.starts_last c.self.inside.law.value) c.self.inside.law.value c.self.inside.journal c.self.inside.table c.self.inside.memories.items c.self.inside.actors.items c.self.invariant.0.0 c.self.invariant.0.1 c.args.actor (node_in (shown_world c.self.inside.law.value c.self.inside.journal c.self.inside.table c.self.inside.memories.items c.self.inside.actors.items).history c.args.actor) (session_on (g.L.Law.may_start c.self.inside.law.value) (g.L.Law.may_say c.self.inside.law.value) (g.L.Law.proper c.self.inside.law.value) c.self.inside.law.value c.self.inside.journal c.self.inside.table c.self.inside.memories.items c.self.inside.actors.items c.self.invariant.0.0 c.args.actor (there_by _ c.args.self.now c.args.actor c.self.view_is c.requires)) c.index_mut-seat.result.now c.index_mut-seat.ensures.value c.reserve.new.self c.reserve.new.events c.reserve.ensures.placed c.reserve.ensures.places c.reserve.ensures.list c.reserve.result c.args.bytes
-      (subst (λ (n : ℕ). OnOk c.reserve.result (shown_actor c.reserve.new.self ≡ record (shown_actor c.index_mut-seat.result.now) { reply = Some n })) c.in_ok-room.ensures c.reserve.ensures.ok) c.reserve.ensures.err,
-  c.self.invariant.1,
-)
+invariant_of-self g c =
+    let stands = reserve_stands (g.L.Law.may_start c.self.inside.law.value) (g.L.Law.may_say c.self.inside.law.value) (g.L.Law.proper c.self.inside.law.value) (g.L.Law.starts_last c.self.inside.law.value) c.self.inside.law.value c.self.inside.journal c.self.inside.table c.self.inside.memories.items c.self.inside.actors.items c.self.invariant.0.0 c.self.invariant.0.1 c.args.actor (node_in (shown_world c.self.inside.law.value c.self.inside.journal c.self.inside.table c.self.inside.memories.items c.self.inside.actors.items).history c.args.actor) (session_on (g.L.Law.may_start c.self.inside.law.value) (g.L.Law.may_say c.self.inside.law.value) (g.L.Law.proper c.self.inside.law.value) c.self.inside.law.value c.self.inside.journal c.self.inside.table c.self.inside.memories.items c.self.inside.actors.items c.self.invariant.0.0 c.args.actor (there_by _ c.args.self.now c.args.actor c.self.view_is c.requires)) c.index_mut-seat.result.now c.index_mut-seat.ensures.value c.reserve.new.self c.reserve.new.events c.reserve.ensures.placed c.reserve.ensures.places c.reserve.ensures.list (g.L.Law.asks c.self.inside.law.value) c.self.invariant.2 c.reserve.result c.args.bytes
+    (subst (λ (n : ℕ). OnOk c.reserve.result (shown_actor c.reserve.new.self ≡ record (shown_actor c.index_mut-seat.result.now) { reply = Some n })) c.in_ok-room.ensures c.reserve.ensures.ok) c.reserve.ensures.err in
+    (stands.0, c.self.invariant.1, stands.1)
 
 pub returns-clause-ok : goal.returns-clause-ok
 returns-clause-ok g c =

@@ -20,7 +20,8 @@ say-requires-clause-places g c = seat_places (g.L.Law.may_start c.self.inside.la
 
 pub invariant_of-self : goal.invariant_of-self
 invariant_of-self g c =
-    (say_stands (g.L.Law.may_start c.self.inside.law.value) (g.L.Law.may_say c.self.inside.law.value) (g.L.Law.proper c.self.inside.law.value) (g.L.Law.starts_last c.self.inside.law.value) c.self.inside.law.value c.self.inside.journal c.self.inside.table c.self.inside.memories.items c.self.inside.actors.items c.self.invariant.0.0 c.self.invariant.0.1 c.args.actor (node_in (shown_world c.self.inside.law.value c.self.inside.journal c.self.inside.table c.self.inside.memories.items c.self.inside.actors.items).history c.args.actor) (session_on (g.L.Law.may_start c.self.inside.law.value) (g.L.Law.may_say c.self.inside.law.value) (g.L.Law.proper c.self.inside.law.value) c.self.inside.law.value c.self.inside.journal c.self.inside.table c.self.inside.memories.items c.self.inside.actors.items c.self.invariant.0.0 c.args.actor (there_by _ c.args.self.now c.args.actor c.self.view_is c.requires.idle.there)) c.index_mut-seat.result.now c.index_mut-seat.ensures.value c.say.new.self c.say.new.events c.say.ensures.placed c.say.ensures.places c.args.index c.args.text.now c.say.ensures.actor c.say.ensures.list (rw (← c.self.view_is) at c.requires.idle.idle) (rw (← c.self.view_is) at c.requires.may.next) (rw (← c.self.view_is) at c.requires.may.lawful), c.self.invariant.1)
+    let stands = say_stands (g.L.Law.may_start c.self.inside.law.value) (g.L.Law.may_say c.self.inside.law.value) (g.L.Law.proper c.self.inside.law.value) (g.L.Law.starts_last c.self.inside.law.value) c.self.inside.law.value c.self.inside.journal c.self.inside.table c.self.inside.memories.items c.self.inside.actors.items c.self.invariant.0.0 c.self.invariant.0.1 c.args.actor (node_in (shown_world c.self.inside.law.value c.self.inside.journal c.self.inside.table c.self.inside.memories.items c.self.inside.actors.items).history c.args.actor) (session_on (g.L.Law.may_start c.self.inside.law.value) (g.L.Law.may_say c.self.inside.law.value) (g.L.Law.proper c.self.inside.law.value) c.self.inside.law.value c.self.inside.journal c.self.inside.table c.self.inside.memories.items c.self.inside.actors.items c.self.invariant.0.0 c.args.actor (there_by _ c.args.self.now c.args.actor c.self.view_is c.requires.idle.there)) c.index_mut-seat.result.now c.index_mut-seat.ensures.value c.say.new.self c.say.new.events c.say.ensures.placed c.say.ensures.places c.args.index c.args.text.now c.say.ensures.actor c.say.ensures.list (g.L.Law.asks c.self.inside.law.value) c.self.invariant.2 (rw (← c.self.view_is) at c.requires.idle.idle) (rw (← c.self.view_is) at c.requires.may.next) (rw (← c.self.view_is) at c.requires.may.lawful) in
+    (stands.0, c.self.invariant.1, stands.1)
 
 pub returns : goal.returns
 returns g c = rw (← c.self.view_is) (saying_is (g.L.Law.may_start c.self.inside.law.value) (g.L.Law.may_say c.self.inside.law.value) (g.L.Law.proper c.self.inside.law.value) (g.L.Law.starts_last c.self.inside.law.value) c.self.inside.law.value c.self.inside.journal c.self.inside.table c.self.inside.memories.items c.self.inside.actors.items c.self.invariant.0.0 c.self.invariant.0.1 c.args.actor (node_in (shown_world c.self.inside.law.value c.self.inside.journal c.self.inside.table c.self.inside.memories.items c.self.inside.actors.items).history c.args.actor) (session_on (g.L.Law.may_start c.self.inside.law.value) (g.L.Law.may_say c.self.inside.law.value) (g.L.Law.proper c.self.inside.law.value) c.self.inside.law.value c.self.inside.journal c.self.inside.table c.self.inside.memories.items c.self.inside.actors.items c.self.invariant.0.0 c.args.actor (there_by _ c.args.self.now c.args.actor c.self.view_is c.requires.idle.there)) c.index_mut-seat.result.now c.index_mut-seat.ensures.value c.say.new.self c.say.new.events c.say.ensures.placed c.say.ensures.places c.args.index c.args.text.now c.say.ensures.actor c.say.ensures.list)

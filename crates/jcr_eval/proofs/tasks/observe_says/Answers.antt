@@ -1,0 +1,7 @@
+use Rattle.jcr_eval.proofs.Refusing.{refused_due}
+use Rattle.jcr_eval.proofs.tasks.observe_says.Goals as goal
+
+pub returns-in-Err : goal.returns-in-Err
+returns-in-Err c =
+    refused_due c.args.text.now _ _ _ c.is_refusal.result
+    (rw c.in-Err.is at c.check_limits.ensures.err) c.is_refusal.ensures

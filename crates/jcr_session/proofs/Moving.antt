@@ -1,0 +1,53 @@
+-- Between the turns of a session its base has moved for a refresh, or behind its commit.
+use Rattle.std.proofs.Common.{◌≡◌, inl, inr, ℕ, true, false, Some, refl, sym, ap, ◌∙◌}
+use mathlib.Core.Bool.{false≢true}
+use Rattle.oak_machine.specs.History.{Past}
+use Rattle.oak_machine.specs.Sessions.{has_left, has_login}
+use Rattle.oak_port.specs.Ports.{Awaiting, Deciding, Idle, Learning, Publishing, Shown, Starting, Undoing, Work, Writing}
+use Rattle.oak_commit.specs.declared.outcome.CommitEnd.{CommitEnd}
+use Rattle.oak_commit.specs.declared.outcome.CommitEnd.TheVariants as commit
+use Rattle.jcr_trans.specs.declared.command.Command.{Command}
+use Rattle.jcr_law.specs.declared.law.JcrLaw.{JcrLaw}
+use Rattle.jcr_law.specs.Since.{is_unmoved}
+use Rattle.jcr_law.specs.State.{Call}
+use Rattle.jcr_session.specs.declared.next.Due.TheVariants as due
+use Rattle.jcr_session.specs.declared.run.Phase.{Phase}
+use Rattle.jcr_session.specs.declared.run.Phase.TheVariants as phase
+use Rattle.jcr_session.specs.declared.run.SessionRun.{SessionRun}
+use Rattle.jcr_session.specs.Standing.{HasCommitted, IsCommitting, MovesBase, Stands, StandsAt}
+use Rattle.jcr_session.proofs.Nexts.{allowed_due, next_due, only_refresh}
+use Rattle.jcr_session.proofs.Stages.{next_is}
+
+-- a commit under way
+still_there : (past : Past) (s : ℕ) (work : Work) → IsCommitting past s work → is_unmoved past s ≡ true
+still_there past s (Writing r) h = h.0.unmoved
+still_there past s (Undoing r e) h = h.0.unmoved
+still_there past s (Deciding r) h = h.0.unmoved
+still_there past s (Awaiting r) h = h.0.unmoved
+still_there past s Idle h = absurd h
+still_there past s (Starting t) h = absurd h
+still_there past s (Publishing r) h = absurd h
+still_there past s (Learning u) h = absurd h
+
+module _ (law : JcrLaw) (p : Shown) (run : SessionRun) (stands : Stands law p run) (login : has_login p.history.past p.session ≡ true) (stays : has_left p.history.past p.session ≡ false) (moved : is_unmoved p.history.past p.session ≡ false) where
+  never : {A : Type 0} → is_unmoved p.history.past p.session ≡ true → A
+  never unmoved = absurd (false≢true (sym moved ∙ unmoved))
+
+  by_commit : (c : Call) (e : CommitEnd) → HasCommitted law p c e → MovesBase law p.history p.session
+  by_commit c (commit.Committed r) h = inr (r, h.drawn, h.committed)
+  by_commit c (commit.Clash item o) h = never h.2.unmade.unmoved
+  by_commit c commit.Memory h = never h.2.unmoved
+
+  by_phase : (f : Phase) → StandsAt law p run f → MovesBase law p.history p.session
+  by_phase phase.Outside h = absurd (false≢true (sym h.out ∙ login))
+  by_phase phase.Between h = never h.1.unmoved
+  by_phase (phase.Refreshed v) h =
+      let m = next_due run due.Refresh h.1.refreshes refl in
+      let k = only_refresh m.0 (allowed_due m.0 due.Refresh m.2 refl).1 in
+      inl (k.0, next_is law p run stands ∙ (m.1 ∙ ap (λ (x : Command). Some x) k.1))
+  by_phase (phase.Committing a) h = never (still_there p.history.past p.session p.work h.1.commits)
+  by_phase (phase.Committed e a) h = by_commit h.1.call e h.1.ended
+  by_phase phase.Over h = absurd (false≢true (sym stays ∙ h.left))
+
+  pub base_moves : MovesBase law p.history p.session
+  base_moves = by_phase run.phase stands.at
