@@ -1,6 +1,6 @@
 -- What is in doubt in a document, once each commit root was asked, is what is dead there.
-use Rattle.std.proofs.Common.{◌≡◌, ◌≢◌, ℕ, Bool, true, false, cond, not, ◌&&◌, ◌||◌, ◌⊎◌, inl, inr, List, [], ◌∷◌, ◌++◌, fold, map, Option, None, Some, is_some, refl, sym, ap, subst, ◌∙◌, append_assoc}
-use Rattle.std.specs.BTreeMap.{insert_entry, is_at}
+use Rattle.std.proofs.Common.{◌≡◌, ℕ, Bool, true, false, cond, not, ◌&&◌, ◌||◌, ◌⊎◌, inl, inr, List, [], ◌∷◌, ◌++◌, fold, map, Option, None, Some, is_some, refl, sym, ap, subst, ◌∙◌, append_assoc}
+use Rattle.std.specs.BTreeMap.{insert_entry}
 use Rattle.std.specs.List.{AllByRecursion, filter, list_any}
 use Rattle.std.proofs.lemmas.List.Kept.{IsStrictlySortedBy-filter}
 use Rattle.jr_rev.proofs.Order.{revision_total}
@@ -11,7 +11,6 @@ use Rattle.std.specs.Ordering.{eq_by_cmp, match_ordering, ordering_reverse}
 use Rattle.std.specs.declared.cmp.Ordering.{Ordering}
 use Rattle.std.specs.declared.cmp.Ordering.TheVariants.{Less, Equal, Greater}
 use Rattle.std.specs.Cmp.{IsTotalOrder}
-use Rattle.std.proofs.lemmas.Cmp.{tied_itself}
 use mathlib.Core.Bool.{false≢true}
 use Rattle.jr_path.specs.Ids.{id_cmp}
 use Rattle.jr_path.specs.declared.path.DocId.{DocId}
@@ -25,7 +24,7 @@ use Rattle.oak_doc.specs.Updates.{of_revision}
 use Rattle.oak_read.specs.Meaning.{Documents, commit_root_of, is_committed}
 use Rattle.oak_read.specs.Wanted.{Ids}
 use Rattle.oak_recover.specs.Dead.{Revisions, dead_in, entries_in, is_after, revisions_after, with_after, with_each}
-use Rattle.oak_recover.specs.Reading.{Doubts, answered, doubts_in, is_confirmed, read_of, roots_of, swept_of, with_doubt, with_other}
+use Rattle.oak_recover.specs.Reading.{Doubts, answered, doubts_in, is_confirmed, read_of, roots_of, with_other}
 use Rattle.oak_recover.specs.declared.reading.Reading.{Reading}
 
 pub never : {A : Type 0} → false ≡ true → A

@@ -1,6 +1,6 @@
 -- The greatest committed revision of a document, whatever the order in which they were found.
-use Rattle.std.proofs.Common.{◌≡◌, ◌≢◌, ℕ, Bool, true, false, cond, not, ◌&&◌, ◌||◌, ◌⊎◌, inl, inr, List, [], ◌∷◌, ◌++◌, fold, map, Option, None, Some, is_some, refl, sym, ap, subst, ◌∙◌}
-use Rattle.std.specs.List.{filter, list_any}
+use Rattle.std.proofs.Common.{◌≡◌, ◌≢◌, ℕ, Bool, true, false, cond, not, ◌||◌, ◌⊎◌, inl, inr, List, [], ◌∷◌, ◌++◌, fold, map, Option, None, Some, is_some, refl, sym, ap, subst, ◌∙◌}
+use Rattle.std.specs.List.{filter}
 use Rattle.std.specs.Map.{keys_of}
 use Rattle.std.specs.Option.{option_map_or}
 use Rattle.std.specs.Ordering.{is_lt, ordering_reverse}
@@ -20,7 +20,7 @@ use Rattle.oak_read.specs.Meaning.{Documents, commit_root_of, is_committed}
 use Rattle.oak_read.specs.Wanted.{Ids}
 use Rattle.oak_recover.specs.Dead.{committed_in, revisions_after}
 use Rattle.oak_recover.specs.Ending.{greatest_of}
-use Rattle.oak_recover.specs.Reading.{Doubts, answered, doubts_in, is_confirmed, read_of, with_later}
+use Rattle.oak_recover.specs.Reading.{Doubts, doubts_in, is_confirmed, read_of, with_later}
 use Rattle.oak_recover.specs.declared.reading.Reading.{Reading}
 use Rattle.oak_recover.proofs.Asking.{In, any_confirms, asking, asks_all, confirmed, doubts_are, in_filter, never, revisions_ascend, left_finds, root_answers_for}
 

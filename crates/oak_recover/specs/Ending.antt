@@ -1,5 +1,5 @@
 -- What a recovery comes to over documents at rest.
-use Rattle.std.specs.Prelude.{◌≡◌, ℕ, zero, suc, cond, List, [], ◌∷◌, ◌++◌, map, Option, Some, None}
+use Rattle.std.specs.Prelude.{◌≡◌, ℕ, zero, suc, ◌-◌, ◌^◌, min, cond, List, [], ◌∷◌, ◌++◌, length, map, Option, Some, None}
 use Rattle.std.specs.Option.{option_and_then, option_map_or}
 use Rattle.std.specs.List.{filter_map, flat_map, fold}
 use Rattle.std.specs.declared.alloc.Global.{Global}
@@ -77,10 +77,11 @@ module _ (table : List (DocId × Document)) (t : RevVec) (k : ℕ) where
   abbrev pub noted : List Document → List Path
   noted docs = filter_map (λ d. option_and_then (λ r. node_path d.id) (latest_in d)) docs
 
-  -- after n asks it has ended: it has undone what is dead; it has told the documents with committed revisions, and all that is above them, the greatest of these, or what was published where there is none
+  -- after n asks it has ended: it has undone what is dead, and counted that as far as can be told; it has told the documents with committed revisions, and all that is above them, the greatest of these, or what was published where there is none
   pub record EndsBy (run : ℕ → Recovery) (n : ℕ) : Type 0 where
     pub done : due (run n) ≡ ask.Done
     pub undone : undone_by run n ≡ dead
+    pub count : (run n).undone ≡ min (length dead) (2 ^ 64 - 1)
     pub noted_ : (run n).noted ≡ noted documents_of_nodes
     pub told : AreUpward (run n).noted (run n).paths
     pub upto : (run n).upto ≡ fold with_latest published documents_of_nodes

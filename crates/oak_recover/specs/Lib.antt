@@ -2,3 +2,4 @@ pub mod Dead
 pub mod Ending
 pub mod Reading
 pub mod Recovering
+pub mod Told

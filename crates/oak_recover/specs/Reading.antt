@@ -1,9 +1,8 @@
 -- What a recovery knows of the document that it read last.
-use Rattle.std.specs.Prelude.{ℕ, Bool, false, cond, not, ◌&&◌, List, [], ◌∷◌, map, Option, None, Some, is_some}
+use Rattle.std.specs.Prelude.{ℕ, Bool, false, cond, not, ◌&&◌, List, [], Option, None, Some, is_some}
 use Rattle.std.specs.BTreeMap.{insert_entry, is_at}
 use Rattle.std.specs.List.{filter, fold}
 use Rattle.std.specs.Map.{keys_of, remove_entry, values_of}
-use Rattle.std.specs.Option.{option_map_or}
 use Rattle.std.specs.Ordering.{eq_by_cmp}
 use Rattle.jr_path.specs.Ids.{id_cmp}
 use Rattle.jr_path.specs.declared.path.DocId.{DocId}

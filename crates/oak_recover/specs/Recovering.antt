@@ -8,6 +8,7 @@ use Rattle.jr_path.specs.declared.path.DocId.{DocId}
 use Rattle.jr_path.specs.declared.path.DocId.TheVariants as id
 use Rattle.jr_rev.specs.declared.revision.Revision.{Revision}
 use Rattle.jr_rev.specs.declared.vector.RevVec.{RevVec}
+use Rattle.jr_rev.specs.Revisions.{is_before}
 use Rattle.jr_rev.specs.Vectors.{entry, start_of}
 use Rattle.oak_doc.specs.declared.document.Document.{Document}
 use Rattle.oak_doc.specs.declared.asks.Ask.{Ask}
@@ -22,8 +23,6 @@ use Rattle.oak_checkpoint.specs.Settings.{drop_readers_op}
 use Rattle.oak_sync.specs.Publishing.{back_op}
 use Rattle.oak_sync.specs.Upward.{AreUpward}
 use Rattle.oak_recover.specs.Reading.{Doubts, answered, nothing_read, read_of, with_later, without_doubt}
-use Rattle.oak_recover.specs.declared.entries.After.{After}
-use Rattle.oak_recover.specs.declared.reading.Reading.{Reading}
 use Rattle.oak_recover.specs.declared.recovery.Recovery.{Recovery}
 use Rattle.oak_recover.specs.declared.recovery.Step.{Step}
 use Rattle.oak_recover.specs.declared.recovery.Step.TheVariants as step
@@ -147,15 +146,23 @@ one_more n = min (n + 1) (2 ^ 64 - 1)
 abbrev pub fed_undone : Recovery → Revision → Recovery
 fed_undone s r = undoing (record s { undone = one_more s.undone; reading = without_doubt s.reading r })
 
--- the update of a document is made, or there is none; behind the last one come the settings
-abbrev pub told : Recovery → Recovery
-told s = record s { written = s.written + 1; step = cond (nat_lt (s.written + 1) (length s.paths)) step.Back step.Settings }
+-- what the root, which was so before, says of cluster node k once it was told u: u, or what it said before where that is later
+abbrev pub upto_told : ℕ → Revision → Option Document → Revision
+upto_told k u before = option_map_or (λ r. cond (is_before u r) r u) (option_and_then (λ d. entry d.last_rev k) before) u
 
-abbrev pub fed_update : Recovery → Recovery
-fed_update s = by s.step
+-- what is published, once the next document, which was so before, is told: the root alone says it
+abbrev pub upto_after : Recovery → Option Document → Revision
+upto_after s before = option_map_or (λ p. cond (length p == 0) (upto_told s.after.cluster s.upto before) s.upto) (slice_get s.paths s.written) s.upto
+
+-- the update of a document, which was so before, is made, or there is none; behind the last one come the settings
+abbrev pub told : Recovery → Option Document → Recovery
+told s before = record s { upto = upto_after s before; written = s.written + 1; step = cond (nat_lt (s.written + 1) (length s.paths)) step.Back step.Settings }
+
+abbrev pub fed_update : Recovery → Option Document → Recovery
+fed_update s before = by s.step
   where
     by : Step → Recovery
-    by step.Back = cond (nat_lt s.written (length s.paths)) (told s) s
+    by step.Back = cond (nat_lt s.written (length s.paths)) (told s before) s
     by step.Settings = record s { step = step.Done }
     by _ = s
 
@@ -182,8 +189,8 @@ fed up s reply.Recovered = by s.step
     by : Step → Recovery
     by step.Memory = record s { paths = up; written = 0; step = step.Back }
     by _ = s
-fed up s (reply.Updated before) = fed_update s
-fed up s reply.Absent = fed_update s
+fed up s (reply.Updated before) = fed_update s before
+fed up s reply.Absent = fed_update s None
 fed up s _ = s
 
 -- the memory is recovered

@@ -8,6 +8,6 @@ mod reading;
 mod recovery;
 mod stage;
 
-pub use laws::recoveries_end_by_the_definition;
+pub use laws::{recoveries_end_by_the_definition, recoveries_tell_what_the_root_says};
 pub use recovery::Recovery;
 pub use stage::Stage;

@@ -1,11 +1,12 @@
 // The recovering automaton.
-ghost use Rattle.std.specs.Prelude.{◌≡◌, ◌↔◌, IfOk, IsTrue, OnErr, OnOk, Option, Some, slice_get};
-ghost use Rattle.std.specs.Option.{option_copied};
+ghost use Rattle.std.specs.Prelude.{◌≡◌, ◌==◌, ◌↔◌, IfOk, IsTrue, OnErr, OnOk, Option, Some, cond, length, slice_get};
+ghost use Rattle.std.specs.Option.{option_and_then, option_copied};
+ghost use Rattle.jr_rev.specs.Vectors.{entry};
 ghost use Rattle.oak_doc.specs.declared.asks.Ask.TheVariants as ask;
 ghost use Rattle.oak_doc.specs.declared.asks.Reply.TheVariants as reply;
 ghost use Rattle.oak_doc.specs.declared.document.Document.{Document};
 ghost use Rattle.jr_rev.specs.declared.revision.Revision.{Revision};
-ghost use Rattle.oak_recover.specs.Recovering.{Feeds, back_stage, begun, due, ended, fed_found, fed_next, fed_root, fed_status, fed_undone, fed_update, going_on, of_node, passed, passed_with, publish_op, published_in, stage_of, told, told_op, undo_id, undoing};
+ghost use Rattle.oak_recover.specs.Recovering.{Feeds, back_stage, begun, due, ended, fed_found, fed_next, fed_root, fed_status, fed_undone, fed_update, going_on, of_node, passed, passed_with, publish_op, published_in, stage_of, told, told_op, undo_id, undoing, upto_after, upto_told};
 ghost use Rattle.oak_recover.specs.declared.recovery.Step.TheVariants as step;
 ghost use Rattle.oak_sync.specs.Upward.{AreUpward};
 
@@ -25,7 +26,7 @@ use std::alloc::{AllocError, Global};
 /// pin nor its commit root calls committed, is dead, and is undone there, in ascending order; each commit root is asked
 /// once. Then it asks that the node's memory ends all that is in flight, and tells the documents with committed revisions
 /// and all that is above them what is published now: the greatest revision that is committed, or what was published. The
-/// root is told last, and that it is swept too. Last, the settings drop the readers of the node's sessions. It keeps one
+/// root is told last, and that it is swept too; where it says more already, that is what is published. Last, the settings drop the readers of the node's sessions. It keeps one
 /// document's revisions at a time.
 pub struct Recovery {
     alloc: Global,
@@ -35,7 +36,7 @@ pub struct Recovery {
     sweep: RevVec,
     // The node's revisions behind the root's `_lastRev` entry of it; before the root is read, behind its start.
     after: After,
-    // The greatest revision that is known to be committed, or that entry.
+    // The greatest revision that is known to be committed, or that entry; once the root is told, what the root says.
     upto: Revision,
     // How many undoings there were.
     undone: u64,
@@ -186,8 +187,12 @@ impl Recovery {
                 Ok(())
             }
             Reply::Recovered => self.feed_recovered(),
-            Reply::Updated(_) | Reply::Absent => {
-                self.feed_update();
+            Reply::Updated(before) => {
+                self.feed_update(before.as_ref());
+                Ok(())
+            }
+            Reply::Absent => {
+                self.feed_update(None);
                 Ok(())
             }
             _ => Ok(()),
@@ -273,17 +278,23 @@ impl Recovery {
     fn published_in(&self, root: Option<&Document>) -> Revision
         ensures { result ≡ published_in self.now.after.cluster (option_copied root.entry) }
     {
-        let own = match root {
-            Some(document) => document.last_rev.get(self.after.cluster),
-            None => None,
-        };
-        match own {
+        match self.entry_in(root) {
             Some(entry) => entry,
             None => Revision {
                 time: 0,
                 counter: 0,
                 cluster: self.after.cluster,
             },
+        }
+    }
+
+    // The `_lastRev` entry of the stopped node.
+    fn entry_in(&self, root: Option<&Document>) -> Option<Revision>
+        ensures { result ≡ option_and_then (λ d. entry d.last_rev self.now.after.cluster) (option_copied root.entry) }
+    {
+        match root {
+            Some(document) => document.last_rev.get(self.after.cluster),
+            None => None,
         }
     }
 
@@ -411,29 +422,60 @@ impl Recovery {
         Ok(())
     }
 
-    // An update is made, or there was no document.
-    fn feed_update(&mut self)
-        ensures { self.new ≡ fed_update self.old }
+    // An update is made of the document that was there before, or there was none.
+    fn feed_update(&mut self, before: Option<&Document>)
+        ensures { self.new ≡ fed_update self.old (option_copied before.entry) }
     {
         match self.step {
-            Step::Back => self.tell(),
+            Step::Back => self.tell(before),
             Step::Settings => self.step = Step::Done,
             _ => {}
         }
     }
 
     // The next document is told, or the settings drop readers.
-    fn tell(&mut self)
+    fn tell(&mut self, before: Option<&Document>)
         requires { self.old.step ≡ step.Back }
-        ensures { self.new ≡ fed_update self.old }
+        ensures { self.new ≡ fed_update self.old (option_copied before.entry) }
     {
         if self.written < self.paths.len() {
+            self.upto = self.upto_after(before);
             self.written += 1;
             self.step = if self.written < self.paths.len() {
                 Step::Back
             } else {
                 Step::Settings
             };
+        }
+    }
+
+    // What is published, once the next document is told.
+    fn upto_after(&self, before: Option<&Document>) -> Revision
+        ensures { result ≡ upto_after self.now (option_copied before.entry) }
+    {
+        match self.path_due() {
+            Some(path) => self.upto_at(path, before),
+            None => self.upto,
+        }
+    }
+
+    // The same, of the document of a node.
+    fn upto_at(&self, path: &Path, before: Option<&Document>) -> Revision
+        ensures { result ≡ cond (length path.now == 0) (upto_told self.now.after.cluster self.now.upto (option_copied before.entry)) self.now.upto }
+    {
+        if path.depth() == 0 {
+            return self.upto_told(before);
+        }
+        self.upto
+    }
+
+    // What the root says, once it is told: never less than before.
+    fn upto_told(&self, before: Option<&Document>) -> Revision
+        ensures { result ≡ upto_told self.now.after.cluster self.now.upto (option_copied before.entry) }
+    {
+        match self.entry_in(before) {
+            Some(entry) => { if self.upto < entry { entry } else { self.upto } }
+            None => self.upto,
         }
     }
 }

@@ -1,7 +1,7 @@
 // Background work, step by step.
 use crate::replies::Row;
 use crate::texts::cut;
-use crate::{background, changes, collections, commits, settings, splits};
+use crate::{background, changes, collections, commits, observed, recoveries, settings, splits};
 use oak_store::DocTable;
 use rows::{Out, number};
 use std::alloc::{AllocError, Global};
@@ -44,6 +44,8 @@ fn add_task(row: &Row<'_>, word: &str, table: &mut DocTable, out: &mut Out) {
         "split" => splits::add(row, table, out),
         "collect" => collections::add(row, table, out),
         "commit" => commits::add(row, table, out),
+        "changes" => observed::add(row, table, out),
+        "recover" => recoveries::add(row, table, out),
         "settings" => settings::add(row, table, out),
         _ => out.is_broken = true,
     }

@@ -1,4 +1,4 @@
-use Rattle.std.proofs.Common.{◌≡◌, [], fold, not}
+use Rattle.std.proofs.Common.{◌≡◌, fold, not}
 use Rattle.std.specs.List.{filter}
 use Rattle.std.specs.Map.{keys_of}
 use Rattle.jr_rev.specs.Vectors.{sees}
