@@ -1,0 +1,2 @@
+pub mod NoFloat
+mod Puts

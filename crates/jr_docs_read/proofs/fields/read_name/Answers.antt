@@ -1,0 +1,9 @@
+use Rattle.std.proofs.Common.{◌≡◌, List, ℕ, subst}
+use Rattle.jr_docs_read.proofs.Answered.{by_memory}
+use Rattle.jr_docs_read.proofs.Faults.{name_fault}
+use Rattle.jr_path.specs.declared.name.Name.{Name}
+use Rattle.jr_path.specs.Grammar.{IsName}
+use Rattle.jr_docs_read.proofs.fields.read_name.Goals as goal
+
+pub returns-in-Err : goal.returns-in-Err
+returns-in-Err c n is same = by_memory (λ (found : Name). found ≡ n) _ (c.fault_of.ensures (name_fault _ _ c.in-Err.ensures.fault (subst (λ (t : List ℕ). IsName t) same is)))

@@ -1,0 +1,197 @@
+// How keys and values of the maps of a document are read.
+ghost use Rattle.std.specs.Prelude.{◌≡◌, ◌<◌, ◌^◌, ℕ, List as Seq};
+ghost use Rattle.std.specs.Fmt.{decimal};
+ghost use Rattle.serde_json.specs.View.{view};
+ghost use Rattle.jr_docs.specs.Documents.{number_data};
+ghost use Rattle.jr_docs_read.specs.Reading.{Reads};
+ghost use Rattle.jr_json.specs.Json.{property_data};
+ghost use Rattle.jr_rev.specs.Grammar.{FitsFields};
+ghost use Rattle.jr_rev.specs.Texts.{revision_text};
+ghost use Rattle.jr_value.specs.Ranges.{IsReadableProperty};
+ghost use Rattle.jr_value.specs.declared.value.Property.{Property};
+
+use crate::DocFault;
+use crate::texts::{read_path, read_revision, revision_of, text_of, vector_of};
+use jr_json::{ValueFault, read_property};
+use jr_path::{Item, Text};
+use jr_rev::{Pin, Revision};
+use jr_value::Property;
+use serde_json::Value as Json;
+use std::alloc::Global;
+
+/// A key of a map, which a text spells.
+pub trait Key: Ord {
+    ghost text: { Self → Seq ℕ };
+
+    ghost fits: { Self → Type 0 };
+
+    fn read(alloc: Global, bytes: &str) -> Result<Self, DocFault>
+        ensures { (k : Self) → fits k → text k ≡ bytes.now → Reads (λ found. found ≡ k) result };
+}
+
+impl Key for Revision {
+    ghost text = { λ r. revision_text r };
+
+    ghost fits = { λ r. FitsFields r };
+
+    fn read(_alloc: Global, bytes: &str) -> Result<Revision, DocFault> {
+        read_revision(bytes)
+    }
+}
+
+impl Key for Text {
+    ghost text = { λ t. t };
+
+    ghost fits = { λ t. Unit {0} };
+
+    fn read(alloc: Global, bytes: &str) -> Result<Text, DocFault> {
+        Ok(Text::copy_of(alloc, bytes)?)
+    }
+}
+
+impl Key for u32 {
+    ghost text = { λ n. decimal n };
+
+    ghost fits = { λ n. n < 2 ^ 32 };
+
+    fn read(_alloc: Global, bytes: &str) -> Result<u32, DocFault> {
+        match bytes.parse::<u32>() {
+            Ok(number) => Ok(number),
+            Err(_) => Err(DocFault::NotADocument),
+        }
+    }
+}
+
+/// The form in which a value stands in a map.
+pub trait Form<V> {
+    fn read(alloc: Global, json: &Json) -> Result<V, DocFault>;
+}
+
+/// A truth value as itself.
+pub struct Truth;
+
+impl Form<bool> for Truth {
+    fn read(_alloc: Global, json: &Json) -> Result<bool, DocFault> {
+        match json {
+            Json::Bool(truth) => Ok(*truth),
+            _ => Err(DocFault::NotADocument),
+        }
+    }
+}
+
+/// A number as itself.
+pub struct Number;
+
+impl Form<u32> for Number {
+    fn read(_alloc: Global, json: &Json) -> Result<u32, DocFault> {
+        number_of(json)
+    }
+}
+
+/// A whole number of 32 bits.
+pub fn number_of(json: &Json) -> Result<u32, DocFault>
+    ensures { (n : ℕ) → n < 2 ^ 32 → number_data n ≡ view json.now
+        → Reads (λ found. found ≡ n) result }
+{
+    match u32::try_from(count_of(json)?) {
+        Ok(number) => Ok(number),
+        Err(_) => Err(DocFault::NotADocument),
+    }
+}
+
+/// A whole number of 64 bits.
+pub fn count_of(json: &Json) -> Result<u64, DocFault>
+    ensures { (n : ℕ) → number_data n ≡ view json.now → Reads (λ found. found ≡ n) result }
+{
+    match json.as_u64() {
+        Some(number) => Ok(number),
+        None => Err(DocFault::NotADocument),
+    }
+}
+
+/// That a revision is committed.
+pub struct Committed;
+
+impl Form<()> for Committed {
+    fn read(_alloc: Global, _json: &Json) -> Result<(), DocFault> {
+        Ok(())
+    }
+}
+
+/// That there is a mark.
+pub struct Noted;
+
+impl Form<()> for Noted {
+    fn read(_alloc: Global, _json: &Json) -> Result<(), DocFault> {
+        Ok(())
+    }
+}
+
+/// A collision: the marking revision, and the item's path, which is read as that of a node.
+pub struct Collision;
+
+impl Form<(Revision, Item)> for Collision {
+    fn read(alloc: Global, json: &Json) -> Result<(Revision, Item), DocFault> {
+        match json {
+            Json::Array(items) => collision_of(alloc, items),
+            _ => Err(DocFault::NotADocument),
+        }
+    }
+}
+
+fn collision_of(alloc: Global, items: &[Json]) -> Result<(Revision, Item), DocFault> {
+    match items {
+        [revision, item] => {
+            let revision = revision_of(revision)?;
+            let path = read_path(alloc, text_of(item)?)?;
+            Ok((revision, Item { path, name: None }))
+        }
+        _ => Err(DocFault::NotADocument),
+    }
+}
+
+/// The value of a property, or `null`.
+pub struct Held;
+
+impl Form<Option<Property>> for Held {
+    fn read(alloc: Global, json: &Json) -> Result<Option<Property>, DocFault> {
+        match json {
+            Json::Null => Ok(None),
+            _ => Ok(Some(property_of(alloc, json)?)),
+        }
+    }
+}
+
+fn property_of(alloc: Global, json: &Json) -> Result<Property, DocFault>
+    ensures { (p : Property) → IsReadableProperty p → property_data p ≡ view json.now
+        → Reads (λ found. found ≡ p) result }
+{
+    match read_property(alloc, json) {
+        Ok(property) => Ok(property),
+        Err(ValueFault::ValueFormat(_, _)) => Err(DocFault::NotADocument),
+        Err(ValueFault::Memory) => Err(DocFault::Memory),
+    }
+}
+
+/// A vector with its sweep vector.
+pub struct Pair;
+
+impl Form<Pin> for Pair {
+    fn read(_alloc: Global, json: &Json) -> Result<Pin, DocFault> {
+        match json {
+            Json::Array(items) => pin_of(items),
+            _ => Err(DocFault::NotADocument),
+        }
+    }
+}
+
+fn pin_of(items: &[Json]) -> Result<Pin, DocFault> {
+    match items {
+        [base, sweep] => {
+            let base = vector_of(base)?;
+            let sweep = vector_of(sweep)?;
+            Ok(Pin { base, sweep })
+        }
+        _ => Err(DocFault::NotADocument),
+    }
+}

@@ -1,0 +1,12 @@
+//! A repository opened from documents: what it begins with, or why it can't be opened from them.
+//!
+//! Oak, DocumentNodeStore: "Node Document", "Clustering".
+#![tactic(auto)]
+
+mod documents;
+mod fault;
+mod open;
+
+pub use documents::{Opening, is_changed, opened_documents, stays};
+pub use fault::OpenFault;
+pub use open::{Opened, open_documents};

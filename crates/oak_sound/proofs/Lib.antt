@@ -1,0 +1,4 @@
+pub mod Breaking
+pub mod Lists
+pub mod Numbering
+pub mod Raising

@@ -1,0 +1,7 @@
+use Rattle.oak_sound.specs.Sound.{keeps_roots}
+use Rattle.oak_sound.proofs.Breaking.{IsSoFar}
+use Rattle.oak_sound.proofs.roots.first_misrooted.Given as goal
+
+-- so far each document keeps the rule; those that are left decide
+abbrev pub invariant-loop-at : goal.invariant-loop-at
+invariant-loop-at l = IsSoFar (λ before e. keeps_roots l.documents l.sweep e.0 e.1) l.documents l.at l.id-iterator
