@@ -1,12 +1,12 @@
 """Runs a built program with its Nth allocation refused, for many N, and looks whether a command that is refused 16 leaves
 base and view as they were: before and behind each command of its scripts stand `head` and commands that show the view.
 
-    python3 bench/refused_base.py crates/repo_run/out/repo_run [STEP]
+    python3 bench/refused_base.py crates/repo_run/out/repo_run [STEP [NAME]]
 
-Every STEP-th allocation is refused in turn, each if STEP is left out. A small library in front of the C library (gcc builds
-it, LD_PRELOAD loads it) counts the calls of malloc and realloc. For each script it prints how many runs it made, how many
-ended with status 5 and had written nothing, how many with status 0, how many replies `no 16 []` came in these, and how many
-of them left another base or view.
+Every STEP-th allocation is refused in turn, each if STEP is left out; of the script of that name alone, if one is
+given. A small library in front of the C library (gcc builds it, LD_PRELOAD loads it) counts the calls of malloc and
+realloc. For each script it prints how many runs it made, how many ended with status 5 and had written nothing, how
+many with status 0, how many replies `no 16 []` came in these, and how many of them left another base or view.
 """
 import json
 import os
@@ -64,7 +64,7 @@ def by_turns(counts):
 
 
 def scripts():
-    """Names and scripts: refreshes beside another's commits, saves that clash, locks and versions."""
+    """Names and scripts: refreshes beside another's commits, saves that clash, locks and versions, background work."""
     n = 1 + len(LOOKS)
     one = [["add", "/a"], ["set", "/a", "p", 1], ["save"], ["add", "/a/b"], ["set", "/a", "p", 2], ["save"], ["refresh", False]]
     two = [["refresh", False], ["set", "/a", "q", 3], ["refresh", True], ["set", "/a", "p", 4], ["save"], ["refresh", True], ["save"], ["refresh", False]]
@@ -80,6 +80,14 @@ def scripts():
         ["unlabel", "/a", "last"], ["unlock", "/a"], ["query", "SELECT [p] FROM [nt:base] AS n", {}], ["refresh", True],
     ]
     yield "locks and versions", {"sessions": [{"commands": looked(content)}]}
+    here = [["add", "/a"], ["save"], ["backWrite"], ["checkpoint"], ["add", "/a/b"], ["save"], ["backWrite"], ["backRead"], ["refresh", False], ["release", "c"]]
+    there = [["backRead"], ["refresh", False], ["set", "/a", "p", 1], ["save"], ["backRead"], ["refresh", True], ["save"], ["backWrite"],
+             ["release", "00000000-0000-4000-8000-000000000001"]]
+    yield "two cluster nodes", {
+        "clusters": 2,
+        "sessions": [{"cluster": 1, "commands": looked(here)}, {"cluster": 2, "commands": looked(there)}],
+        "schedule": by_turns([(0, len(LOOKS)), (1, len(LOOKS)), (0, 4 * n), (1, 4 * n), (0, 3 * n), (1, 5 * n), (0, 3 * n)]),
+    }
 
 
 def run(program, words, script, number, shim, counted):
@@ -101,6 +109,8 @@ def main():
             it.write(SHIM)
         subprocess.run(["gcc", "-O2", "-shared", "-fPIC", "-o", shim, f"{room}/refuse.c", "-ldl"], check=True)
         for name, script in scripts():
+            if sys.argv[3:] and name != sys.argv[3]:
+                continue
             text = json.dumps(script).encode()
             status, _, _ = run(program, ["steps"], text, 0, shim, counted)
             with open(counted, encoding="utf-8") as it:

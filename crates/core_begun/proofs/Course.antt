@@ -9,7 +9,7 @@ use Rattle.jr_rev.specs.declared.vector.RevVec.{RevVec}
 use Rattle.jr_rev.specs.Revisions.{revision_cmp, is_before}
 use Rattle.jr_rev.specs.Vectors.{sees}
 use Rattle.jr_tree.specs.declared.edit.Write.{Write}
-use Rattle.jr_tree.specs.Trees.{Nodes, node_at}
+use Rattle.jr_tree.specs.Trees.{Nodes, IsTree, node_at}
 use Rattle.jr_tree.specs.Items.{here_of, put_of, written}
 use Rattle.oak_clash.specs.declared.mark.MarkAt.{MarkAt}
 use Rattle.oak_clash.specs.Clashes.{clashing}
@@ -101,17 +101,22 @@ module _ (start : Start) (past : Past) (told : IsToldSince start past) where
           at true h = closed r ws (sym (found past r) ∙ e) seen q h
           at false h = absurd (apart (separate r ws (sym (found past r) ∙ e) q us (sym (found past q) ∙ f) before h))
 
+-- what a closed sight sees has at each item what the last write of it that is seen writes, or the start
+pub tells_since : (start : Start) (past : Past) → IsTree start.tree → IsToldSince start past → (s : Sight) → IsClosedSince past s
+    → TellsFrom start.tree (tree_from start.tree s (falling_from past)) s (falling_from past)
+tells_since start past tree told s closed = tells_from start.tree tree (is_in_base past) (falling_from past) (sound_since start past told) s (closed_falling past s closed)
+
 -- the tree of what the start and the bounds see
 pub shows_bound : (start : Start) (past : Past) → IsFirst start.tree → IsToldSince start past → IsUsedSince past (bounded_since start past) → Shows (course_from start past) (bounded_since start past) (tree_from start.tree (bounded_since start past) (falling_from past))
 shows_bound start past first told bounded =
     shows_from (course_from start past) first (bounded_since start past) _
-    (tells_from start.tree first (is_in_base past) (falling_from past) (sound_since start past told) (bounded_since start past) (closed_falling past (bounded_since start past) bounded.closed))
+    (tells_since start past first.tree told (bounded_since start past) bounded.closed)
 
 -- the tree at a vector in use
 pub shows_at : (start : Start) (past : Past) → IsFirst start.tree → IsToldSince start past → (v : RevVec) → IsInUseSince start past v → Shows (course_from start past) (sees v) (tree_at (Some start) past v)
 shows_at start past first told v used =
     shows_from (course_from start past) first (sees v) (tree_at (Some start) past v)
-    (subst (λ (t : Nodes). TellsFrom start.tree t (sees v) (falling_from past)) (tree_since start past v) (tells_from start.tree first (is_in_base past) (falling_from past) (sound_since start past told) (sees v) (closed_falling past (sees v) used.closed)))
+    (subst (λ (t : Nodes). TellsFrom start.tree t (sees v) (falling_from past)) (tree_since start past v) (tells_since start past first.tree told (sees v) used.closed))
 
 -- ---- the reading theorem, however far collections went
 

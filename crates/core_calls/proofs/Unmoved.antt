@@ -18,7 +18,7 @@ use Rattle.oak_machine.proofs.Induction.{neither, other}
 use Rattle.core_heads.proofs.Orders.{same_number}
 use Rattle.jcr_law.specs.declared.law.JcrLaw.{JcrLaw}
 use Rattle.jcr_law.specs.Lasting.{says_of, starts_of}
-use Rattle.jcr_law.specs.Since.{before_turn, detached_among, draw_among, draw_since, is_beginning, is_move_of, is_unmoved}
+use Rattle.jcr_law.specs.Since.{before_turn, detached_among, draw_among, draw_since, is_beginning, is_move_of, is_pinning, is_unmoved, is_unpinned}
 use Rattle.jcr_law.specs.State.{call_of}
 use Rattle.core_calls.specs.Events.{is_calling}
 use Rattle.core_calls.proofs.Beginning.{since_login, since_reply}
@@ -40,19 +40,33 @@ unmoved_at_login past s v = ap (λ (p : Past). not (moves s p)) (since_login pas
 pub moved_at_refresh : (past : Past) (s : ℕ) (v : RevVec) → is_unmoved (event.Refresh s v ∷ past) s ≡ false
 moved_at_refresh past s v = ap (λ (b : Bool). not (b || moves s (since past s))) (number_itself s)
 
--- behind another event it hasn't, where it hadn't
-pub unmoved_more : (e : Event) (past : Past) (s : ℕ) → is_move_of s e ≡ false → is_unmoved past s ≡ true → is_unmoved (e ∷ past) s ≡ true
-unmoved_more e past s still was = by (is_beginning s e)
+-- since the command of s began no event passes a test behind one that doesn't, where none did
+none_more : (test : Event → Bool) (e : Event) (past : Past) (s : ℕ) → test e ≡ false → not (list_any test (since past s)) ≡ true → not (list_any test (since (e ∷ past) s)) ≡ true
+none_more test e past s none was = by (is_beginning s e)
   where
-    by : (b : Bool) → not (moves s (cond b [] (e ∷ since past s))) ≡ true
+    by : (b : Bool) → not (list_any test (cond b [] (e ∷ since past s))) ≡ true
     by true = refl
-    by false = ap (λ (b : Bool). not (b || moves s (since past s))) still ∙ was
+    by false = ap (λ (b : Bool). not (b || list_any test (since past s))) none ∙ was
 
+none_over : (test : Event → Bool) (added past : Past) (s : ℕ) → list_any test added ≡ false → not (list_any test (since past s)) ≡ true → not (list_any test (since (added ++ past) s)) ≡ true
+none_over test [] past s none was = was
+none_over test (e ∷ added) past s none was =
+    let n = neither (test e) _ none in
+    none_more test e (added ++ past) s n.0 (none_over test added past s n.1 was)
+
+-- behind other events the base hasn't moved, where it hadn't
 pub unmoved_over : (added past : Past) (s : ℕ) → list_any (is_move_of s) added ≡ false → is_unmoved past s ≡ true → is_unmoved (added ++ past) s ≡ true
-unmoved_over [] past s still was = was
-unmoved_over (e ∷ added) past s still was =
-    let n = neither (is_move_of s e) _ still in
-    unmoved_more e (added ++ past) s n.0 (unmoved_over added past s n.1 was)
+unmoved_over added past s still was = none_over (is_move_of s) added past s still was
+
+-- nor has the cursor
+pub unpinned_over : (added past : Past) (s : ℕ) → list_any (is_pinning s) added ≡ false → is_unpinned past s ≡ true → is_unpinned (added ++ past) s ≡ true
+unpinned_over added past s still was = none_over (is_pinning s) added past s still was
+
+pub unpinned_at_reply : (past : Past) (s i : ℕ) (text : Text) → is_unpinned (event.Said s i text ∷ past) s ≡ true
+unpinned_at_reply past s i text = ap (λ (p : Past). not (list_any (is_pinning s) p)) (since_reply past s i text)
+
+pub unpinned_at_login : (past : Past) (s : ℕ) (v : RevVec) → is_unpinned (event.Login s v ∷ past) s ≡ true
+unpinned_at_login past s v = ap (λ (p : Past). not (list_any (is_pinning s) p)) (since_login past s v)
 
 -- and where the event begins no command either, it is as it was
 pub unmoved_same : (e : Event) (past : Past) (s : ℕ) → is_move_of s e ≡ false → is_beginning s e ≡ false → is_unmoved (e ∷ past) s ≡ is_unmoved past s

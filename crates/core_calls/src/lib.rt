@@ -16,5 +16,5 @@ pub use commits::{draws_are_known, own_commit_alone, set_entries_are_alone};
 pub use replies::replies_begin_with_ok;
 pub use turns::{
     bases_stand_until_they_move, commands_begin_behind_replies, commands_tell_what_came,
-    sessions_stay_unattached,
+    cursors_stand_until_they_move, sessions_stay_unattached,
 };

@@ -14,7 +14,7 @@ ghost use Rattle.jcr_law.specs.Built.{asked};
 ghost use Rattle.jcr_law.specs.declared.law.JcrLaw.{JcrLaw};
 ghost use Rattle.jcr_law.specs.Lasting.{says_of, starts_of};
 ghost use Rattle.jcr_law.specs.Law.{asked_by};
-ghost use Rattle.jcr_law.specs.Since.{before_turn, detached_among, draw_since, is_beginning, is_move_of, is_unmoved};
+ghost use Rattle.jcr_law.specs.Since.{before_turn, detached_among, draw_since, is_beginning, is_move_of, is_pinning, is_unmoved, is_unpinned};
 ghost use Rattle.jcr_law.specs.State.{call_of};
 ghost use Rattle.core_calls.specs.Events.{IsUnattached, is_attach_of};
 
@@ -68,6 +68,19 @@ pub fn bases_stand_until_they_move()
         → refreshed_since past s ≡ None }
     ensures undetached { (past : Past) (s : ℕ) → IsTrue (is_unmoved past s)
         → detached_among (since past s) s ≡ None }
+{}
+
+/// The cursor of a session hasn't moved behind a reply or a login, and hasn't behind further events
+/// among which is no move of it; events of others leave it.
+pub fn cursors_stand_until_they_move()
+    ensures reply { (past : Past) (s i : ℕ) (text : List ℕ)
+        → IsTrue (is_unpinned (event.Said s i text ∷ past) s) }
+    ensures login { (past : Past) (s : ℕ) (v : RevVec)
+        → IsTrue (is_unpinned (event.Login s v ∷ past) s) }
+    ensures still { (added past : Past) (s : ℕ) → IsFalse (list_any (is_pinning s) added)
+        → IsTrue (is_unpinned past s) → IsTrue (is_unpinned (added ++ past) s) }
+    ensures others { (added past : Past) (s : ℕ) → AreOthers s added past
+        → is_unpinned (added ++ past) s ≡ is_unpinned past s }
 {}
 
 /// A session begins unattached, and stays so where it attaches to no checkpoint; then its command

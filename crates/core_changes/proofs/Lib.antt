@@ -11,3 +11,4 @@ pub mod Lasting
 pub mod Instants
 pub mod Steps
 pub mod Ending
+pub mod Written

@@ -42,7 +42,7 @@ use Rattle.core_read.specs.Holds.{edit_of}
 use Rattle.core_read.specs.Told.{IsIn, IsTold}
 use Rattle.core_read.specs.World.{Progress}
 use Rattle.core_changes.proofs.Below.{new_after, sees_below, shows_below}
-use Rattle.core_changes.proofs.Item.{after_is, before_is, state, state_written, written_state, states}
+use Rattle.core_changes.proofs.Item.{after_is, before_is, state, state_written, written_state}
 use Rattle.core_changes.proofs.Members.{from_both, from_filter, from_flat, from_map, in_back, in_filter, in_flat, in_front, in_map}
 use Rattle.core_changes.proofs.Telling.{itself_between}
 use Rattle.core_changes.specs.Between.{change_of, is_new, IsChange}

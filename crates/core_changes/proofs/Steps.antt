@@ -30,11 +30,11 @@ use Rattle.core_changes.proofs.Telling.{between_held}
 use Rattle.core_changes.specs.Instants.{AreHeld}
 use Rattle.core_changes.specs.Observing.{ObservesOn}
 
-edit_stays : (past : Past) (e : Event) → ((r : Revision) → is_commit_of r e ≡ false) → (q : Revision) → edit_of (e ∷ past) q ≡ edit_of past q
+pub edit_stays : (past : Past) (e : Event) → ((r : Revision) → is_commit_of r e ≡ false) → (q : Revision) → edit_of (e ∷ past) q ≡ edit_of past q
 edit_stays past (event.Commit r) none q = absurd (false≢true (sym (none r) ∙ ap is_eq (tied_itself revision_total r)))
 edit_stays past e none q = refl
 
-base_stays : (past : Past) (e : Event) → ((d : Draw) → e ≡ event.Draw d → edit_of past d.revision ≡ None) → (r : Revision) (ws : List Write) → edit_of past r ≡ Some ws → (q : Revision) → is_in_base (e ∷ past) r q ≡ is_in_base past r q
+pub base_stays : (past : Past) (e : Event) → ((d : Draw) → e ≡ event.Draw d → edit_of past d.revision ≡ None) → (r : Revision) (ws : List Write) → edit_of past r ≡ Some ws → (q : Revision) → is_in_base (e ∷ past) r q ≡ is_in_base past r q
 base_stays past (event.Draw d) new r ws e q = by (eq_by_cmp revision_cmp r d.revision) refl
   where
     by : (b : Bool) → eq_by_cmp revision_cmp r d.revision ≡ b → option_map_or (λ d. sees d.base q) (cond b (Some d) (draw_of past r)) false ≡ is_in_base past r q

@@ -1,4 +1,5 @@
--- Vectors between two others, the commits that one sees and the other doesn't, and what these change.
+-- Vectors between two others, the commits that one sees and the other doesn't, and what these
+-- change.
 use Rattle.std.specs.Prelude.{◌≡◌, Bool, not, ◌&&◌, List, Option, None, Some, is_some, IsTrue}
 use Rattle.std.specs.Option.{option_map}
 use Rattle.jr_path.specs.declared.path.Item.{Item}
@@ -19,7 +20,8 @@ use Rattle.core_read.specs.Holds.{edit_of, IsClosedSight}
 abbrev pub is_new : RevVec → RevVec → Revision → Bool
 is_new from to r = sees to r && not (sees from r)
 
--- a vector between two others: it sees all that the lesser sees, nothing that the greater doesn't, and with a commit all that its base sees
+-- a vector between two others: it sees all that the lesser sees, nothing that the greater doesn't,
+-- and with a commit all that its base sees
 pub record IsBetween (past : Past) (from to v : RevVec) : Type 0 where
   pub low : (q : Revision) → IsTrue (sees from q) → IsTrue (sees v q)
   pub high : (q : Revision) → IsTrue (sees v q) → IsTrue (sees to q)
@@ -30,10 +32,19 @@ abbrev pub change_of : Nodes → List Write → Item → Option ItemChange
 change_of t ws item = by item.name
   where
     by : Option Name → Option ItemChange
-    by None = option_map (λ there. record { item = item; before = is_some (node_at t item.path); after = there }) (written (here_of item.path) ws)
-    by (Some n) = option_map (λ x. record { item = item; before = is_some (property_at t item.path n); after = is_some x }) (written (put_of item.path n) ws)
+    by None = option_map (λ there. record {
+      item = item;
+      before = is_some (node_at t item.path);
+      after = there;
+    }) (written (here_of item.path) ws)
+    by (Some n) = option_map (λ x. record {
+      item = item;
+      before = is_some (property_at t item.path n);
+      after = is_some x;
+    }) (written (put_of item.path n) ws)
 
--- what is said is a change by a commit that `to` sees and `from` doesn't, on the tree of the commits below it that `to` sees
+-- what is said is a change by a commit that `to` sees and `from` doesn't, on the tree of the
+-- commits below it that `to` sees
 pub record IsChange (past : Past) (from to : RevVec) (s : Said) : Type 0 where
   pub edit : List Write
   pub is_edit : edit_of past s.revision ≡ Some edit

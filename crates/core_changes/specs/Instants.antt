@@ -1,4 +1,5 @@
--- Readers of changes that are answered step by step, while commits, splits and collections go on between their steps.
+-- Readers of changes that are answered step by step, while commits, splits and collections go on
+-- between their steps.
 use Rattle.std.specs.Prelude.{◌≡◌, ◌≢◌, ℕ, List, [], ◌∷◌, Some, IsTrue}
 use Rattle.std.specs.List.{fold}
 use Rattle.jr_rev.specs.declared.revision.Revision.{Revision}
@@ -21,7 +22,8 @@ use Rattle.core_watch.specs.Instants.{first_instants, Instant, documents_at}
 use Rattle.core_changes.specs.Between.{is_new}
 use Rattle.core_changes.specs.Observing.{ObservesOn}
 
--- the vectors can be read between: the pin is held; the lesser vector is in use, sees all that bounds so far see, and nothing that the pin's base doesn't
+-- the vectors can be read between: the pin is held; the lesser vector is in use, sees all that
+-- bounds so far see, and nothing that the pin's base doesn't
 pub record AreHeld (past : Past) (from : RevVec) (pin : Pin) : Type 0 where
   pub to : IsHeld past pin.base pin.sweep
   pub used : IsInUse past from
@@ -30,9 +32,12 @@ pub record AreHeld (past : Past) (from : RevVec) (pin : Pin) : Type 0 where
 
 -- each new commit writes something
 abbrev pub AreWriting : Past → RevVec → RevVec → Type 0
-AreWriting past from to = (r : Revision) (ws : List Write) → edit_of past r ≡ Some ws → IsTrue (is_new from to r) → ws ≢ []
+AreWriting past from to =
+    (r : Revision) (ws : List Write) → edit_of past r ≡ Some ws → IsTrue (is_new from to r)
+    → ws ≢ []
 
--- changes can be read: the documents keep what the journal tells, the vectors are held, and former documents are followed
+-- changes can be read: the documents keep what the journal tells, the vectors are held, and former
+-- documents are followed
 pub record CanObserve (from : RevVec) (pin : Pin) (i : Instant) : Type 0 where
   pub ordered : IsTable i.moment.table
   pub done : Progress
@@ -41,10 +46,13 @@ pub record CanObserve (from : RevVec) (pin : Pin) (i : Instant) : Type 0 where
   pub listed : AreFormers (documents_at i) (course_of i.moment.past) i.formers
   pub writing : AreWriting i.moment.past from pin.base
 
--- at each of some instants changes can be read, and from one to the next others let the reader go on
+-- at each of some instants changes can be read, and from one to the next others let the reader go
+-- on
 abbrev pub AreObservable : RevVec → Pin → Instant → List Instant → Type 0
 AreObservable from pin i [] = Unit {0}
-AreObservable from pin i (n ∷ ns) = ObservesOn from pin (documents_at i) (documents_at n) i.moment.past n.moment.past × Grows i.formers n.formers × CanObserve from pin n × AreObservable from pin n ns
+AreObservable from pin i (n ∷ ns) =
+    ObservesOn from pin (documents_at i) (documents_at n) i.moment.past n.moment.past
+    × Grows i.formers n.formers × CanObserve from pin n × AreObservable from pin n ns
 
 -- a reader after the documents of each of some instants have answered it, one after another
 abbrev pub after_instants : List Instant → ChangesReader → ChangesReader
@@ -52,4 +60,6 @@ after_instants is r = fold (λ r i. fed r (answer i.moment.table (due r))) r is
 
 -- after some of instants without end a reader is done, and gives one of these
 abbrev pub EndsWith : (List CommitChanges → Type 0) → (ℕ → Instant) → ChangesReader → Type 0
-EndsWith P f r = (n : ℕ) × (o : List CommitChanges) × ((after_instants (first_instants n f) r).step ≡ step.Done o) × P o
+EndsWith P f r =
+    (n : ℕ) × (o : List CommitChanges)
+    × ((after_instants (first_instants n f) r).step ≡ step.Done o) × P o

@@ -1,4 +1,5 @@
-//! Readers of changes whose documents change meanwhile: what comes between their steps changes nothing of what they give.
+//! Readers of changes whose documents change meanwhile: what comes between their steps changes
+//! nothing of what they give.
 #![tactic(auto)]
 
 ghost use Rattle.std.specs.Prelude.{◌≡◌, ℕ, List, ◌∷◌, None, Some, IsFalse};
@@ -18,7 +19,7 @@ ghost use Rattle.oak_machine.specs.declared.event.Event.{Event};
 ghost use Rattle.oak_machine.specs.declared.event.Event.TheVariants as event;
 ghost use Rattle.oak_machine.specs.Changed.{changes_between};
 ghost use Rattle.oak_machine.specs.Commits.{draw_of, is_commit_of};
-ghost use Rattle.oak_machine.specs.Runs.{MayCommit};
+ghost use Rattle.oak_machine.specs.Runs.{AreNodes, IsRunOf, MayCommit};
 ghost use Rattle.oak_machine.specs.History.{Past};
 ghost use Rattle.oak_read.specs.Meaning.{Documents, documents_in};
 ghost use Rattle.oak_read.specs.Reading.{IsTable, answer};
@@ -32,30 +33,75 @@ ghost use Rattle.core_watch.specs.Reading.{ReadsOn};
 ghost use Rattle.core_changes.specs.Instants.{AreHeld, AreObservable, AreWriting, EndsWith, after_instants};
 ghost use Rattle.core_changes.specs.Observing.{IsObserving, ObservesOn};
 
-/// Whatever comes between its steps, commits, splits and collections among it, a reader of changes ends with each commit
-/// that its pin's base sees and the other vector doesn't, in ascending order, with what it changes on the tree of the
-/// commits below it that the base sees: where at each step the documents keep what the journal tells, the bounds so far
-/// see nothing that the other vector doesn't, and from one step to the next others let readers between the two read on.
-/// That it ends needs that the documents that come have finitely many ids; what it gives where it is done doesn't.
+use oak_machine::Law;
+
+/// Whatever comes between its steps, commits, splits and collections among it, a reader of changes
+/// ends with each commit that its pin's base sees and the other vector doesn't, in ascending order,
+/// with what it changes on the tree of the commits below it that the base sees: where at each step
+/// the documents keep what the journal tells, the bounds so far see nothing that the other vector
+/// doesn't, and from one step to the next others let readers between the two read on. That it ends
+/// needs that the documents that come have finitely many ids; what it gives where it is done
+/// doesn't.
 pub fn observers_read_what_commits_change()
-    ensures ends { (ids : List DocId) (a : Global) (from : RevVec) (pin : Pin) (i : Instant) (f : ℕ → Instant) → ((n : ℕ) → AreObservable from pin i (first_instants n f)) → ((n : ℕ) → HasIdsAmong ids (f n).moment) → EndsWith (λ o. o ≡ changes_between None i.moment.past from pin.base) f (changes_reader a from pin) }
-    ensures done { (a : Global) (from : RevVec) (pin : Pin) (i : Instant) (is : List Instant) (o : List CommitChanges) → AreObservable from pin i is → (after_instants is (changes_reader a from pin)).step ≡ step.Done o → o ≡ changes_between None i.moment.past from pin.base }
+    ensures ends { (ids : List DocId) (a : Global) (from : RevVec) (pin : Pin) (i : Instant)
+        (f : ℕ → Instant) → ((n : ℕ) → AreObservable from pin i (first_instants n f))
+        → ((n : ℕ) → HasIdsAmong ids (f n).moment)
+        → EndsWith (λ o. o ≡ changes_between None i.moment.past from pin.base) f
+        (changes_reader a from pin) }
+    ensures done { (a : Global) (from : RevVec) (pin : Pin) (i : Instant) (is : List Instant)
+        (o : List CommitChanges) → AreObservable from pin i is
+        → (after_instants is (changes_reader a from pin)).step ≡ step.Done o
+        → o ≡ changes_between None i.moment.past from pin.base }
 {}
 
-/// The same, a step at a time: a reader of changes begins, reads on over each answer of the documents and over all that others
-/// do, and gives what the commits change. It keeps its vectors.
+/// A step at a time, a reader of changes begins, reads on over each answer of the documents and over
+/// all that others do, and gives what the commits change. It keeps its vectors.
 pub fn observers_read_on()
-    ensures begins { (ds : Documents) (past : Past) (formers : Formers) (a : Global) (from : RevVec) (pin : Pin) → IsObserving ds past formers (changes_reader a from pin) }
-    ensures feeds { (table : List (DocId × Document)) (past : Past) (formers : Formers) (done : Progress) (r : ChangesReader) → IsTable table → IsKeptWorld (documents_in table) past done → AreHeld past r.from r.pin → AreFormers (documents_in table) (course_of past) formers → AreWriting past r.from r.pin.base → IsObserving (documents_in table) past formers r → IsObserving (documents_in table) past formers (fed r (answer table (due r))) }
-    ensures lasts { (formers more : Formers) (ds now : Documents) (past later : Past) (done : Progress) (r : ChangesReader) → IsKeptWorld now later done → AreHeld later r.from r.pin → ObservesOn r.from r.pin ds now past later → Grows formers more → IsObserving ds past formers r → IsObserving now later more r }
-    ensures gives { (ds : Documents) (past : Past) (formers : Formers) (r : ChangesReader) (o : List CommitChanges) → IsObserving ds past formers r → r.step ≡ step.Done o → o ≡ changes_between None past r.from r.pin.base }
-    ensures keeps { (r : ChangesReader) (x : Reply) → ((fed r x).from ≡ r.from) × ((fed r x).pin ≡ r.pin) }
+    ensures begins { (ds : Documents) (past : Past) (formers : Formers) (a : Global) (from : RevVec)
+        (pin : Pin) → IsObserving ds past formers (changes_reader a from pin) }
+    ensures feeds { (table : List (DocId × Document)) (past : Past) (formers : Formers)
+        (done : Progress) (r : ChangesReader) → IsTable table
+        → IsKeptWorld (documents_in table) past done → AreHeld past r.from r.pin
+        → AreFormers (documents_in table) (course_of past) formers
+        → AreWriting past r.from r.pin.base → IsObserving (documents_in table) past formers r
+        → IsObserving (documents_in table) past formers (fed r (answer table (due r))) }
+    ensures lasts { (formers more : Formers) (ds now : Documents) (past later : Past)
+        (done : Progress) (r : ChangesReader) → IsKeptWorld now later done
+        → AreHeld later r.from r.pin → ObservesOn r.from r.pin ds now past later
+        → Grows formers more → IsObserving ds past formers r → IsObserving now later more r }
+    ensures gives { (ds : Documents) (past : Past) (formers : Formers) (r : ChangesReader)
+        (o : List CommitChanges) → IsObserving ds past formers r → r.step ≡ step.Done o
+        → o ≡ changes_between None past r.from r.pin.base }
+    ensures keeps { (r : ChangesReader) (x : Reply)
+        → ((fed r x).from ≡ r.from) × ((fed r x).pin ≡ r.pin) }
 {}
 
-/// What lets readers at each held pin read on lets readers of changes do so: documents that change while the journal stays,
-/// a Commit, and each other event, where a Draw is of a revision that isn't committed.
+/// What lets readers at each held pin read on lets readers of changes do so: documents that change
+/// while the journal stays, a Commit, and each other event, where a Draw is of a revision that
+/// isn't committed.
 pub fn steps_let_observers_read_on()
-    ensures event { (from : RevVec) (pin : Pin) (ds : Documents) (past : Past) (done : Progress) (e : Event) → IsKeptWorld ds past done → ((r : Revision) → IsFalse (is_commit_of r e)) → ((d : Draw) → e ≡ event.Draw d → edit_of past d.revision ≡ None) → ObservesOn from pin ds ds past (e ∷ past) }
-    ensures documents { (from : RevVec) (pin : Pin) (ds now : Documents) (past : Past) (done : Progress) → IsKeptWorld ds past done → AreHeld past from pin → ((v : RevVec) → IsHeld past v pin.sweep → ReadsOn (record { base = v; sweep = pin.sweep }) ds now past past) → ObservesOn from pin ds now past past }
-    ensures commit { (from : RevVec) (pin : Pin) (ds now : Documents) (past : Past) (done : Progress) (r : Revision) (drawn : Draw) → IsKeptWorld ds past done → AreHeld past from pin → draw_of past r ≡ Some drawn → MayCommit past r → ((v : RevVec) → IsHeld past v pin.sweep → ReadsOn (record { base = v; sweep = pin.sweep }) ds now past (event.Commit r ∷ past)) → ObservesOn from pin ds now past (event.Commit r ∷ past) }
+    ensures event { (from : RevVec) (pin : Pin) (ds : Documents) (past : Past) (done : Progress)
+        (e : Event) → IsKeptWorld ds past done → ((r : Revision) → IsFalse (is_commit_of r e))
+        → ((d : Draw) → e ≡ event.Draw d → edit_of past d.revision ≡ None)
+        → ObservesOn from pin ds ds past (e ∷ past) }
+    ensures documents { (from : RevVec) (pin : Pin) (ds now : Documents) (past : Past)
+        (done : Progress) → IsKeptWorld ds past done → AreHeld past from pin
+        → ((v : RevVec) → IsHeld past v pin.sweep
+        → ReadsOn (record { base = v; sweep = pin.sweep }) ds now past past)
+        → ObservesOn from pin ds now past past }
+    ensures commit { (from : RevVec) (pin : Pin) (ds now : Documents) (past : Past)
+        (done : Progress) (r : Revision) (drawn : Draw) → IsKeptWorld ds past done
+        → AreHeld past from pin → draw_of past r ≡ Some drawn → MayCommit past r
+        → ((v : RevVec) → IsHeld past v pin.sweep
+        → ReadsOn (record { base = v; sweep = pin.sweep }) ds now past (event.Commit r ∷ past))
+        → ObservesOn from pin ds now past (event.Commit r ∷ past) }
+{}
+
+/// In a run by a law each commit writes something, between whichever vectors: nothing may start
+/// that writes nothing.
+pub fn commits_write_something<L: Law>(law: &L)
+    ensures { (clusters : ℕ) (sessions : List ℕ) (past : Past) (from to : RevVec)
+        → AreNodes clusters sessions
+        → IsRunOf (L.may_start law.now) (L.may_say law.now) clusters sessions None past
+        → AreWriting past from to }
 {}

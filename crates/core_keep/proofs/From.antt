@@ -9,7 +9,8 @@ use Rattle.jr_rev.specs.declared.revision.Revision.{Revision}
 use Rattle.jr_rev.specs.declared.vector.RevVec.{RevVec}
 use Rattle.jr_rev.specs.Vectors.{sees}
 use Rattle.jr_tree.specs.declared.edit.Write.{Write}
-use Rattle.jr_tree.specs.Trees.{Nodes, born_at, node_at, property_at}
+use Rattle.jr_tree.specs.declared.tree.Node.{Node}
+use Rattle.jr_tree.specs.Trees.{Nodes, IsTree, born_at, born_of, node_at, property_at}
 use Rattle.jr_tree.specs.Edits.{applied}
 use Rattle.jr_tree.specs.Items.{here_of, put_of, written, Fits}
 use Rattle.jr_tree.proofs.AtPath.{InOrder, order-applied}
@@ -50,7 +51,7 @@ unseen b t s e es h tells = record {
 }
 
 -- the edit that writes a node last added it, where it is there
-dated : (r : Revision) (w : Option Bool) (there : Bool) (before first : Option Revision) (rest : Option (Revision × Bool)) → before ≡ cond there (option_or (option_map (λ (f : Revision × Bool). f.0) rest) first) None
+pub dated : (r : Revision) (w : Option Bool) (there : Bool) (before first : Option Revision) (rest : Option (Revision × Bool)) → before ≡ cond there (option_or (option_map (λ (f : Revision × Bool). f.0) rest) first) None
     → cond (unwrap_or w there) (cond (is_some w) (Some r) before) None ≡ cond (unwrap_or w there) (option_or (option_map (λ (f : Revision × Bool). f.0) (option_or (option_map (λ x. (r, x)) w) rest)) first) None
 dated r (Some true) there before first rest h = refl
 dated r (Some false) there before first rest h = refl
@@ -71,7 +72,7 @@ seen b t s e es h tells fits = record {
       ∙ ap (λ c. cond (is_some (node_at (applied (Some e.0) t e.1) p)) (option_or (option_map (λ (f : Revision × Bool). f.0) (option_or (option_map (λ x. (e.0, x)) (cond c (written (here_of p) e.1) None)) (last_entry (here_of p) s es))) (born_at b p)) None) (sym h)));
 }
 
-module _ (b : Nodes) (first : IsFirst b) (base : Revision → Sight) where
+module _ (b : Nodes) (tree : IsTree b) (base : Revision → Sight) where
   -- what fits the tree of the base fits a tree that sees more
   carried : (e : Revision × List Write) (es : Commits) (s : Sight) → IsSoundFrom b base e es → Each (λ o. base e.0 o.0 ≡ true → s o.0 ≡ true) es
       → TellsFrom b (tree_from b (base e.0) es) (base e.0) es → TellsFrom b (tree_from b s es) s es → Fits (tree_from b (base e.0) es) e.1 → Fits (tree_from b s es) e.1
@@ -87,20 +88,16 @@ module _ (b : Nodes) (first : IsFirst b) (base : Revision → Sight) where
 
   pub tells_from : (es : Commits) → AreSoundFrom b base es → (s : Sight) → Closed base s es → TellsFrom b (tree_from b s es) s es
   tells_from [] sound s closed = record {
-    order = first.tree.paths;
-    orderly = Orderly-all b first.tree.names;
+    order = tree.paths;
+    orderly = Orderly-all b tree.names;
     node = λ p. refl;
     prop = λ p n. refl;
-    born = λ p. by p (is_some (node_at b p)) refl;
+    born = λ p. by (node_at b p);
   }
     where
-      none : (o : Option Revision) → is_some o ≡ false → o ≡ None
-      none None h = refl
-      none (Some x) h = absurd (false≢true (sym h))
-
-      by : (p : Path) (c : Bool) → is_some (node_at b p) ≡ c → born_at b p ≡ cond c (born_at b p) None
-      by p true h = refl
-      by p false h = none (born_at b p) (sym (first.dated p) ∙ h)
+      by : (o : Option Node) → born_of o ≡ cond (is_some o) (born_of o) None
+      by None = refl
+      by (Some node) = refl
   tells_from (e ∷ es) sound s closed =
       let now : TellsFrom b (tree_from b s es) s es = tells_from es sound.1 s closed.1 in
       (elim (s e.0) as (λ c. s e.0 ≡ c → TellsFrom b (cond c (applied (Some e.0) (tree_from b s es) e.1) (tree_from b s es)) s (e ∷ es)) [
@@ -163,4 +160,4 @@ pub reading_from : (start : Start) (past : Past) (base : Revision → Sight) (ds
 reading_from start past base ds v t first sound closed keeps course down held p =
     found ds (course_from start past) keeps course down t v held p (tree_at (Some start) past v)
     (shows_from (course_from start past) first (sees v) (tree_at (Some start) past v)
-    (subst (λ (tree : Nodes). TellsFrom start.tree tree (sees v) (falling_from past)) (tree_onto_from start.tree (sees v) [] (committed_edits past)) (tells_from start.tree first base (falling_from past) sound (sees v) closed)))
+    (subst (λ (tree : Nodes). TellsFrom start.tree tree (sees v) (falling_from past)) (tree_onto_from start.tree (sees v) [] (committed_edits past)) (tells_from start.tree first.tree base (falling_from past) sound (sees v) closed)))

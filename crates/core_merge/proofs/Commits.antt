@@ -9,26 +9,25 @@ use mathlib.Core.Bool.{false≢true}
 use Rattle.jr_path.specs.Names.{path_cmp}
 use Rattle.jr_path.proofs.Maps.{path_total}
 use Rattle.jr_rev.specs.declared.revision.Revision.{Revision}
-use Rattle.jr_rev.specs.Revisions.{revision_cmp, is_before, is_same}
+use Rattle.jr_rev.specs.Revisions.{is_before, is_same}
 use Rattle.jr_rev.specs.Vectors.{sees}
 use Rattle.jr_tree.specs.declared.edit.Write.{Write}
 use Rattle.oak_clash.specs.declared.mark.MarkAt.{MarkAt}
 use Rattle.oak_clash.specs.Clashes.{clash, clashing}
 use Rattle.oak_clash.proofs.Marks.{clash-symm}
-use Rattle.oak_doc.specs.Updates.{of_revision}
 use Rattle.oak_machine.specs.declared.event.Draw.{Draw}
 use Rattle.oak_machine.specs.declared.event.Event.TheVariants as event
-use Rattle.oak_machine.specs.History.{Past}
-use Rattle.oak_machine.specs.Commits.{draw_of, committed_edits, is_drawn, is_committed, is_ended, is_in_base, are_clashing, marks_of}
+use Rattle.oak_machine.specs.History.{Begin, Past, begin_tree}
+use Rattle.oak_machine.specs.Commits.{draw_of, is_drawn, is_committed, is_ended, is_in_base, are_clashing, marks_of}
 use Rattle.oak_machine.specs.Laws.{Starts, Says, StartsProper}
 use Rattle.oak_machine.specs.Runs.{IsRunOf, AreNodes, MayCommit}
-use Rattle.core_read.specs.Holds.{edit_of, the_start, start_writes}
-use Rattle.core_read.specs.Told.{IsTold}
-use Rattle.core_read.proofs.Committed.{committed}
 use Rattle.core_read.proofs.Falling.{not_both}
 use Rattle.core_read.proofs.Latest.{same_revision, before_itself}
-use Rattle.core_read.proofs.Told.{edit_committed, pending}
-use Rattle.core_heads.proofs.Runs.{fresh_run, told_past}
+use Rattle.core_read.proofs.Told.{edit_committed}
+use Rattle.core_heads.proofs.Runs.{fresh_run}
+use Rattle.core_begun.specs.Told.{edit_since, start_in, IsToldSince}
+use Rattle.core_begun.proofs.Committed.{committed}
+use Rattle.core_begun.proofs.Runs.{told_run}
 use Rattle.core_merge.specs.Independent.{MarkParents, StartsMarkingParents, AreIndependent, AreMergeable}
 use Rattle.core_merge.proofs.Marks.{independent_marks}
 
@@ -72,8 +71,8 @@ drawn : (b ended : Bool) → (b && not ended) ≡ true → b ≡ true
 drawn true ended h = refl
 drawn false ended h = h
 
-module _ (clusters : ℕ) (sessions : List ℕ) (nodes : AreNodes clusters sessions) (starts : Starts) (says : Says) where
-  committed_drawn : (past : Past) → IsRunOf starts says clusters sessions None past → (r : Revision) → is_committed past r ≡ true → is_drawn past r ≡ true
+module _ (clusters : ℕ) (sessions : List ℕ) (nodes : AreNodes clusters sessions) (begin : Begin) (starts : Starts) (says : Says) where
+  committed_drawn : (past : Past) → IsRunOf starts says clusters sessions begin past → (r : Revision) → is_committed past r ≡ true → is_drawn past r ≡ true
   committed_drawn [] run r h = absurd (false≢true h)
   committed_drawn (event.Commit c ∷ past) run r h = by (is_same r c) refl h (λ k. committed_drawn past run.1 r k)
     where
@@ -88,15 +87,15 @@ module _ (clusters : ℕ) (sessions : List ℕ) (nodes : AreNodes clusters sessi
   committed_drawn (e ∷ past) run r h = committed_drawn past run.1 r h
 
   -- a later draw is of another revision than what is committed
-  draw_kept : (past : Past) (d : Draw) → IsRunOf starts says clusters sessions None (event.Draw d ∷ past) → (r : Revision) → is_committed past r ≡ true → draw_of (event.Draw d ∷ past) r ≡ draw_of past r
+  draw_kept : (past : Past) (d : Draw) → IsRunOf starts says clusters sessions begin (event.Draw d ∷ past) → (r : Revision) → is_committed past r ≡ true → draw_of (event.Draw d ∷ past) r ≡ draw_of past r
   draw_kept past d run r h = by (is_same r d.revision) refl
     where
       by : (b : Bool) → is_same r d.revision ≡ b → cond b (Some d) (draw_of past r) ≡ draw_of past r
       by false e = refl
-      by true e = absurd (false≢true (sym (ap is_some (ap (draw_of past) (same_revision r d.revision e) ∙ (fresh_run clusters sessions nodes None starts says d past run).fresh)) ∙ committed_drawn past run.1 r h))
+      by true e = absurd (false≢true (sym (ap is_some (ap (draw_of past) (same_revision r d.revision e) ∙ (fresh_run clusters sessions nodes begin starts says d past run).fresh)) ∙ committed_drawn past run.1 r h))
 
   -- of two commits that clash, the base of one sees the other
-  pub unseen_apart : (past : Past) → IsRunOf starts says clusters sessions None past → (r o : Revision) → is_committed past r ≡ true → is_committed past o ≡ true → (r ≡ o → ⊥)
+  pub unseen_apart : (past : Past) → IsRunOf starts says clusters sessions begin past → (r o : Revision) → is_committed past r ≡ true → is_committed past o ≡ true → (r ≡ o → ⊥)
       → is_in_base past r o ≡ false → is_in_base past o r ≡ false → are_clashing past r o ≡ false
   unseen_apart [] run r o c k other s t = absurd (false≢true c)
   unseen_apart (event.Commit x ∷ past) run r o c k other s t = by (is_same r x) refl (is_same o x) refl c k (λ c k. unseen_apart past run.1 r o c k other s t)
@@ -122,7 +121,7 @@ module _ (clusters : ℕ) (sessions : List ℕ) (nodes : AreNodes clusters sessi
   marks_is past r d drawn = ap (λ (x : Option Draw). option_map_or (λ d. d.marks) x []) drawn
 
   -- each draw has marked the parents of the nodes that it adds or removes
-  marked_draws : StartsMarkingParents starts → (past : Past) → IsRunOf starts says clusters sessions None past → (r : Revision) (d : Draw) → draw_of past r ≡ Some d → MarkParents d.marks d.edit.writes
+  marked_draws : StartsMarkingParents starts → (past : Past) → IsRunOf starts says clusters sessions begin past → (r : Revision) (d : Draw) → draw_of past r ≡ Some d → MarkParents d.marks d.edit.writes
   marked_draws marking [] run r d h = absurd (false≢true (ap is_some h))
   marked_draws marking (event.Draw e ∷ past) run r d h = by (is_same r e.revision) h (λ k. marked_draws marking past run.1 r d k)
     where
@@ -132,29 +131,26 @@ module _ (clusters : ℕ) (sessions : List ℕ) (nodes : AreNodes clusters sessi
   marked_draws marking (e ∷ past) run r d h = marked_draws marking past run.1 r d h
 
   -- the edit of what is committed is that of its draw
-  pub committed_edit : StartsProper starts → (past : Past) → IsRunOf starts says clusters sessions None past → (r : Revision) (d : Draw) → is_committed past r ≡ true → draw_of past r ≡ Some d → edit_of past r ≡ Some d.edit.writes
-  committed_edit proper [] run r d c h = absurd (false≢true c)
-  committed_edit proper (event.Commit x ∷ past) run r d c h = by (draw_of past x) refl (λ k. committed_edit proper past run.1 r d k h)
+  pub committed_edit : (past : Past) → IsRunOf starts says clusters sessions begin past → (r : Revision) (d : Draw) → is_committed past r ≡ true → draw_of past r ≡ Some d → edit_since past r ≡ Some d.edit.writes
+  committed_edit [] run r d c h = absurd (false≢true c)
+  committed_edit (event.Commit x ∷ past) run r d c h = by (draw_of past x) refl (λ k. committed_edit past run.1 r d k h)
     where
-      told : IsTold past
-      told = told_past clusters sessions nodes starts says proper past run.1
-
-      at_other : (b : Bool) → is_same r x ≡ b → (e : Draw) → draw_of past x ≡ Some e → (b || is_committed past r) ≡ true → (is_committed past r ≡ true → edit_of past r ≡ Some d.edit.writes) → cond b (Some e.edit.writes) (edit_of past r) ≡ Some d.edit.writes
+      at_other : (b : Bool) → is_same r x ≡ b → (e : Draw) → draw_of past x ≡ Some e → (b || is_committed past r) ≡ true → (is_committed past r ≡ true → edit_since past r ≡ Some d.edit.writes) → cond b (Some e.edit.writes) (edit_since past r) ≡ Some d.edit.writes
       at_other true k e is c rest = ap (λ (o : Option Draw). option_map (λ (d : Draw). d.edit.writes) o) (sym is ∙ (ap (draw_of past) (sym (same_revision r x k)) ∙ h))
       at_other false k e is c rest = rest c
 
-      by : (o : Option Draw) → draw_of past x ≡ o → (is_committed past r ≡ true → edit_of past r ≡ Some d.edit.writes) → edit_of (event.Commit x ∷ past) r ≡ Some d.edit.writes
+      by : (o : Option Draw) → draw_of past x ≡ o → (is_committed past r ≡ true → edit_since past r ≡ Some d.edit.writes) → edit_since (event.Commit x ∷ past) r ≡ Some d.edit.writes
       by None e rest = absurd (false≢true (sym (ap is_some e) ∙ drawn (is_drawn past x) (is_ended past x) run.0.open_.in_flight))
-      by (Some e) is rest = committed past x e (pending past x e told run.0 is) (told.draws x e is).after is r ∙ at_other (is_same r x) refl e is c rest
-  committed_edit proper (event.Draw e ∷ past) run r d c h = committed_edit proper past run.1 r d c (sym (draw_kept past e run r c) ∙ h)
-  committed_edit proper (e ∷ past) run r d c h = committed_edit proper past run.1 r d c h
+      by (Some e) is rest = committed (begin_tree begin) past x e is r ∙ at_other (is_same r x) refl e is c rest
+  committed_edit (event.Draw e ∷ past) run r d c h = committed_edit past run.1 r d c (sym (draw_kept past e run r c) ∙ h)
+  committed_edit (e ∷ past) run r d c h = committed_edit past run.1 r d c h
 
-  module _ (proper : StartsProper starts) (marking : StartsMarkingParents starts) (past : Past) (run : IsRunOf starts says clusters sessions None past) where
-    told : IsTold past
-    told = told_past clusters sessions nodes starts says proper past run
+  module _ (proper : StartsProper starts) (marking : StartsMarkingParents starts) (past : Past) (run : IsRunOf starts says clusters sessions begin past) where
+    told : IsToldSince (start_in clusters begin) past
+    told = told_run starts says proper clusters sessions nodes begin past run
 
-    pub committed_is : (o : Revision) (us : List Write) → edit_of past o ≡ Some us → eq_by_cmp revision_cmp o the_start ≡ false → is_committed past o ≡ true
-    committed_is o us e not_start = edit_committed past o (sym (ap (λ b. is_some (cond b (Some start_writes) (of_revision (committed_edits past) o))) not_start) ∙ ap is_some e)
+    pub committed_is : (o : Revision) (us : List Write) → edit_since past o ≡ Some us → is_committed past o ≡ true
+    committed_is o us e = edit_committed past o (ap is_some e)
 
     -- draws that don't clash are independent
     independent : (r o : Revision) (d e : Draw) → draw_of past r ≡ Some d → draw_of past o ≡ Some e → are_clashing past r o ≡ false → AreIndependent d.edit.writes e.edit.writes
@@ -167,37 +163,22 @@ module _ (clusters : ℕ) (sessions : List ℕ) (nodes : AreNodes clusters sessi
     independent_commits r o d e c k h l other s t = independent r o d e h l (unseen_apart past run r o c k other s t)
 
     -- what may be committed, with each commit that its base doesn't see
-    pub independent_of : (r : Revision) (d : Draw) → draw_of past r ≡ Some d → MayCommit past r → (o : Revision) (us : List Write) → edit_of past o ≡ Some us → is_in_base past r o ≡ false → AreIndependent d.edit.writes us
-    independent_of r d drawn may o us e unseen = by (eq_by_cmp revision_cmp o the_start) refl
-      where
-        by : (b : Bool) → eq_by_cmp revision_cmp o the_start ≡ b → AreIndependent d.edit.writes us
-        by true k = absurd (false≢true (sym unseen ∙ subst (λ (x : Revision). is_in_base past r x ≡ true) (sym (same_revision o the_start k)) (told.draws r d drawn).begins))
-        by false k = let c = told.edits o us e k in subst (λ (xs : List Write). AreIndependent d.edit.writes xs) c.2 (independent r o d c.0 drawn c.1 (may.apart o (committed_is o us e k) unseen))
-
-    -- nothing is before the start
-    after_start : (o : Revision) (us : List Write) → edit_of past o ≡ Some us → is_before o the_start ≡ true → ⊥
-    after_start o us e h = by (eq_by_cmp revision_cmp o the_start) refl
-      where
-        by : (b : Bool) → eq_by_cmp revision_cmp o the_start ≡ b → ⊥
-        by true k = false≢true (sym (before_itself the_start) ∙ subst (λ (x : Revision). is_before x the_start ≡ true) (same_revision o the_start k) h)
-        by false k = let d = told.edits o us e k in false≢true (sym (not_both o the_start h) ∙ (told.draws o d.0 d.1).after)
+    pub independent_of : (r : Revision) (d : Draw) → draw_of past r ≡ Some d → MayCommit past r → (o : Revision) (us : List Write) → edit_since past o ≡ Some us → is_in_base past r o ≡ false → AreIndependent d.edit.writes us
+    independent_of r d drawn may o us e unseen =
+        let c = told.edits o us e in
+        subst (λ (xs : List Write). AreIndependent d.edit.writes xs) c.2 (independent r o d c.0 drawn c.1 (may.apart o (committed_is o us e) unseen))
 
     pub mergeable : AreMergeable past
-    mergeable r o ws us e f before unseen = by (eq_by_cmp revision_cmp r the_start) refl (eq_by_cmp revision_cmp o the_start) refl
+    mergeable r o ws us e f before unseen =
+        let d = told.edits r ws e in
+        let c = told.edits o us f in
+        subst (λ (xs : List Write). AreIndependent xs us) d.2 (subst (λ (xs : List Write). AreIndependent (d.0).edit.writes xs) c.2
+        (independent_commits r o d.0 c.0 (committed_is r ws e) (committed_is o us f) d.1 c.1 other unseen (unseen_back _ refl)))
       where
         other : r ≡ o → ⊥
         other same = false≢true (sym (before_itself o) ∙ subst (λ (x : Revision). is_before o x ≡ true) same before)
 
         -- the earlier one doesn't see the later one
         unseen_back : (b : Bool) → is_in_base past o r ≡ b → b ≡ false
-        unseen_back true h = absurd (false≢true (sym (not_both o r before) ∙ (told.sound.sound o us f).ready.rises r h))
+        unseen_back true h = absurd (false≢true (sym (not_both o r before) ∙ (told.sound o us f).ready.rises r h))
         unseen_back false h = refl
-
-        by : (a : Bool) → eq_by_cmp revision_cmp r the_start ≡ a → (b : Bool) → eq_by_cmp revision_cmp o the_start ≡ b → AreIndependent ws us
-        by true h b k = absurd (after_start o us f (subst (λ (x : Revision). is_before o x ≡ true) (same_revision r the_start h) before))
-        by false h true k = let d = told.edits r ws e h in absurd (false≢true (sym unseen ∙ subst (λ (x : Revision). is_in_base past r x ≡ true) (sym (same_revision o the_start k)) (told.draws r d.0 d.1).begins))
-        by false h false k =
-            let d = told.edits r ws e h in
-            let c = told.edits o us f k in
-            subst (λ (xs : List Write). AreIndependent xs us) d.2 (subst (λ (xs : List Write). AreIndependent (d.0).edit.writes xs) c.2
-            (independent_commits r o d.0 c.0 (committed_is r ws e h) (committed_is o us f k) d.1 c.1 other unseen (unseen_back _ refl)))

@@ -24,18 +24,21 @@ use Rattle.jr_tree.specs.declared.edit.Write.TheVariants.{Here, Gone, Put, Unset
 use Rattle.jr_tree.specs.Trees.{Nodes, born_at, node_at, property_at, IsTree}
 use Rattle.jr_tree.proofs.Undated.{Tree-alike, undated-applied}
 use Rattle.jr_tree.specs.Edits.{applied, is_change, is_emptied, is_unset_of, properties_at, IsProper}
+use Rattle.oak_machine.specs.declared.event.Start.{Start}
 use Rattle.oak_machine.specs.History.{Past}
 use Rattle.jr_tree.specs.Items.{here_of, put_of, written, Fits}
-use Rattle.core_read.specs.Commits.{Sight, last, last_entry, tree_of}
-use Rattle.core_read.specs.Holds.{edit_of, falling, IsSoundPast, IsClosedSight}
+use Rattle.core_read.specs.Commits.{Sight, last, last_entry}
 use Rattle.core_read.specs.Told.{IsIn}
 use Rattle.jr_tree.proofs.AtPath.{order-applied}
 use Rattle.jr_tree.proofs.EditLaw.{Orderly-applied, born_applied, has_applied, property_fitted}
 use Rattle.core_read.proofs.Entries.{both, first, second, same_lists}
-use Rattle.core_read.proofs.Falling.{not_both, tells_falling}
+use Rattle.core_read.proofs.Falling.{not_both}
 use Rattle.core_read.proofs.Latest.{IsLast, IsLastEntry, only, only_entry, last_moved, moved, same_revision, at_most_itself, not_before}
 use Rattle.jr_tree.proofs.Proper.{gone_writes, proper_fits}
-use Rattle.core_read.proofs.Trees.{Tells, dated}
+use Rattle.core_keep.specs.From.{falling_from, tree_from}
+use Rattle.core_keep.proofs.From.{TellsFrom, dated}
+use Rattle.core_begun.specs.Told.{edit_since, IsClosedSince, IsToldSince}
+use Rattle.core_begun.proofs.Course.{tells_since}
 use Rattle.core_merge.specs.Independent.{writes_property, writes_node, AreIndependent}
 use Rattle.core_merge.proofs.Seen.{last_entry_seen, edit_seen, from_seen, last_seen, write_seen}
 
@@ -129,21 +132,21 @@ last_entry_more g h r None with_r none greatest o l = moved g h (λ q. with_r q 
     by q true e = sym (ap g (same_revision q r e) ∙ none)
 
 -- ---- an edit on a tree that has what s sees; it is proper on the tree of its base, which sees less
-module _ (past : Past) (sound : IsSoundPast past) (s base : Sight) (closed : IsClosedSight past base) (ws : List Write) (t : Nodes) (tells : Tells t s (falling past))
+module _ (start : Start) (first_tree : IsTree start.tree) (past : Past) (told : IsToldSince start past) (s base : Sight) (closed : IsClosedSince past base) (ws : List Write) (t : Nodes) (tells : TellsFrom start.tree t s (falling_from past))
     (wider : (o : Revision) → base o ≡ true → s o ≡ true)
-    (apart : (o : Revision) (us : List Write) → edit_of past o ≡ Some us → s o ≡ true → base o ≡ false → AreIndependent ws us)
-    (proper : IsProper (tree_of base (falling past)) ws) where
+    (apart : (o : Revision) (us : List Write) → edit_since past o ≡ Some us → s o ≡ true → base o ≡ false → AreIndependent ws us)
+    (proper : IsProper (tree_from start.tree base (falling_from past)) ws) where
   abbrev before : Nodes
-  before = tree_of base (falling past)
+  before = tree_from start.tree base (falling_from past)
 
-  at_base : Tells before base (falling past)
-  at_base = tells_falling past sound base closed
+  at_base : TellsFrom start.tree before base (falling_from past)
+  at_base = tells_since start past first_tree told base closed
 
   -- what no edit of which it is independent writes is as at the base
-  same_last : {X : Type 0} (f : Write → Option X) → ((us : List Write) → AreIndependent ws us → is_some (written f us) ≡ false) → last f s (falling past) ≡ last f base (falling past)
-  same_last f silent = only (write_seen f past s) (write_seen f past base) (λ q. by q (s q) refl (base q) refl (edit_of past q) refl) _ _ (last_seen f past sound s) (last_seen f past sound base)
+  same_last : {X : Type 0} (f : Write → Option X) → ((us : List Write) → AreIndependent ws us → is_some (written f us) ≡ false) → last f s (falling_from past) ≡ last f base (falling_from past)
+  same_last f silent = only (write_seen f past s) (write_seen f past base) (λ q. by q (s q) refl (base q) refl (edit_since past q) refl) _ _ (last_seen f past s) (last_seen f past base)
     where
-      by : (q : Revision) (a : Bool) → s q ≡ a → (b : Bool) → base q ≡ b → (o : Option (List Write)) → edit_of past q ≡ o → option_and_then (written f) (cond a o None) ≡ option_and_then (written f) (cond b o None)
+      by : (q : Revision) (a : Bool) → s q ≡ a → (b : Bool) → base q ≡ b → (o : Option (List Write)) → edit_since past q ≡ o → option_and_then (written f) (cond a o None) ≡ option_and_then (written f) (cond b o None)
       by q true h true k o l = refl
       by q false h false k o l = refl
       by q false h true k o l = absurd (false≢true (sym h ∙ wider q k))
@@ -151,10 +154,10 @@ module _ (past : Past) (sound : IsSoundPast past) (s base : Sight) (closed : IsC
       by q true h false k (Some us) l = none_of _ (silent us (apart q us l h k))
 
   same_node : (p : Path) → ((us : List Write) → AreIndependent ws us → writes_node p us ≡ false) → is_some (node_at t p) ≡ is_some (node_at before p)
-  same_node p silent = tells.node p ∙ (ap (λ o. unwrap_or o false) (same_last (here_of p) silent) ∙ sym (at_base.node p))
+  same_node p silent = tells.node p ∙ (ap (λ o. unwrap_or o (is_some (node_at start.tree p))) (same_last (here_of p) silent) ∙ sym (at_base.node p))
 
   same_prop : (p : Path) (n : Name) → ((us : List Write) → AreIndependent ws us → writes_property p n us ≡ false) → property_at t p n ≡ property_at before p n
-  same_prop p n silent = tells.prop p n ∙ (ap (λ o. unwrap_or o None) (same_last (put_of p n) silent) ∙ sym (at_base.prop p n))
+  same_prop p n silent = tells.prop p n ∙ (ap (λ o. unwrap_or o (property_at start.tree p n)) (same_last (put_of p n) silent) ∙ sym (at_base.prop p n))
 
   fits_base : Fits before ws
   fits_base = proper_fits before ws at_base.order proper
@@ -217,7 +220,7 @@ module _ (past : Past) (sound : IsSoundPast past) (s base : Sight) (closed : IsC
   }
 
   -- ---- what is seen with the edit too, which is that of r
-  module _ (later : Past) (now : IsSoundPast later) (wide : Sight) (r : Revision)
+  module _ (later : Past) (wide : Sight) (r : Revision)
       (with_r : (q : Revision) → edit_seen later wide q ≡ cond (eq_by_cmp revision_cmp q r) (Some ws) (edit_seen past s q))
       (not_yet : edit_seen past s r ≡ None)
       (rises : (q : Revision) → base q ≡ true → is_before q r ≡ true) where
@@ -225,35 +228,35 @@ module _ (past : Past) (sound : IsSoundPast past) (s base : Sight) (closed : IsC
         → is_some (written f ws) ≡ true → (q : Revision) → is_some (write_seen f past s q) ≡ true → is_at_most q r ≡ true
     greatest f silent m q h = from_seen f past s q _ refl (λ o. is_some o ≡ true → is_at_most q r ≡ true) (λ k. absurd (false≢true k)) (λ us e seen k. by us e seen k (is_before r q) refl (base q) refl) h
       where
-        by : (us : List Write) → edit_of past q ≡ Some us → s q ≡ true → is_some (written f us) ≡ true → (b : Bool) → is_before r q ≡ b → (c : Bool) → base q ≡ c → is_at_most q r ≡ true
+        by : (us : List Write) → edit_since past q ≡ Some us → s q ≡ true → is_some (written f us) ≡ true → (b : Bool) → is_before r q ≡ b → (c : Bool) → base q ≡ c → is_at_most q r ≡ true
         by us e seen k false l c o = not_before r q l
         by us e seen k true l true o = absurd (false≢true (sym (not_both r q l) ∙ rises q o))
         by us e seen k true l false o = absurd (false≢true (sym (silent us (apart q us e seen o) m) ∙ k))
 
-    last_with : {X : Type 0} (f : Write → Option X) → ((us : List Write) → AreIndependent ws us → is_some (written f ws) ≡ true → is_some (written f us) ≡ false) → last f wide (falling later) ≡ option_or (written f ws) (last f s (falling past))
-    last_with f silent = only (write_seen f later wide) (write_seen f later wide) (λ q. refl) _ _ (last_seen f later now wide)
-        (last_more (write_seen f past s) (write_seen f later wide) r (written f ws) (λ q. ap (option_and_then (written f)) (with_r q) ∙ by q (eq_by_cmp revision_cmp q r)) (ap (option_and_then (written f)) not_yet) (greatest f silent) _ (last_seen f past sound s))
+    last_with : {X : Type 0} (f : Write → Option X) → ((us : List Write) → AreIndependent ws us → is_some (written f ws) ≡ true → is_some (written f us) ≡ false) → last f wide (falling_from later) ≡ option_or (written f ws) (last f s (falling_from past))
+    last_with f silent = only (write_seen f later wide) (write_seen f later wide) (λ q. refl) _ _ (last_seen f later wide)
+        (last_more (write_seen f past s) (write_seen f later wide) r (written f ws) (λ q. ap (option_and_then (written f)) (with_r q) ∙ by q (eq_by_cmp revision_cmp q r)) (ap (option_and_then (written f)) not_yet) (greatest f silent) _ (last_seen f past s))
       where
         by : (q : Revision) (b : Bool) → option_and_then (written f) (cond b (Some ws) (edit_seen past s q)) ≡ cond b (written f ws) (write_seen f past s q)
         by q true = refl
         by q false = refl
 
-    last_entry_with : {X : Type 0} (f : Write → Option X) → ((us : List Write) → AreIndependent ws us → is_some (written f ws) ≡ true → is_some (written f us) ≡ false) → last_entry f wide (falling later) ≡ option_or (option_map (λ x. (r, x)) (written f ws)) (last_entry f s (falling past))
-    last_entry_with f silent = only_entry (write_seen f later wide) (write_seen f later wide) (λ q. refl) _ _ (last_entry_seen f later now wide)
-        (last_entry_more (write_seen f past s) (write_seen f later wide) r (written f ws) (λ q. ap (option_and_then (written f)) (with_r q) ∙ by q (eq_by_cmp revision_cmp q r)) (ap (option_and_then (written f)) not_yet) (greatest f silent) _ (last_entry_seen f past sound s))
+    last_entry_with : {X : Type 0} (f : Write → Option X) → ((us : List Write) → AreIndependent ws us → is_some (written f ws) ≡ true → is_some (written f us) ≡ false) → last_entry f wide (falling_from later) ≡ option_or (option_map (λ x. (r, x)) (written f ws)) (last_entry f s (falling_from past))
+    last_entry_with f silent = only_entry (write_seen f later wide) (write_seen f later wide) (λ q. refl) _ _ (last_entry_seen f later wide)
+        (last_entry_more (write_seen f past s) (write_seen f later wide) r (written f ws) (λ q. ap (option_and_then (written f)) (with_r q) ∙ by q (eq_by_cmp revision_cmp q r)) (ap (option_and_then (written f)) not_yet) (greatest f silent) _ (last_entry_seen f past s))
       where
         by : (q : Revision) (b : Bool) → option_and_then (written f) (cond b (Some ws) (edit_seen past s q)) ≡ cond b (written f ws) (write_seen f past s q)
         by q true = refl
         by q false = refl
 
-    pub tells_with : Tells (applied (Some r) t ws) wide (falling later)
+    pub tells_with : TellsFrom start.tree (applied (Some r) t ws) wide (falling_from later)
     tells_with = record {
       order = order-applied (Some r) t ws tells.order;
       orderly = Orderly-applied (Some r) t ws tells.order tells.orderly;
-      node = λ p. has_applied (Some r) t ws tells.order p ∙ (ap (unwrap_or (written (here_of p) ws)) (tells.node p) ∙ (or_last (written (here_of p) ws) (last (here_of p) s (falling past)) false ∙ ap (λ o. unwrap_or o false) (sym (last_with (here_of p) (λ us i m. i.nodes p m)))));
-      prop = λ p n. property_fitted (Some r) t ws tells.order tells.orderly fits p n ∙ (ap (unwrap_or (written (put_of p n) ws)) (tells.prop p n) ∙ (or_last (written (put_of p n) ws) (last (put_of p n) s (falling past)) None ∙ ap (λ o. unwrap_or o None) (sym (last_with (put_of p n) (λ us i m. i.properties p n m)))));
+      node = λ p. has_applied (Some r) t ws tells.order p ∙ (ap (unwrap_or (written (here_of p) ws)) (tells.node p) ∙ (or_last (written (here_of p) ws) (last (here_of p) s (falling_from past)) (is_some (node_at start.tree p)) ∙ ap (λ o. unwrap_or o (is_some (node_at start.tree p))) (sym (last_with (here_of p) (λ us i m. i.nodes p m)))));
+      prop = λ p n. property_fitted (Some r) t ws tells.order tells.orderly fits p n ∙ (ap (unwrap_or (written (put_of p n) ws)) (tells.prop p n) ∙ (or_last (written (put_of p n) ws) (last (put_of p n) s (falling_from past)) (property_at start.tree p n) ∙ ap (λ o. unwrap_or o (property_at start.tree p n)) (sym (last_with (put_of p n) (λ us i m. i.properties p n m)))));
       born = λ p. born_applied (Some r) t ws tells.order p
-          ∙ (dated r (written (here_of p) ws) (is_some (node_at t p)) (born_at t p) (last_entry (here_of p) s (falling past)) (tells.born p)
-          ∙ (ap (λ b. cond b (option_map (λ (e : Revision × Bool). e.0) (option_or (option_map (λ x. (r, x)) (written (here_of p) ws)) (last_entry (here_of p) s (falling past)))) None) (sym (has_applied (Some r) t ws tells.order p))
-          ∙ ap (λ (o : Option (Revision × Bool)). cond (is_some (node_at (applied (Some r) t ws) p)) (option_map (λ (e : Revision × Bool). e.0) o) None) (sym (last_entry_with (here_of p) (λ us i m. i.nodes p m)))));
+          ∙ (dated r (written (here_of p) ws) (is_some (node_at t p)) (born_at t p) (born_at start.tree p) (last_entry (here_of p) s (falling_from past)) (tells.born p)
+          ∙ (ap (λ b. cond b (option_or (option_map (λ (e : Revision × Bool). e.0) (option_or (option_map (λ x. (r, x)) (written (here_of p) ws)) (last_entry (here_of p) s (falling_from past)))) (born_at start.tree p)) None) (sym (has_applied (Some r) t ws tells.order p))
+          ∙ ap (λ (o : Option (Revision × Bool)). cond (is_some (node_at (applied (Some r) t ws) p)) (option_or (option_map (λ (e : Revision × Bool). e.0) o) (born_at start.tree p)) None) (sym (last_entry_with (here_of p) (λ us i m. i.nodes p m)))));
     }

@@ -184,7 +184,6 @@ merging = record { clusters = 1; sessions = 1 ∷ 1 ∷ []; begin = None; past =
 
 is_merging : IsMergingRun marking any_said merging
 is_merging = record {
-  begun = refl;
   nodes = one_node;
   run = (
     refl,
@@ -230,5 +229,5 @@ is_merging = record {
 both_there : (is_some (node_at (tree_at None merging.past (vector 2)) a) ≡ true) × (is_some (node_at (tree_at None merging.past (vector 2)) b) ≡ true)
 both_there = (refl, refl)
 
-in_either_order : tree_at None merging.past (vector 2) ≡ tree_by_commits merging.past
+in_either_order : tree_at None merging.past (vector 2) ≡ tree_by_commits None merging.past
 in_either_order = refl

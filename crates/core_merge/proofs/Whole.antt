@@ -1,7 +1,7 @@
 -- What a closed reader sees is a tree.
 use Rattle.std.proofs.Common.{◌≡◌, Bool, true, false, cond, Some, None, Option, [], ◌∷◌, refl, sym, ap, ◌∙◌, subst, is_some}
 use Rattle.std.specs.Cmp.{tied_itself}
-use Rattle.std.specs.Option.{option_and_then, option_map_or, unwrap_or}
+use Rattle.std.specs.Option.{option_map_or, unwrap_or}
 use Rattle.std.specs.Ordering.{is_eq, eq_by_cmp}
 use Rattle.std.specs.FinMap.{is_sorted}
 use Rattle.std.specs.List.{list_all}
@@ -12,17 +12,19 @@ use Rattle.jr_path.proofs.Maps.{path_total}
 use Rattle.jr_tree.specs.declared.tree.Node.{Node}
 use Rattle.jr_tree.specs.Trees.{Nodes, node_at, has_parent, IsTree}
 use Rattle.jr_tree.proofs.Pointwise.{same_path}
+use Rattle.oak_machine.specs.declared.event.Start.{Start}
 use Rattle.oak_machine.specs.History.{Past}
 use Rattle.oak_machine.specs.Commits.{is_in_base}
-use Rattle.jr_tree.specs.Items.{here_of, written}
-use Rattle.core_read.specs.Commits.{Sight, last, tree_of}
-use Rattle.core_read.specs.Holds.{falling, the_start, start_writes, IsSoundPast, IsClosedSight}
+use Rattle.jr_tree.specs.Items.{here_of}
+use Rattle.core_read.specs.Commits.{Sight, last}
 use Rattle.core_read.proofs.Entries.{first, second, both, none_below}
 use Rattle.core_read.proofs.Latest.{IsLast}
-use Rattle.core_read.proofs.Trees.{Tells}
-use Rattle.core_read.proofs.Falling.{tells_falling}
+use Rattle.core_keep.specs.From.{falling_from, tree_from}
+use Rattle.core_keep.proofs.From.{TellsFrom}
+use Rattle.core_begun.specs.Told.{IsClosedSince, IsToldSince}
+use Rattle.core_begun.proofs.Course.{tells_since}
 use Rattle.core_merge.specs.Independent.{AreMergeable}
-use Rattle.core_merge.proofs.Seen.{IsLastWriter, write_seen, last_seen, there, there_is, to_last, to_seen}
+use Rattle.core_merge.proofs.Seen.{IsLastWriter, write_seen, last_seen, there, there_is, to_last}
 use Rattle.core_merge.proofs.Parents.{left_by, parent_seen, proper}
 
 -- what holds of each node that is found holds of each entry
@@ -35,22 +37,22 @@ all_entries test (e ∷ t) s f = both _ _
       | false ↦ λ k. h
     ]) refl)))
 
-module _ (past : Past) (sound : IsSoundPast past) (mergeable : AreMergeable past) (s : Sight) (closed : IsClosedSight past s) (begun : s the_start ≡ true) where
+module _ (start : Start) (first_tree : IsTree start.tree) (past : Past) (told : IsToldSince start past) (mergeable : AreMergeable past) (s : Sight) (closed : IsClosedSince past s) where
   -- a commit leaves the root there
   root_left : (b : Bool) → IsLastWriter past s [] b → b ≡ true
   root_left b w =
-      sym (ap (λ o. unwrap_or o (there past (is_in_base past w.revision) [])) w.wrote)
-      ∙ (sym (left_by past sound w.revision w.writes w.is []) ∙ (proper past sound w.revision w.writes w.is).tree.root)
+      sym (ap (λ o. unwrap_or o (there start past (is_in_base past w.revision) [])) w.wrote)
+      ∙ (sym (left_by start first_tree past told w.revision w.writes w.is []) ∙ (proper start first_tree past told w.revision w.writes w.is).tree.root)
 
-  root_seen : there past s [] ≡ true
-  root_seen = there_is past sound s [] closed ∙ by (last (here_of []) s (falling past)) (last_seen (here_of []) past sound s)
+  root_seen : there start past s [] ≡ true
+  root_seen = there_is past s [] start first_tree told closed ∙ by (last (here_of []) s (falling_from past)) (last_seen (here_of []) past s)
     where
-      by : (o : Option Bool) → IsLast (write_seen (here_of []) past s) o → unwrap_or o false ≡ true
-      by None l = absurd (false≢true (sym (ap is_some (l the_start)) ∙ ap is_some (ap (option_and_then (written (here_of []))) (to_seen past s the_start start_writes refl begun))))
-      by (Some b) l = root_left b (to_last past sound s [] b l)
+      by : (o : Option Bool) → IsLast (write_seen (here_of []) past s) o → unwrap_or o (is_some (node_at start.tree [])) ≡ true
+      by None l = first_tree.root
+      by (Some b) l = root_left b (to_last past s [] b l)
 
   -- a tree that has what is seen
-  pub whole : (t : Nodes) → Tells t s (falling past) → IsTree t
+  pub whole : (t : Nodes) → TellsFrom start.tree t s (falling_from past) → IsTree t
   whole t tells = record {
     paths = tells.order;
     names = all_entries (λ e. is_sorted name_cmp e.1.props) t tells.order (λ p node h. tells.orderly p node h);
@@ -58,12 +60,12 @@ module _ (past : Past) (sound : IsSoundPast past) (mergeable : AreMergeable past
     parents = all_entries (λ e. has_parent t e.0) t tells.order (λ p node h. by p (sym (is_there p) ∙ ap is_some h) (parent_of p) refl);
   }
     where
-      is_there : (p : Path) → is_some (node_at t p) ≡ there past s p
-      is_there p = tells.node p ∙ sym (there_is past sound s p closed)
+      is_there : (p : Path) → is_some (node_at t p) ≡ there start past s p
+      is_there p = tells.node p ∙ sym (there_is past s p start first_tree told closed)
 
-      by : (p : Path) → there past s p ≡ true → (o : Option Path) → parent_of p ≡ o → option_map_or (λ q. is_some (node_at t q)) o true ≡ true
+      by : (p : Path) → there start past s p ≡ true → (o : Option Path) → parent_of p ≡ o → option_map_or (λ q. is_some (node_at t q)) o true ≡ true
       by p h None up = refl
-      by p h (Some q) up = is_there q ∙ parent_seen past sound mergeable s closed p q up h
+      by p h (Some q) up = is_there q ∙ parent_seen start first_tree past told mergeable s closed p q up h
 
-  pub seen_tree : IsTree (tree_of s (falling past))
-  seen_tree = whole (tree_of s (falling past)) (tells_falling past sound s closed)
+  pub seen_tree : IsTree (tree_from start.tree s (falling_from past))
+  seen_tree = whole (tree_from start.tree s (falling_from past)) (tells_since start past first_tree told s closed)

@@ -1,5 +1,5 @@
 -- Edits that can be merged: neither touches what the other writes.
-use Rattle.std.specs.Prelude.{◌≡◌, ℕ, Bool, List, None, Some, is_some, IsTrue, IsFalse}
+use Rattle.std.specs.Prelude.{◌≡◌, ℕ, Bool, List, Some, is_some, IsTrue, IsFalse}
 use Rattle.std.specs.Ordering.{eq_by_cmp}
 use Rattle.std.specs.List.{list_any}
 use Rattle.jr_path.specs.Names.{path_cmp, parent_of}
@@ -13,9 +13,9 @@ use Rattle.oak_clash.specs.declared.mark.MarkAt.{MarkAt}
 use Rattle.oak_machine.specs.History.{History, Past}
 use Rattle.oak_machine.specs.Commits.{is_in_base}
 use Rattle.oak_machine.specs.Laws.{Starts, Says}
-use Rattle.oak_machine.specs.Runs.{IsRunOf, AreNodes}
+use Rattle.oak_machine.specs.Runs.{IsRun, AreNodes}
 use Rattle.jr_tree.specs.Items.{here_of, put_of, written}
-use Rattle.core_read.specs.Holds.{edit_of}
+use Rattle.core_begun.specs.Told.{edit_since}
 
 -- the edit adds or removes the node at p
 abbrev pub writes_node : Path → List Write → Bool
@@ -37,11 +37,11 @@ MarkParents ms ws = (p q : Path) → parent_of p ≡ Some q → IsTrue (writes_n
 abbrev pub StartsMarkingParents : Starts → Type 0
 StartsMarkingParents starts = (h : History) (s : ℕ) (edit : Edit) (marks : List MarkAt) → starts h s edit marks → MarkParents marks edit.writes
 
--- a run of one to eight cluster nodes that begins before any commit, by a law that lets only such edits start
+-- a run of one to eight cluster nodes, from whatever it begins with, by a law that lets only such
+-- edits start
 pub record IsMergingRun (starts : Starts) (says : Says) (h : History) : Type 0 where
-  pub begun : h.begin ≡ None
   pub nodes : AreNodes h.clusters h.sessions
-  pub run : IsRunOf starts says h.clusters h.sessions None h.past
+  pub run : IsRun starts says h
   pub marking : StartsMarkingParents starts
 
 -- two edits write no item both; and where one adds or removes a node, the other writes no property of it and neither adds nor removes its parent
@@ -55,4 +55,6 @@ pub record AreIndependent (ws us : List Write) : Type 0 where
 
 -- each committed edit is independent of each earlier one that its base doesn't see
 abbrev pub AreMergeable : Past → Type 0
-AreMergeable past = (r o : Revision) (ws us : List Write) → edit_of past r ≡ Some ws → edit_of past o ≡ Some us → IsTrue (is_before o r) → IsFalse (is_in_base past r o) → AreIndependent ws us
+AreMergeable past = (r o : Revision) (ws us : List Write) → edit_since past r ≡ Some ws
+    → edit_since past o ≡ Some us → IsTrue (is_before o r) → IsFalse (is_in_base past r o)
+    → AreIndependent ws us

@@ -16,15 +16,15 @@ use Rattle.jr_rev.specs.declared.vector.RevVec.{RevVec}
 use Rattle.oak_machine.specs.declared.event.Event.{Event}
 use Rattle.oak_machine.specs.declared.event.Event.TheVariants as event
 use Rattle.oak_machine.specs.declared.event.StepKind.TheVariants as kind
-use Rattle.oak_machine.specs.History.{Past}
+use Rattle.oak_machine.specs.History.{Begin, Past}
 use Rattle.oak_machine.specs.Laws.{Says, Starts}
 use Rattle.oak_machine.specs.Runs.{IsRunOf}
-use Rattle.oak_machine.specs.Sessions.{has_left, has_login, is_recovered, is_recovery_of}
+use Rattle.oak_machine.specs.Sessions.{cursor_at, has_left, has_login, is_recovered, is_recovery_of, pinned_at, session_base}
 use Rattle.oak_node.specs.Memory.{NodeState}
 use Rattle.oak_node.specs.Pins.{pin_of, with_pin, without_pin}
 use Rattle.core_heads.proofs.Orders.{not_both, same_itself, same_number}
 use Rattle.oak_node.proofs.Places.{remove_sorted}
-use Rattle.core_nodes.specs.Nodes.{ArePinsOf, IsCursorAt, IsPair, IsPinnedAt, base_of_pin, cursor_at, cursor_base, cursor_owner, is_of_node, kept_base, leaves_memory, leaves_pins, moved_pin, owner_base, pinned_at, session_base, without_session}
+use Rattle.core_nodes.specs.Nodes.{ArePinsOf, IsCursorAt, IsPair, IsPinnedAt, base_of_pin, cursor_base, cursor_owner, is_of_node, kept_base, leaves_memory, leaves_pins, moved_pin, owner_base, without_session}
 use Rattle.core_nodes.proofs.Pasts.{not_true}
 
 -- ---- entries by their numbers
@@ -90,19 +90,19 @@ module _ {X : Type 0} (k : ℕ) where
 -- ---- sessions
 
 -- who has left had come
-pub left_had_login : (starts : Starts) (says : Says) (clusters : ℕ) (sessions : List ℕ) (past : Past) → IsRunOf starts says clusters sessions None past → (s : ℕ) → has_left past s ≡ true → has_login past s ≡ true
-left_had_login starts says clusters sessions [] run s h = absurd (false≢true h)
-left_had_login starts says clusters sessions (event.Login t v ∷ past) run s h = or_second (t == s) (has_login past s) (left_had_login starts says clusters sessions past run.1 s h)
+pub left_had_login : (begin : Begin) (starts : Starts) (says : Says) (clusters : ℕ) (sessions : List ℕ) (past : Past) → IsRunOf starts says clusters sessions begin past → (s : ℕ) → has_left past s ≡ true → has_login past s ≡ true
+left_had_login begin starts says clusters sessions [] run s h = absurd (false≢true h)
+left_had_login begin starts says clusters sessions (event.Login t v ∷ past) run s h = or_second (t == s) (has_login past s) (left_had_login begin starts says clusters sessions past run.1 s h)
   where
     or_second : (a b : Bool) → b ≡ true → (a || b) ≡ true
     or_second true b h = refl
     or_second false b h = h
-left_had_login starts says clusters sessions (event.Went t kind.End ∷ past) run s h = by (left_had_login starts says clusters sessions past run.1 s) (t == s) refl h
+left_had_login begin starts says clusters sessions (event.Went t kind.End ∷ past) run s h = by (left_had_login begin starts says clusters sessions past run.1 s) (t == s) refl h
   where
     by : (has_left past s ≡ true → has_login past s ≡ true) → (b : Bool) → (t == s) ≡ b → (b || has_left past s) ≡ true → has_login past s ≡ true
     by rest true e h = subst (λ (n : ℕ). has_login past n ≡ true) (same_number t s e) run.0.0
     by rest false e h = rest h
-left_had_login starts says clusters sessions (e ∷ past) run s h = left_had_login starts says clusters sessions past run.1 s h
+left_had_login begin starts says clusters sessions (e ∷ past) run s h = left_had_login begin starts says clusters sessions past run.1 s h
 
 -- an event that doesn't move it leaves a session's pin where it was
 pub base_left : (past : Past) (e : Event) (s : ℕ) → option_map_or (λ t. t == s) (moved_pin e) false ≡ false → session_base (e ∷ past) s ≡ session_base past s

@@ -15,7 +15,7 @@ use Rattle.jr_rev.specs.declared.vector.Pin.{Pin}
 use Rattle.jr_rev.specs.Revisions.{is_before, is_same}
 use Rattle.oak_machine.specs.declared.event.Event.{Event}
 use Rattle.oak_machine.specs.declared.event.Event.TheVariants as event
-use Rattle.oak_machine.specs.History.{Past}
+use Rattle.oak_machine.specs.History.{Begin, Past}
 use Rattle.oak_machine.specs.Commits.{draw_of, is_drawn, is_ended, is_in_flight}
 use Rattle.oak_machine.specs.Heads.{draws_by, flying, is_flying, local}
 use Rattle.oak_machine.specs.Laws.{Says, Starts}
@@ -116,151 +116,152 @@ recovered_pins_apart sessions past m k s other are = pins_kept sessions (after_e
 
 -- ---- memories
 
--- a stop is told in the memory
-pub stop_kept : (clusters : ℕ) (past : Past) (k : ℕ) (s : NodeState) → IsMemoryOf clusters past k s → IsMemoryOf clusters (event.Stop k ∷ past) k (with_stop s)
-stop_kept clusters past k s is = record {
-  cluster = is.cluster;
-  head = is.head;
-  sweep = is.sweep;
-  last = is.last;
-  above = is.above;
-  stopped = sym (ap (λ b. b || is_stopped past k) (same_itself k));
-  recovered = is.recovered;
-  memory = record {
-    low = is.memory.low;
-    high = is.memory.high;
-    own = is.memory.own;
-    own_node = is.memory.own_node;
-    rising = is.memory.rising;
-    flying = is.memory.flying;
-    of_node = is.memory.of_node;
-    times = is.memory.times;
-    owners = is.memory.owners;
-    stop = λ r. refl;
-  };
-}
+module _ (begin : Begin) where
+  -- a stop is told in the memory
+  pub stop_kept : (clusters : ℕ) (past : Past) (k : ℕ) (s : NodeState) → IsMemoryOf begin clusters past k s → IsMemoryOf begin clusters (event.Stop k ∷ past) k (with_stop s)
+  stop_kept clusters past k s is = record {
+    cluster = is.cluster;
+    head = is.head;
+    sweep = is.sweep;
+    last = is.last;
+    above = is.above;
+    stopped = sym (ap (λ b. b || is_stopped past k) (same_itself k));
+    recovered = is.recovered;
+    memory = record {
+      low = is.memory.low;
+      high = is.memory.high;
+      own = is.memory.own;
+      own_node = is.memory.own_node;
+      rising = is.memory.rising;
+      flying = is.memory.flying;
+      of_node = is.memory.of_node;
+      times = is.memory.times;
+      owners = is.memory.owners;
+      stop = λ r. refl;
+    };
+  }
 
-module _ (starts : Starts) (says : Says) (clusters : ℕ) (sessions : List ℕ) (nodes : AreNodes clusters sessions) where
-  module _ (k : ℕ) (node : IsNode clusters k) where
-    -- what a memory has in flight is what the past has, in the order in which it was drawn
-    pub flying_all : (past : Past) (s : NodeState) → IsRunOf starts says clusters sessions None past → IsMemoryOf clusters past k s → flying_in s.above ≡ reverse (flying past k)
-    flying_all past s run is =
-        ap flying_in is.above
-        ∙ (flying_of_drawn past (revisions_above past k)
-        ∙ (filter_both (is_before (local None past k)) (λ q. not (is_ended past q)) (is_in_flight past) (reverse (draws_by past k)) same
-        ∙ filter_reverse (is_in_flight past) (draws_by past k)))
+  module _ (starts : Starts) (says : Says) (clusters : ℕ) (sessions : List ℕ) (nodes : AreNodes clusters sessions) where
+    module _ (k : ℕ) (node : IsNode clusters k) where
+      -- what a memory has in flight is what the past has, in the order in which it was drawn
+      pub flying_all : (past : Past) (s : NodeState) → IsRunOf starts says clusters sessions begin past → IsMemoryOf begin clusters past k s → flying_in s.above ≡ reverse (flying past k)
+      flying_all past s run is =
+          ap flying_in is.above
+          ∙ (flying_of_drawn past (revisions_above begin past k)
+          ∙ (filter_both (is_before (local begin past k)) (λ q. not (is_ended past q)) (is_in_flight past) (reverse (draws_by past k)) same
+          ∙ filter_reverse (is_in_flight past) (draws_by past k)))
+        where
+          same : (q : Revision) → IsIn q (reverse (draws_by past k)) → (is_before (local begin past k) q && not (is_ended past q)) ≡ is_in_flight past q
+          same q i =
+              let d = draws_in past k q (reverse_in (draws_by past k) q i) in
+              same_and (is_before (local begin past k) q) (is_drawn past q) (not (is_ended past q)) d.0 (λ f. local_before begin clusters sessions nodes past (sound_run clusters sessions nodes begin starts says past run) k q f d.1)
+
+      -- all of it ends, the first first
+      ends_run : (n : ℕ) (past : Past) (s : NodeState) (ds : List Drawn) → s.above ≡ ds → length ds ≤ n → IsRunOf starts says clusters sessions begin past → IsMemoryOf begin clusters past k s
+          → IsRunOf starts says clusters sessions begin (after_ends (flying_in ds) past) × IsMemoryOf begin clusters (after_ends (flying_in ds) past) k (fold finished s (flying_in ds))
+      ends_run n past s [] above few run is = (run, is)
+      ends_run zero past s (d ∷ ds) above few run is = absurd (omega arith)
+      ends_run (suc n) past s (d ∷ ds) above few run is =
+          let r : Revision = d.revision in
+          let now : NodeState = finished s r in
+          let sound = sound_run clusters sessions nodes begin starts says past run in
+          let flies : d.ended ≡ false = not-true d.ended (subst (λ (xs : List Drawn). begins_in_flight xs ≡ true) above is.memory.flying) in
+          let there : IsInFlight s r = subst (λ (xs : List Drawn). Contains xs (record { revision = r; ended = false })) (sym above) (0, omega arith, ap (λ (b : Bool). record { revision = r; ended = b }) flies) in
+          let flight = (flying_is begin clusters sessions nodes past sound k node s is r).0 there in
+          let few' : length now.above ≤ n = (let shorter = above_shorter s d ds above is.memory in omega arith) in
+          let rest = ends_run n (event.End r ∷ past) now now.above refl few' (flight.1, run) (end_kept begin clusters sessions nodes past sound r k node s is) in
+          subst (λ (rs : List Revision). IsRunOf starts says clusters sessions begin (after_ends rs past) × IsMemoryOf begin clusters (after_ends rs past) k (fold finished s rs)) (sym (flying_rest s d ds above is.memory)) rest
+
+      module _ (past : Past) (s : NodeState) (run : IsRunOf starts says clusters sessions begin past) (stopped : is_stopped past k ≡ true) (is : IsMemoryOf begin clusters past k s) where
+        abbrev ends : Past
+        ends = after_ends (reverse (flying past k)) past
+
+        abbrev ended : NodeState
+        ended = with_ends s
+
+        both : IsRunOf starts says clusters sessions begin ends × IsMemoryOf begin clusters ends k ended
+        both = subst (λ (rs : List Revision). IsRunOf starts says clusters sessions begin (after_ends rs past) × IsMemoryOf begin clusters (after_ends rs past) k ended) (flying_all past s run is)
+            (ends_run (length s.above) past s s.above refl (omega arith) run is)
+
+        -- nothing of the node is in flight any more
+        settled : is_flying ends k ≡ false
+        settled = none_any (is_in_flight ends) (draws_by ends k) (λ q i flies.
+            let d = draws_in ends k q i in
+            let there = (flying_is begin clusters sessions nodes ends (sound_run clusters sessions nodes begin starts says ends both.0) k node ended both.1 q).1 (d.1, flies) in
+            let within = subst (λ (xs : List Drawn). Contains xs (record { revision = q; ended = false })) (ap (λ (x : NodeState). x.above) (recovered_is s is.memory)) there in
+            absurd (omega (arith, within.1)))
+
+        memory : IsMemory (with_recovery s)
+        memory = subst IsMemory (sym (recovered_is s is.memory)) (recovered_memory s _ _ [] [] is.memory (is.stopped ∙ stopped) refl refl refl refl)
+
+        pub recovery_run : IsRunOf starts says clusters sessions begin (after_recovery past k) × IsMemoryOf begin clusters (after_recovery past k) k (with_recovery s)
+        recovery_run = (
+          ((ends_stopped (reverse (flying past k)) past k ∙ stopped, settled), both.0),
+          record {
+            cluster = both.1.cluster;
+            head = both.1.head;
+            sweep = both.1.sweep;
+            last = both.1.last;
+            above = both.1.above;
+            stopped = both.1.stopped;
+            recovered = sym (ap (λ b. b || is_recovered ends k) (same_itself k));
+            memory = memory;
+          },
+        )
+
+    -- ---- nothing more of a recovered node is in flight
+
+    pub none_flies : (past : Past) → IsRunOf starts says clusters sessions begin past → (k : ℕ) → is_recovered past k ≡ true → (r : Revision) → r.cluster ≡ k → is_in_flight past r ≡ false
+    none_flies [] run k h r same = refl
+    none_flies (event.Recover m ∷ past) run k h r same = by (m == k) refl h (λ i. none_flies past run.1 k i r same)
       where
-        same : (q : Revision) → IsIn q (reverse (draws_by past k)) → (is_before (local None past k) q && not (is_ended past q)) ≡ is_in_flight past q
-        same q i =
-            let d = draws_in past k q (reverse_in (draws_by past k) q i) in
-            same_and (is_before (local None past k) q) (is_drawn past q) (not (is_ended past q)) d.0 (λ f. local_before clusters sessions nodes past (sound_run clusters sessions nodes None starts says past run) k q f d.1)
+        rests : (m == k) ≡ true → (b : Bool) → is_in_flight past r ≡ b → b ≡ false
+        rests e false f = refl
+        rests e true f = not_both (is_flying past m) (any_in (is_in_flight past) (draws_by past m) r (in_draws past m r (and_both (is_drawn past r) _ f).0 (same ∙ sym (same_number m k e))) f) run.0.1
 
-    -- all of it ends, the first first
-    ends_run : (n : ℕ) (past : Past) (s : NodeState) (ds : List Drawn) → s.above ≡ ds → length ds ≤ n → IsRunOf starts says clusters sessions None past → IsMemoryOf clusters past k s
-        → IsRunOf starts says clusters sessions None (after_ends (flying_in ds) past) × IsMemoryOf clusters (after_ends (flying_in ds) past) k (fold finished s (flying_in ds))
-    ends_run n past s [] above few run is = (run, is)
-    ends_run zero past s (d ∷ ds) above few run is = absurd (omega arith)
-    ends_run (suc n) past s (d ∷ ds) above few run is =
-        let r : Revision = d.revision in
-        let now : NodeState = finished s r in
-        let sound = sound_run clusters sessions nodes None starts says past run in
-        let flies : d.ended ≡ false = not-true d.ended (subst (λ (xs : List Drawn). begins_in_flight xs ≡ true) above is.memory.flying) in
-        let there : IsInFlight s r = subst (λ (xs : List Drawn). Contains xs (record { revision = r; ended = false })) (sym above) (0, omega arith, ap (λ (b : Bool). record { revision = r; ended = b }) flies) in
-        let flight = (flying_is clusters sessions nodes past sound k node s is r).0 there in
-        let few' : length now.above ≤ n = (let shorter = above_shorter s d ds above is.memory in omega arith) in
-        let rest = ends_run n (event.End r ∷ past) now now.above refl few' (flight.1, run) (end_kept clusters sessions nodes past sound r k node s is) in
-        subst (λ (rs : List Revision). IsRunOf starts says clusters sessions None (after_ends rs past) × IsMemoryOf clusters (after_ends rs past) k (fold finished s rs)) (sym (flying_rest s d ds above is.memory)) rest
+        by : (b : Bool) → (m == k) ≡ b → (b || is_recovered past k) ≡ true → (is_recovered past k ≡ true → is_in_flight past r ≡ false) → is_in_flight past r ≡ false
+        by true e i rest = rests e (is_in_flight past r) refl
+        by false e i rest = rest i
+    none_flies (event.Draw d ∷ past) run k h r same = by (is_same r d.revision) refl (none_flies past run.1 k h r same)
+      where
+        goes : is_stopped past d.revision.cluster ≡ false
+        goes = sym (ap (λ o. option_map_or (is_stopped past) o false) run.0.cluster) ∙ run.0.running
 
-    module _ (past : Past) (s : NodeState) (run : IsRunOf starts says clusters sessions None past) (stopped : is_stopped past k ≡ true) (is : IsMemoryOf clusters past k s) where
-      abbrev ends : Past
-      ends = after_ends (reverse (flying past k)) past
+        by : (b : Bool) → is_same r d.revision ≡ b → is_in_flight past r ≡ false → (is_some (cond b (Some d) (draw_of past r)) && not (is_ended past r)) ≡ false
+        by true e rest = not_both (is_stopped past k) (recovered_stopped begin starts says clusters sessions past run.1 k h) (ap (is_stopped past) (sym same ∙ ap (λ (x : Revision). x.cluster) (same_revision r d.revision e)) ∙ goes)
+        by false e rest = rest
+    none_flies (event.End q ∷ past) run k h r same = less (is_drawn past r) (is_same r q) (is_ended past r) (none_flies past run.1 k h r same)
+      where
+        less : (a b c : Bool) → (a && not c) ≡ false → (a && not (b || c)) ≡ false
+        less true true c i = refl
+        less true false c i = i
+        less false b c i = refl
+    none_flies (e ∷ past) run k h r same = none_flies past run.1 k h r same
 
-      abbrev ended : NodeState
-      ended = with_ends s
+    -- the node of a revision in flight wasn't recovered
+    pub flier_alive : (past : Past) → IsRunOf starts says clusters sessions begin past → (r : Revision) → is_in_flight past r ≡ true → is_recovered past r.cluster ≡ false
+    flier_alive past run r flies = by (is_recovered past r.cluster) refl
+      where
+        by : (b : Bool) → is_recovered past r.cluster ≡ b → b ≡ false
+        by true h = not_both (is_in_flight past r) flies (none_flies past run r.cluster h r refl)
+        by false h = refl
 
-      both : IsRunOf starts says clusters sessions None ends × IsMemoryOf clusters ends k ended
-      both = subst (λ (rs : List Revision). IsRunOf starts says clusters sessions None (after_ends rs past) × IsMemoryOf clusters (after_ends rs past) k ended) (flying_all past s run is)
-          (ends_run (length s.above) past s s.above refl (omega arith) run is)
+    -- ---- the others
 
-      -- nothing of the node is in flight any more
-      settled : is_flying ends k ≡ false
-      settled = none_any (is_in_flight ends) (draws_by ends k) (λ q i flies.
-          let d = draws_in ends k q i in
-          let there = (flying_is clusters sessions nodes ends (sound_run clusters sessions nodes None starts says ends both.0) k node ended both.1 q).1 (d.1, flies) in
-          let within = subst (λ (xs : List Drawn). Contains xs (record { revision = q; ended = false })) (ap (λ (x : NodeState). x.above) (recovered_is s is.memory)) there in
-          absurd (omega (arith, within.1)))
+    pub ends_before : (rs : List Revision) (past : Past) → IsRunOf starts says clusters sessions begin (after_ends rs past) → IsRunOf starts says clusters sessions begin past
+    ends_before [] past run = run
+    ends_before (r ∷ rs) past run = (ends_before rs (event.End r ∷ past) run).1
 
-      memory : IsMemory (with_recovery s)
-      memory = subst IsMemory (sym (recovered_is s is.memory)) (recovered_memory s _ _ [] [] is.memory (is.stopped ∙ stopped) refl refl refl refl)
+    ends_apart : (m k : ℕ) → (m == k) ≡ false → (rs : List Revision) → ((q : Revision) → IsIn q rs → q.cluster ≡ m) → (past : Past) (s : NodeState) → IsRunOf starts says clusters sessions begin (after_ends rs past) → IsMemoryOf begin clusters past k s → IsMemoryOf begin clusters (after_ends rs past) k s
+    ends_apart m k other [] of past s run is = is
+    ends_apart m k other (r ∷ rs) of past s run is = ends_apart m k other rs (λ q i. of q (inr i)) (event.End r ∷ past) s run
+        (apart_run begin starts says clusters sessions nodes (event.End r) past k s (ends_before rs (event.End r ∷ past) run) (ap (λ j. not (j == k)) (of r (inl refl)) ∙ ap not other) is)
 
-      pub recovery_run : IsRunOf starts says clusters sessions None (after_recovery past k) × IsMemoryOf clusters (after_recovery past k) k (with_recovery s)
-      recovery_run = (
-        ((ends_stopped (reverse (flying past k)) past k ∙ stopped, settled), both.0),
-        record {
-          cluster = both.1.cluster;
-          head = both.1.head;
-          sweep = both.1.sweep;
-          last = both.1.last;
-          above = both.1.above;
-          stopped = both.1.stopped;
-          recovered = sym (ap (λ b. b || is_recovered ends k) (same_itself k));
-          memory = memory;
-        },
-      )
-
-  -- ---- nothing more of a recovered node is in flight
-
-  pub none_flies : (past : Past) → IsRunOf starts says clusters sessions None past → (k : ℕ) → is_recovered past k ≡ true → (r : Revision) → r.cluster ≡ k → is_in_flight past r ≡ false
-  none_flies [] run k h r same = refl
-  none_flies (event.Recover m ∷ past) run k h r same = by (m == k) refl h (λ i. none_flies past run.1 k i r same)
-    where
-      rests : (m == k) ≡ true → (b : Bool) → is_in_flight past r ≡ b → b ≡ false
-      rests e false f = refl
-      rests e true f = not_both (is_flying past m) (any_in (is_in_flight past) (draws_by past m) r (in_draws past m r (and_both (is_drawn past r) _ f).0 (same ∙ sym (same_number m k e))) f) run.0.1
-
-      by : (b : Bool) → (m == k) ≡ b → (b || is_recovered past k) ≡ true → (is_recovered past k ≡ true → is_in_flight past r ≡ false) → is_in_flight past r ≡ false
-      by true e i rest = rests e (is_in_flight past r) refl
-      by false e i rest = rest i
-  none_flies (event.Draw d ∷ past) run k h r same = by (is_same r d.revision) refl (none_flies past run.1 k h r same)
-    where
-      goes : is_stopped past d.revision.cluster ≡ false
-      goes = sym (ap (λ o. option_map_or (is_stopped past) o false) run.0.cluster) ∙ run.0.running
-
-      by : (b : Bool) → is_same r d.revision ≡ b → is_in_flight past r ≡ false → (is_some (cond b (Some d) (draw_of past r)) && not (is_ended past r)) ≡ false
-      by true e rest = not_both (is_stopped past k) (recovered_stopped starts says clusters sessions past run.1 k h) (ap (is_stopped past) (sym same ∙ ap (λ (x : Revision). x.cluster) (same_revision r d.revision e)) ∙ goes)
-      by false e rest = rest
-  none_flies (event.End q ∷ past) run k h r same = less (is_drawn past r) (is_same r q) (is_ended past r) (none_flies past run.1 k h r same)
-    where
-      less : (a b c : Bool) → (a && not c) ≡ false → (a && not (b || c)) ≡ false
-      less true true c i = refl
-      less true false c i = i
-      less false b c i = refl
-  none_flies (e ∷ past) run k h r same = none_flies past run.1 k h r same
-
-  -- the node of a revision in flight wasn't recovered
-  pub flier_alive : (past : Past) → IsRunOf starts says clusters sessions None past → (r : Revision) → is_in_flight past r ≡ true → is_recovered past r.cluster ≡ false
-  flier_alive past run r flies = by (is_recovered past r.cluster) refl
-    where
-      by : (b : Bool) → is_recovered past r.cluster ≡ b → b ≡ false
-      by true h = not_both (is_in_flight past r) flies (none_flies past run r.cluster h r refl)
-      by false h = refl
-
-  -- ---- the others
-
-  pub ends_before : (rs : List Revision) (past : Past) → IsRunOf starts says clusters sessions None (after_ends rs past) → IsRunOf starts says clusters sessions None past
-  ends_before [] past run = run
-  ends_before (r ∷ rs) past run = (ends_before rs (event.End r ∷ past) run).1
-
-  ends_apart : (m k : ℕ) → (m == k) ≡ false → (rs : List Revision) → ((q : Revision) → IsIn q rs → q.cluster ≡ m) → (past : Past) (s : NodeState) → IsRunOf starts says clusters sessions None (after_ends rs past) → IsMemoryOf clusters past k s → IsMemoryOf clusters (after_ends rs past) k s
-  ends_apart m k other [] of past s run is = is
-  ends_apart m k other (r ∷ rs) of past s run is = ends_apart m k other rs (λ q i. of q (inr i)) (event.End r ∷ past) s run
-      (apart_run starts says clusters sessions nodes (event.End r) past k s (ends_before rs (event.End r ∷ past) run) (ap (λ j. not (j == k)) (of r (inl refl)) ∙ ap not other) is)
-
-  -- the memory of another node stays
-  pub recovery_apart : (past : Past) (m k : ℕ) (s : NodeState) → IsRunOf starts says clusters sessions None (after_recovery past m) → (m == k) ≡ false → IsMemoryOf clusters past k s → IsMemoryOf clusters (after_recovery past m) k s
-  recovery_apart past m k s run other is =
-      apart_run starts says clusters sessions nodes (event.Recover m) (after_ends (reverse (flying past m)) past) k s run (ap not other)
-      (ends_apart m k other (reverse (flying past m)) of past s run.1 is)
-    where
-      of : (q : Revision) → IsIn q (reverse (flying past m)) → q.cluster ≡ m
-      of q i = (draws_in past m q (filter_in (is_in_flight past) (draws_by past m) q (reverse_in (flying past m) q i)).0).1
+    -- the memory of another node stays
+    pub recovery_apart : (past : Past) (m k : ℕ) (s : NodeState) → IsRunOf starts says clusters sessions begin (after_recovery past m) → (m == k) ≡ false → IsMemoryOf begin clusters past k s → IsMemoryOf begin clusters (after_recovery past m) k s
+    recovery_apart past m k s run other is =
+        apart_run begin starts says clusters sessions nodes (event.Recover m) (after_ends (reverse (flying past m)) past) k s run (ap not other)
+        (ends_apart m k other (reverse (flying past m)) of past s run.1 is)
+      where
+        of : (q : Revision) → IsIn q (reverse (flying past m)) → q.cluster ≡ m
+        of q i = (draws_in past m q (filter_in (is_in_flight past) (draws_by past m) q (reverse_in (flying past m) q i)).0).1

@@ -9,7 +9,8 @@ use Rattle.oak_machine.specs.declared.event.StepKind.TheVariants as kind
 use Rattle.oak_machine.specs.History.{Past}
 use Rattle.oak_machine.specs.Heads.{head_of, last_draw_time}
 use Rattle.oak_machine.specs.Runs.{IsRunOf, any_start, any_said}
-use Rattle.core_nodes.specs.Nodes.{cursor_at, drawn_above, draws_made, owner_base, session_base}
+use Rattle.oak_machine.specs.Sessions.{cursor_at, session_base}
+use Rattle.core_nodes.specs.Nodes.{drawn_above, draws_made, owner_base}
 
 abbrev at : ℕ → ℕ → Revision
 at t k = record { time = t; counter = 0; cluster = k }
@@ -57,11 +58,11 @@ is_run = (
 )
 
 -- the head stays below the one in flight, and both are kept above it
-kept_both : (head_of 2 None one_left 1 ≡ start 2) × (drawn_above one_left 1 ≡ record { revision = at 1 1; ended = false } ∷ record { revision = at 2 1; ended = true } ∷ []) × (last_draw_time one_left 1 ≡ 2) × (draws_made one_left ≡ 2)
+kept_both : (head_of 2 None one_left 1 ≡ start 2) × (drawn_above None one_left 1 ≡ record { revision = at 1 1; ended = false } ∷ record { revision = at 2 1; ended = true } ∷ []) × (last_draw_time one_left 1 ≡ 2) × (draws_made one_left ≡ 2)
 kept_both = (refl, refl, refl, refl)
 
 -- then it moves past both
-kept_none : (head_of 2 None none_left 1 ≡ with_entry (start 2) (at 2 1)) × (drawn_above none_left 1 ≡ []) × (head_of 2 None none_left 2 ≡ start 2)
+kept_none : (head_of 2 None none_left 1 ≡ with_entry (start 2) (at 2 1)) × (drawn_above None none_left 1 ≡ []) × (head_of 2 None none_left 2 ≡ start 2)
 kept_none = (refl, refl, refl)
 
 pins_then : (session_base one_left 1 ≡ Some (start 2)) × (session_base none_left 0 ≡ Some (with_entry (start 2) (at 2 1))) × (session_base none_left 1 ≡ None)

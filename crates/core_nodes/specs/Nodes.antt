@@ -10,10 +10,10 @@ use Rattle.jr_rev.specs.Vectors.{IsVector, sees, start_of}
 use Rattle.oak_machine.specs.declared.event.Event.{Event}
 use Rattle.oak_machine.specs.declared.event.Event.TheVariants as event
 use Rattle.oak_machine.specs.declared.event.StepKind.TheVariants as kind
-use Rattle.oak_machine.specs.History.{Past}
+use Rattle.oak_machine.specs.History.{Begin, Past}
 use Rattle.oak_machine.specs.Commits.{is_drawn, is_ended, is_in_flight}
-use Rattle.oak_machine.specs.Heads.{draws_by, flying, head_of, last_draw_time, local}
-use Rattle.oak_machine.specs.Sessions.{has_left, has_login, is_recovered, is_recovery_of, is_stopped}
+use Rattle.oak_machine.specs.Heads.{draws_by, flying, greatest_time, head_of, last_draw_time, local}
+use Rattle.oak_machine.specs.Sessions.{cursor_at, has_left, has_login, is_recovered, is_recovery_of, is_stopped, pinned_at, session_base}
 use Rattle.oak_node.specs.declared.drawn.Drawn.{Drawn}
 use Rattle.oak_node.specs.declared.memory.Awaits.{Awaits}
 use Rattle.oak_node.specs.declared.memory.Awaits.TheVariants.{Ready, Pending}
@@ -27,19 +27,23 @@ use Rattle.core_heads.specs.Sound.{Public}
 abbrev pub as_drawn : Past → Revision → Drawn
 as_drawn past = λ r. record { revision = r; ended = is_ended past r }
 
+-- the greatest time that a journal begins with
+abbrev pub begin_time : Begin → ℕ
+begin_time begin = option_map_or (λ s. greatest_time s.at) begin 0
+
 -- the revisions that cluster node k drew above its local one, the first first
-abbrev pub revisions_above : Past → ℕ → List Revision
-revisions_above past k = filter (is_before (local None past k)) (reverse (draws_by past k))
+abbrev pub revisions_above : Begin → Past → ℕ → List Revision
+revisions_above begin past k = filter (is_before (local begin past k)) (reverse (draws_by past k))
 
 -- the same, as a memory keeps them
-abbrev pub drawn_above : Past → ℕ → List Drawn
-drawn_above past k = map (as_drawn past) (revisions_above past k)
+abbrev pub drawn_above : Begin → Past → ℕ → List Drawn
+drawn_above begin past k = map (as_drawn past) (revisions_above begin past k)
 
 -- r was drawn by cluster node k above its local revision, and has ended or not
-pub record IsAboveOf (past : Past) (k : ℕ) (r : Revision) (e : Bool) : Type 0 where
+pub record IsAboveOf (begin : Begin) (past : Past) (k : ℕ) (r : Revision) (e : Bool) : Type 0 where
   pub node : r.cluster ≡ k
   pub drawn : IsTrue (is_drawn past r)
-  pub above : IsTrue (is_before (local None past k) r)
+  pub above : IsTrue (is_before (local begin past k) r)
   pub ended : is_ended past r ≡ e
 
 -- a vector with the sweep vector that it is taken with: this has eight entries, sees the start, and sees no more than the vector
@@ -49,19 +53,19 @@ pub record IsPair (base sweep : RevVec) : Type 0 where
   pub below : (x : Revision) → IsTrue (sees sweep x) → IsTrue (sees base x)
 
 -- two vectors of the root at a moment: what was public, and with it how far each cluster node had swept
-pub record IsOnRoot (clusters : ℕ) (moment : Past) (last sweep : RevVec) : Type 0 where
+pub record IsOnRoot (begin : Begin) (clusters : ℕ) (moment : Past) (last sweep : RevVec) : Type 0 where
   pub vector : IsVector last
-  pub public : (x : Revision) → IsTrue (sees last x) ↔ Public clusters None moment x
+  pub public : (x : Revision) → IsTrue (sees last x) ↔ Public clusters begin moment x
   pub pair : IsPair last sweep
 
 -- the memory of cluster node k is that of the past: its head, with a sweep vector that goes with it, its last draw, what it
 -- drew above its local revision, and whether it was stopped and recovered
-pub record IsMemoryOf (clusters : ℕ) (past : Past) (k : ℕ) (s : NodeState) : Type 0 where
+pub record IsMemoryOf (begin : Begin) (clusters : ℕ) (past : Past) (k : ℕ) (s : NodeState) : Type 0 where
   pub cluster : s.cluster ≡ k
-  pub head : s.head ≡ head_of clusters None past k
+  pub head : s.head ≡ head_of clusters begin past k
   pub sweep : IsPair s.head s.sweep
   pub last : s.last_time ≡ last_draw_time past k
-  pub above : s.above ≡ drawn_above past k
+  pub above : s.above ≡ drawn_above begin past k
   pub stopped : s.stopped ≡ is_stopped past k
   pub recovered : s.recovered ≡ is_recovered past k
   pub memory : IsMemory s
@@ -88,17 +92,17 @@ draws_made past = count_by is_draw past
 -- ---- waiting
 
 -- the head of k doesn't see r, and q is the earliest revision of k in flight
-pub record AwaitsFlight (clusters : ℕ) (past : Past) (k : ℕ) (r q : Revision) : Type 0 where
-  pub unseen : sees (head_of clusters None past k) r ≡ false
+pub record AwaitsFlight (begin : Begin) (clusters : ℕ) (past : Past) (k : ℕ) (r q : Revision) : Type 0 where
+  pub unseen : sees (head_of clusters begin past k) r ≡ false
   pub flying : IsTrue (is_in_flight past q)
   pub node : q.cluster ≡ k
   pub earlier : IsTrue (is_before q r)
   pub earliest : (o : Revision) → o.cluster ≡ k → IsTrue (is_in_flight past o) → IsTrue (is_at_most q o)
 
 -- the head of k sees r, or r awaits a revision in flight
-abbrev pub IsAwaitedAt : ℕ → Past → ℕ → Revision → Awaits → Type 0
-IsAwaitedAt clusters past k r Ready = sees (head_of clusters None past k) r ≡ true
-IsAwaitedAt clusters past k r (Pending q) = AwaitsFlight clusters past k r q
+abbrev pub IsAwaitedAt : Begin → ℕ → Past → ℕ → Revision → Awaits → Type 0
+IsAwaitedAt begin clusters past k r Ready = sees (head_of clusters begin past k) r ≡ true
+IsAwaitedAt begin clusters past k r (Pending q) = AwaitsFlight begin clusters past k r q
 
 -- ---- recoveries
 
@@ -116,24 +120,6 @@ after_recovery past k = event.Recover k ∷ after_ends (reverse (flying past k))
 -- the session is of cluster node k
 abbrev pub is_of_node : List ℕ → ℕ → ℕ → Bool
 is_of_node sessions k s = option_map_or (λ m. m == k) (slice_get sessions s) false
-
--- the vector of the latest Login or Refresh of s, at which its cluster node pinned it
-abbrev pub pinned_at : Past → ℕ → Option RevVec
-pinned_at [] s = None
-pinned_at (event.Login t v ∷ past) s = cond (t == s) (Some v) (pinned_at past s)
-pinned_at (event.Refresh t v ∷ past) s = cond (t == s) (Some v) (pinned_at past s)
-pinned_at (_ ∷ past) s = pinned_at past s
-
--- the same, from the session's login until it leaves
-abbrev pub session_base : Past → ℕ → Option RevVec
-session_base past s = cond (has_login past s && not (has_left past s)) (pinned_at past s) None
-
--- the vector at which session s pinned its cursor last, which is that of its own pin then, until it leaves
-abbrev pub cursor_at : Past → ℕ → Option RevVec
-cursor_at [] s = None
-cursor_at (event.Went t kind.Pin ∷ past) s = cond (t == s) (session_base past s) (cursor_at past s)
-cursor_at (event.Went t kind.End ∷ past) s = cond (t == s) None (cursor_at past s)
-cursor_at (_ ∷ past) s = cursor_at past s
 
 -- the owner of the cursor of session s: there are at most 64 sessions
 abbrev pub cursor_owner : ℕ → ℕ

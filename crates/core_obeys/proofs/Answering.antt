@@ -118,7 +118,7 @@ module _ (law : JcrLaw) (h : History) (s : ℕ) (m : Command) (c : Call) (none_d
   pub answers_edit : (a : Asked) (text : List ℕ) → a ≡ Allowed m → MaySay law h s a text → AnswersEdit h s m c text
   answers_edit _ _ e (barred n unmoved) = absurd (false≢true (ap (λ (a : Asked). is_some (run_by a)) e))
   answers_edit _ _ e (stopped a k p at is) = undone _ (halted k p at is)
-  answers_edit _ _ e (memory a idle none unmoved) = undone _ (lacking none)
+  answers_edit _ _ e (memory a idle none unmoved unpinned) = undone _ (lacking none)
   answers_edit _ _ e (half_detached v idle moved none) = other command.Detach e refl
   answers_edit _ _ e (viewed n x is call unmoved) = absurd (false≢true (sym (due_unviewed c m commits) ∙ (ap is_viewed (sym (same_command n e)) ∙ is)))
   answers_edit _ _ e (head v is unmoved) = other command.Head e refl
@@ -191,7 +191,7 @@ module _ (law : JcrLaw) (h : History) (run : IsNodesRun (starts_of law) (says_of
   moved_for : (a : Asked) (text : List ℕ) → asked_by h s m ≡ a → MaySay law h s a text → IsUnmoved h s ⊎ MovedFor law h s m text
   moved_for _ _ e (barred n unmoved) = inl unmoved
   moved_for _ _ e (stopped a k p at is) = inr (halting m k p at is)
-  moved_for _ _ e (memory a idle none unmoved) = inl unmoved
+  moved_for _ _ e (memory a idle none unmoved unpinned) = inl unmoved
   moved_for _ _ e (half_detached v idle moved none) = for_it command.Detach _ e (half_detaching v moved none)
   moved_for _ _ e (viewed n x is call unmoved) = inl unmoved
   moved_for _ _ e (head v is unmoved) = inl unmoved

@@ -30,7 +30,7 @@ use Rattle.jcr_lock.specs.Locks.{lock_covers, is_held, locked_by, frozen_by}
 use Rattle.jcr_marks.proofs.Membership.{IsIn}
 use Rattle.jcr_plan.specs.Plans.{IsFree, changed_by, is_changed, heeded, is_ignored, is_ignored_child}
 use Rattle.oak_machine.specs.declared.event.Draw.{Draw}
-use Rattle.core_obeys.proofs.Views.{View, view_of, all, base, seen, after, same_has, same_prop}
+use Rattle.core_obeys.proofs.Views.{IsOne, Series, View, view_of, all, base, seen, after, same_has, same_prop}
 use Rattle.core_obeys.proofs.Clash.{IsMarked, IsStrong, strong_is_marked}
 use Rattle.core_obeys.proofs.Steps.{IsStep, AreSteps, IsLocked, is_frozen, below, within_itself, marked_clear, strong_unmarked, written_kept, clear_still, clear_primary, clear_mixins, unmarked_clear, unmarked_kept}
 use Rattle.core_obeys.proofs.Types.{AgreeOnProperty, AgreeOnChild, types_in, child_in, property_written, child_written}
@@ -180,7 +180,7 @@ module _ (types : List TypeDef) where
 
 -- ---- one commit
 
-module _ (types : List TypeDef) (d : Draw) (ds : List Draw) (step : IsStep d ds) (steps : AreSteps ds) where
+module _ (types : List TypeDef) (d : Draw) (ds : Series) (step : IsStep d ds) (steps : AreSteps ds) where
   abbrev now : View
   now = seen all ds
 
@@ -240,7 +240,7 @@ module _ (types : List TypeDef) (d : Draw) (ds : List Draw) (step : IsStep d ds)
 
   -- ---- what IGNORE looks at is as at the base
 
-  clear : (p : Path) → IsMarked p d.marks → (e : Draw) → IsIn e ds → base d e.revision ≡ false → IsStrong p e.marks → ⊥
+  clear : (p : Path) → IsMarked p d.marks → (e : Draw) → IsOne e ds → base d e.revision ≡ false → IsStrong p e.marks → ⊥
   clear p m = marked_clear d ds step steps (base d) (within_itself (base d) ds) p m
 
   property_before : (p : Path) (n : Name) → is_some (written (put_of p n) ws) ≡ true → AgreeOnProperty now before p n

@@ -13,7 +13,8 @@ use Rattle.jr_tree.specs.Items.{here_of, put_of, written}
 use Rattle.jr_items.specs.Names.{mixin_types, is_checked_out, versionable}
 use Rattle.jr_items.specs.Items.{child_path, is_flag, many_names, same_name}
 use Rattle.oak_machine.specs.declared.event.Draw.{Draw}
-use Rattle.core_obeys.proofs.Views.{View, Sight, all, base, seen, after, same_has, same_prop, same_has_after, same_prop_after, has_stays, prop_stays, prop_written, some_or_none, none_unless}
+use Rattle.core_obeys.proofs.Views.Series.{Over, Then}
+use Rattle.core_obeys.proofs.Views.{Series, View, Sight, all, base, seen, after, same_has, same_prop, same_has_after, same_prop_after, has_stays, prop_stays, prop_written, some_or_none, none_unless}
 use Rattle.core_obeys.proofs.Clash.{IsStrong, IsMarked}
 use Rattle.core_obeys.proofs.Steps.{IsStep, AreSteps, IsClear, IsWithin, IsClosed, below, is_versioned, is_frozen, within_itself, strong_unmarked, marked_clear, clear_mixins, unmarked_kept, unmarked_child, unmarked_child_mixins}
 use Rattle.core_obeys.proofs.Locks.{carry, true_or_false}
@@ -76,7 +77,7 @@ top_versioned v a (n ∷ rest) h = top_versioned v a rest (first _ _ h)
 unversioned : (v : View) (a : Path) (n : Name) (rest : List Name) → is_frozen v a (n ∷ rest) ≡ true → not (versions (v.prop (below a (n ∷ rest)) mixin_types)) ≡ true
 unversioned v a n rest h = second (is_frozen v a rest) _ h
 
-module _ (d : Draw) (ds : List Draw) (step : IsStep d ds) (steps : AreSteps ds) (a : Path) where
+module _ (d : Draw) (ds : Series) (step : IsStep d ds) (steps : AreSteps ds) (a : Path) where
   abbrev now : View
   now = seen all ds
 
@@ -242,10 +243,10 @@ module _ (d : Draw) (ds : List Draw) (step : IsStep d ds) (steps : AreSteps ds) 
 -- ---- all commits
 
 -- a checked-in node over a node that no unseen commit marks strongly is seen
-pub frozen_within : (ds : List Draw) → AreSteps ds → (s : Sight) → IsClosed s ds → (a : Path) (rest : List Name) → IsClear s ds (below a rest)
+pub frozen_within : (ds : Series) → AreSteps ds → (s : Sight) → IsClosed s ds → (a : Path) (rest : List Name) → IsClear s ds (below a rest)
     → (seen all ds).has (below a rest) ≡ true → is_frozen (seen all ds) a rest ≡ true → is_frozen (seen s ds) a rest ≡ true
-frozen_within [] steps s closed a rest clear h k = k
-frozen_within (d ∷ ds) steps s closed a rest clear h k =
+frozen_within (Over v) steps s closed a rest clear h k = k
+frozen_within (Then d ds) steps s closed a rest clear h k =
     by (s d.revision) refl (λ t t_closed rest clear h k. frozen_within ds steps.1 t t_closed a rest clear h k)
   where
     by : (b : Bool) → s d.revision ≡ b → ((t : Sight) → IsClosed t ds → (rest : List Name) → IsClear t ds (below a rest) → (seen all ds).has (below a rest) ≡ true → is_frozen (seen all ds) a rest ≡ true → is_frozen (seen t ds) a rest ≡ true)
@@ -262,7 +263,7 @@ frozen_within (d ∷ ds) steps s closed a rest clear h k =
 
 -- ---- a commit's changed nodes
 
-module _ (d : Draw) (ds : List Draw) (step : IsStep d ds) (steps : AreSteps ds) (a : Path) where
+module _ (d : Draw) (ds : Series) (step : IsStep d ds) (steps : AreSteps ds) (a : Path) where
   -- a checked-in node over a marked node that is there before or after is one at the base
   pub frozen_at_base : (rest : List Name) → IsMarked (below a rest) d.marks → ((seen all ds).has (below a rest) ≡ true) ⊎ ((after (seen all ds) d.edit.writes).has (below a rest) ≡ true) → is_frozen (seen all ds) a rest ≡ true → is_frozen (seen (base d) ds) a rest ≡ true
   frozen_at_base rest m h k = by rest m (true_or_false ((seen all ds).has (below a rest))) (elim h [ inl e ↦ inl e | inr e ↦ inr e ]) k

@@ -12,8 +12,8 @@ use Rattle.jr_tree.specs.Items.{here_of, put_of, written}
 use Rattle.jr_items.specs.Names.{lock_owner, lock_is_deep}
 use Rattle.jr_items.specs.Items.{is_flag}
 use Rattle.oak_machine.specs.declared.event.Draw.{Draw}
-use Rattle.jcr_marks.proofs.Membership.{IsIn}
-use Rattle.core_obeys.proofs.Views.{View, Sight, all, base, seen, after, same_has, same_prop, same_has_after, same_prop_after, has_stays, prop_stays, prop_written, some_or_none, none_unless}
+use Rattle.core_obeys.proofs.Views.Series.{Over, Then}
+use Rattle.core_obeys.proofs.Views.{IsOne, Series, View, Sight, all, base, seen, after, same_has, same_prop, same_has_after, same_prop_after, has_stays, prop_stays, prop_written, some_or_none, none_unless}
 use Rattle.core_obeys.proofs.Clash.{IsStrong, IsMarked}
 use Rattle.core_obeys.proofs.Steps.{IsStep, AreSteps, IsClear, IsWithin, IsClosed, IsLocked, below, is_deep, covering, within_itself, strong_unmarked, marked_clear, unmarked_kept, unmarked_child}
 
@@ -28,10 +28,10 @@ carry Q v w ws p n h k = by (written (put_of p n) ws) h
     by (Some x) h = h
 
 -- a property that no unseen commit puts is seen where it is there
-pub put_kept : (s : Sight) (ds : List Draw) (p : Path) (n : Name) (x : Property) → ((e : Draw) (y : Property) → IsIn e ds → s e.revision ≡ false → written (put_of p n) e.edit.writes ≡ Some (Some y) → ⊥)
+pub put_kept : (s : Sight) (ds : Series) (p : Path) (n : Name) (x : Property) → ((e : Draw) (y : Property) → IsOne e ds → s e.revision ≡ false → written (put_of p n) e.edit.writes ≡ Some (Some y) → ⊥)
     → (seen all ds).prop p n ≡ Some x → (seen s ds).prop p n ≡ Some x
-put_kept s [] p n x none h = h
-put_kept s (d ∷ ds) p n x none h = by (s d.revision) refl (written (put_of p n) d.edit.writes) refl h (put_kept s ds p n x (λ e y i k. none e y (inr i) k))
+put_kept s (Over v) p n x none h = h
+put_kept s (Then d ds) p n x none h = by (s d.revision) refl (written (put_of p n) d.edit.writes) refl h (put_kept s ds p n x (λ e y i k. none e y (inr i) k))
   where
     by : (b : Bool) → s d.revision ≡ b → (o : Option (Option Property)) → written (put_of p n) d.edit.writes ≡ o → unwrap_or o ((seen all ds).prop p n) ≡ Some x
         → ((seen all ds).prop p n ≡ Some x → (seen s ds).prop p n ≡ Some x) → (cond b (after (seen s ds) d.edit.writes) (seen s ds)).prop p n ≡ Some x
@@ -69,7 +69,7 @@ true_or_false false = inr refl
 abbrev pub IsDeepLock : View → Path → Property → Type 0
 IsDeepLock v a x = (v.prop a lock_owner ≡ Some x) × (is_deep v a ≡ true)
 
-module _ (d : Draw) (ds : List Draw) (step : IsStep d ds) (steps : AreSteps ds) (s : Sight) (within : IsWithin (base d) s ds) (a : Path) (x : Property) where
+module _ (d : Draw) (ds : Series) (step : IsStep d ds) (steps : AreSteps ds) (s : Sight) (within : IsWithin (base d) s ds) (a : Path) (x : Property) where
   abbrev now : View
   now = seen all ds
 
@@ -197,7 +197,7 @@ module _ (d : Draw) (ds : List Draw) (step : IsStep d ds) (steps : AreSteps ds) 
 -- ---- all commits
 
 -- with which an unseen commit leaves it
-deep_unseen : (d : Draw) (ds : List Draw) → IsStep d ds → AreSteps ds → (a : Path) (x : Property) (rest : List Name) → (IsStrong (below a rest) d.marks → ⊥)
+deep_unseen : (d : Draw) (ds : Series) → IsStep d ds → AreSteps ds → (a : Path) (x : Property) (rest : List Name) → (IsStrong (below a rest) d.marks → ⊥)
     → (after (seen all ds) d.edit.writes).has (below a rest) ≡ true → IsDeepLock (after (seen all ds) d.edit.writes) a x → IsDeepLock (seen all ds) a x
 deep_unseen d ds step steps a x rest weak h k = elim (gained d ds step steps (base d) (within_itself (base d) ds) a x k) [
   | inl old ↦ old
@@ -205,10 +205,10 @@ deep_unseen d ds step steps a x rest weak h k = elim (gained d ds step steps (ba
 ]
 
 -- a deep lock over a node that no unseen commit marks strongly is seen
-pub deep_within : (ds : List Draw) → AreSteps ds → (s : Sight) → IsClosed s ds → (a : Path) (x : Property) (rest : List Name) → IsClear s ds (below a rest)
+pub deep_within : (ds : Series) → AreSteps ds → (s : Sight) → IsClosed s ds → (a : Path) (x : Property) (rest : List Name) → IsClear s ds (below a rest)
     → (seen all ds).has (below a rest) ≡ true → IsDeepLock (seen all ds) a x → IsDeepLock (seen s ds) a x
-deep_within [] steps s closed a x rest clear h k = k
-deep_within (d ∷ ds) steps s closed a x rest clear h k =
+deep_within (Over v) steps s closed a x rest clear h k = k
+deep_within (Then d ds) steps s closed a x rest clear h k =
     by (s d.revision) refl (λ rest clear h k. deep_within ds steps.1 s (λ e f i j. closed e f (inr i) (inr j)) a x rest clear h k)
   where
     by : (b : Bool) → s d.revision ≡ b → ((rest : List Name) → IsClear s ds (below a rest) → (seen all ds).has (below a rest) ≡ true → IsDeepLock (seen all ds) a x → IsDeepLock (seen s ds) a x)
@@ -220,12 +220,12 @@ deep_within (d ∷ ds) steps s closed a x rest clear h k =
         earlier rest (λ f i. clear f (inr i)) here (deep_unseen d ds steps.0 steps.1 a x rest weak h k)
 
 -- and a lock of such a node
-pub owner_within : (ds : List Draw) → AreSteps ds → (s : Sight) → (a : Path) (x : Property) → IsClear s ds a → (seen all ds).prop a lock_owner ≡ Some x → (seen s ds).prop a lock_owner ≡ Some x
+pub owner_within : (ds : Series) → AreSteps ds → (s : Sight) → (a : Path) (x : Property) → IsClear s ds a → (seen all ds).prop a lock_owner ≡ Some x → (seen s ds).prop a lock_owner ≡ Some x
 owner_within ds steps s a x clear h = put_kept s ds a lock_owner x (λ e y i k w. clear e i k ((covering ds steps e i).owner a y w)) h
 
 -- ---- a commit's changed nodes
 
-module _ (d : Draw) (ds : List Draw) (step : IsStep d ds) (steps : AreSteps ds) (a : Path) (x : Property) where
+module _ (d : Draw) (ds : Series) (step : IsStep d ds) (steps : AreSteps ds) (a : Path) (x : Property) where
   -- a deep lock over a marked node that is there before or after
   pub deep_at_base : (rest : List Name) → IsMarked (below a rest) d.marks → ((seen all ds).has (below a rest) ≡ true) ⊎ ((after (seen all ds) d.edit.writes).has (below a rest) ≡ true) → IsDeepLock (seen all ds) a x → IsDeepLock (seen (base d) ds) a x
   deep_at_base rest m h k = by rest m (true_or_false ((seen all ds).has (below a rest))) (elim h [ inl e ↦ inl e | inr e ↦ inr e ])

@@ -1,5 +1,5 @@
 -- Each commit keeps the references, where identifiers stand once and are written under a strong mark.
-use Rattle.std.proofs.Common.{◌≡◌, ◌⊎◌, inl, inr, ℕ, Bool, true, false, cond, ◌==◌, None, Option, List, [], ◌∷◌, refl, sym, ap, ◌∙◌, subst, is_some}
+use Rattle.std.proofs.Common.{◌≡◌, ◌⊎◌, inl, inr, ℕ, Bool, true, false, cond, ◌==◌, None, Option, List, [], refl, sym, ap, ◌∙◌, subst, is_some}
 use Rattle.std.specs.Option.{option_map_or}
 use Rattle.std.specs.List.{list_any, filter_map}
 use mathlib.Core.Bool.{false≢true}
@@ -13,8 +13,8 @@ use Rattle.jr_items.specs.Names.{primary_type, frozen_type, uuid}
 use Rattle.jr_items.specs.Items.{values_in, reference_in, one_name, one_text, same_name}
 use Rattle.jcr_ref.specs.References.{uuid_text}
 use Rattle.oak_machine.specs.declared.event.Draw.{Draw}
-use Rattle.jcr_marks.proofs.Membership.{IsIn}
-use Rattle.core_obeys.proofs.Views.{View, Sight, all, base, seen, after, same_has, same_prop, same_has_after, same_prop_after, prop_stays, prop_written, some_or_none, none_unless}
+use Rattle.core_obeys.proofs.Views.Series.{Over, Then}
+use Rattle.core_obeys.proofs.Views.{IsOne, Series, View, Sight, all, base, seen, after, same_has, same_prop, same_has_after, same_prop_after, prop_stays, prop_written, some_or_none, none_unless}
 use Rattle.core_obeys.proofs.Clash.{IsStrong, IsMarked, strong_is_marked}
 use Rattle.core_obeys.proofs.Steps.{IsStep, AreSteps, IsUnmarked, IsWithin, IsClosed, within_itself, strong_unmarked, marked_clear, written_kept, clear_still, clear_primary, unmarked_kept}
 use Rattle.core_obeys.proofs.Locks.{true_or_false}
@@ -48,7 +48,7 @@ abbrev pub AreDistinct : View → Type 0
 AreDistinct v = (id : ℕ) (p q : Path) → IsTarget v id p → IsTarget v id q → p ≡ q
 
 -- a commit that keeps identifiers apart
-pub record IsTidy (d : Draw) (ds : List Draw) : Type 0 where
+pub record IsTidy (d : Draw) (ds : Series) : Type 0 where
   pub at_base : AreDistinct (seen (base d) ds)
   pub distinct : AreDistinct (after (seen all ds) d.edit.writes)
   pub marked : (p : Path) → is_some (written (put_of p uuid) d.edit.writes) ≡ true → IsStrong p d.marks
@@ -56,24 +56,24 @@ pub record IsTidy (d : Draw) (ds : List Draw) : Type 0 where
       → is_frozen_type ((seen (base d) ds).prop p primary_type) ≡ true → is_frozen_type ((after (seen (base d) ds) d.edit.writes).prop p primary_type) ≡ true
 
 -- the references at its base name nodes, and the target of a new one is marked
-pub record IsReferring (d : Draw) (ds : List Draw) : Type 0 where
+pub record IsReferring (d : Draw) (ds : Series) : Type 0 where
   pub referring : Refer (after (seen (base d) ds) d.edit.writes)
   pub targets : (p : Path) (n : Name) (id : ℕ) → refers id ((after (seen (base d) ds) d.edit.writes).prop p n) ≡ true → refers id ((seen (base d) ds).prop p n) ≡ false
       → (t : Path) → IsTarget (after (seen (base d) ds) d.edit.writes) id t → (t : Path) × IsTarget (after (seen (base d) ds) d.edit.writes) id t × IsMarked t d.marks
 
-abbrev pub AllRefer : List Draw → Type 0
-AllRefer [] = Refer (seen all [])
-AllRefer (d ∷ ds) = IsTidy d ds × IsReferring d ds × AllRefer ds
+abbrev pub AllRefer : Series → Type 0
+AllRefer (Over v) = Refer v
+AllRefer (Then d ds) = IsTidy d ds × IsReferring d ds × AllRefer ds
 
 -- the identifier of a node that no unseen commit marks strongly is left alone
-uuid_kept : (ds : List Draw) → AreSteps ds → AllRefer ds → (e : Draw) → IsIn e ds → (p : Path) → is_some (written (put_of p uuid) e.edit.writes) ≡ true → IsStrong p e.marks
-uuid_kept [] steps tidy e i p w = absurd i
-uuid_kept (d ∷ ds) steps tidy e i p w = elim i [
+uuid_kept : (ds : Series) → AreSteps ds → AllRefer ds → (e : Draw) → IsOne e ds → (p : Path) → is_some (written (put_of p uuid) e.edit.writes) ≡ true → IsStrong p e.marks
+uuid_kept (Over v) steps tidy e i p w = absurd i
+uuid_kept (Then d ds) steps tidy e i p w = elim i [
   | inl k ↦ subst (λ (x : Draw). IsStrong p x.marks) k (tidy.0.marked p (subst (λ (x : Draw). is_some (written (put_of p uuid) x.edit.writes) ≡ true) (sym k) w))
   | inr j ↦ uuid_kept ds steps.1 tidy.2 e j p w
 ]
 
-module _ (d : Draw) (ds : List Draw) (step : IsStep d ds) (steps : AreSteps ds) (tidy : IsTidy d ds) (referring : IsReferring d ds) (others : AllRefer ds) where
+module _ (d : Draw) (ds : Series) (step : IsStep d ds) (steps : AreSteps ds) (tidy : IsTidy d ds) (referring : IsReferring d ds) (others : AllRefer ds) where
   abbrev now : View
   now = seen all ds
 
@@ -194,24 +194,24 @@ module _ (d : Draw) (ds : List Draw) (step : IsStep d ds) (steps : AreSteps ds) 
 
 -- ---- all commits
 
-abbrev IsSeen : List Draw → Type 0
+abbrev IsSeen : Series → Type 0
 IsSeen ds = (s : Sight) → IsClosed s ds → (t p : Path) (n : Name) (id : ℕ) → IsUnmarked s ds t → IsTarget (seen all ds) id t → IsReference (seen all ds) p n id → IsReference (seen s ds) p n id
 
-refer_seen : (ds : List Draw) → AreSteps ds → AllRefer ds → Refer (seen all ds) × IsSeen ds
-refer_seen [] steps each = (each, λ s closed t p n id un is r. r)
-refer_seen (d ∷ ds) steps each = by (refer_seen ds steps.1 each.2)
+refer_seen : (ds : Series) → AreSteps ds → AllRefer ds → Refer (seen all ds) × IsSeen ds
+refer_seen (Over v) steps each = (each, λ s closed t p n id un is r. r)
+refer_seen (Then d ds) steps each = by (refer_seen ds steps.1 each.2)
   where
-    by : Refer (seen all ds) × IsSeen ds → Refer (seen all (d ∷ ds)) × IsSeen (d ∷ ds)
+    by : Refer (seen all ds) × IsSeen ds → Refer (seen all (Then d ds)) × IsSeen (Then d ds)
     by old = (
       refer_step d ds steps.0 steps.1 each.0 each.1 each.2 old.0 (old.1 (base d) steps.0.closed),
       λ s closed t p n id un is r. at s closed t p n id un is r (s d.revision) refl,
     )
       where
-        at : (s : Sight) → IsClosed s (d ∷ ds) → (t p : Path) (n : Name) (id : ℕ) → IsUnmarked s (d ∷ ds) t → IsTarget (seen all (d ∷ ds)) id t → IsReference (seen all (d ∷ ds)) p n id
+        at : (s : Sight) → IsClosed s (Then d ds) → (t p : Path) (n : Name) (id : ℕ) → IsUnmarked s (Then d ds) t → IsTarget (seen all (Then d ds)) id t → IsReference (seen all (Then d ds)) p n id
             → (b : Bool) → s d.revision ≡ b → IsReference (cond b (after (seen s ds) d.edit.writes) (seen s ds)) p n id
         at s closed t p n id un is r true e = seen_reference d ds steps.0 steps.1 each.0 each.1 each.2 old.0 s (λ f i based. closed d f (inl refl) (inr i) e based) (old.1 s (λ e f i j. closed e f (inr i) (inr j))) t p n id (λ f i. un f (inr i)) is r
         at s closed t p n id un is r false e = unseen_reference d ds steps.0 steps.1 each.0 each.1 each.2 s (old.1 s (λ e f i j. closed e f (inr i) (inr j))) t p n id (λ f i. un f (inr i)) (un d (inl refl) e) is r
 
 -- each reference names a node
-pub refer : (ds : List Draw) → AreSteps ds → AllRefer ds → Refer (seen all ds)
+pub refer : (ds : Series) → AreSteps ds → AllRefer ds → Refer (seen all ds)
 refer ds steps each = (refer_seen ds steps each).0

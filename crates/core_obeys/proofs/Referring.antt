@@ -25,7 +25,8 @@ use Rattle.oak_clash.specs.declared.mark.Mark.{Mark}
 use Rattle.oak_clash.specs.declared.mark.Mark.TheVariants.{Exists, Guard, Touch, Prop}
 use Rattle.oak_clash.specs.declared.mark.MarkAt.{MarkAt}
 use Rattle.jcr_marks.proofs.Membership.{Has, IsIn}
-use Rattle.core_obeys.specs.Tidy.{HasDistinctIds, is_of_node, is_node_marked}
+use Rattle.oak_machine.specs.History.{Begin, begin_tree}
+use Rattle.core_obeys.specs.Tidy.{BeginsTidy, HasDistinctIds, is_of_node, is_node_marked}
 use Rattle.core_obeys.proofs.Views.{view_of}
 use Rattle.core_obeys.proofs.Clash.{IsStrong}
 use Rattle.core_obeys.proofs.Steps.{IsWhole}
@@ -105,9 +106,14 @@ none_of_three x y z n id false true c = none_named y n id
 none_of_three x y z n id false false true = none_named z n id
 none_of_three x y z n id false false false = refl
 
-pub initial_refers : Refer (view_of initial_tree)
+initial_refers : Refer (view_of initial_tree)
 initial_refers p n id r = absurd (false≢true (sym (none_of_three (codes "nt:unstructured") (codes "rep:system") (codes "rep:versionStorage") n id
     (eq_by_cmp path_cmp p []) (eq_by_cmp path_cmp p (codes "jcr:system" ∷ [])) (eq_by_cmp path_cmp p (codes "jcr:system" ∷ codes "jcr:versionStorage" ∷ []))) ∙ r.0))
+
+-- the references of what a tidy journal begins with name nodes
+pub first_refers : (begin : Begin) → BeginsTidy begin → Refer (view_of (begin_tree begin))
+first_refers None tidy = initial_refers
+first_refers (Some s) tidy = refer_of s.tree tidy
 
 -- ---- tidy edits
 

@@ -85,7 +85,6 @@ plan_b = accepted builtin initial_tree [] (adding (codes "b" ∷ [])) (record { 
 
 is_obeying : IsObeyingRun builtin tokens starts any_said history
 is_obeying = record {
-  begun = refl;
   nodes = one_node;
   run = (
     refl,
@@ -111,5 +110,5 @@ is_obeying = record {
 }
 
 -- both commits together meet the rules
-both_obey : TypesOk builtin (tree_by_commits history.past)
-both_obey = types_obeyed 1 (1 ∷ 1 ∷ []) one_node starts any_said (plans_proper builtin tokens starts (λ h s edit marks lawful. lawful)) builtin tokens (λ h s edit marks lawful. lawful) initial_meets_rules history.past is_obeying.run
+both_obey : TypesOk builtin (tree_by_commits None history.past)
+both_obey = types_obeyed 1 (1 ∷ 1 ∷ []) one_node None starts any_said (plans_proper builtin tokens starts (λ h s edit marks lawful. lawful)) builtin tokens (λ h s edit marks lawful. lawful) initial_meets_rules history.past is_obeying.run

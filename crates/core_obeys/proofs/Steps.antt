@@ -13,8 +13,9 @@ use Rattle.oak_clash.specs.declared.mark.Mark.TheVariants.{Prop}
 use Rattle.oak_clash.specs.declared.mark.MarkAt.{MarkAt}
 use Rattle.oak_clash.specs.Clashes.{clashing}
 use Rattle.oak_machine.specs.declared.event.Draw.{Draw}
-use Rattle.jcr_marks.proofs.Membership.{Has, IsIn}
-use Rattle.core_obeys.proofs.Views.{View, Sight, IsStill, IsKept, all, base, seen, after, none_unless}
+use Rattle.jcr_marks.proofs.Membership.{Has}
+use Rattle.core_obeys.proofs.Views.Series.{Over, Then}
+use Rattle.core_obeys.proofs.Views.{IsOne, Series, View, Sight, IsStill, IsKept, all, base, seen, after, none_unless}
 use Rattle.core_obeys.proofs.Clash.{IsStrong, IsMarked, strong_marked, marked_strong, same_prop_marks, strong_is_marked}
 
 -- what the marks of an edit are, whatever tree it is of
@@ -73,50 +74,50 @@ pub record Guards (v w : View) (ms : List MarkAt) : Type 0 where
   pub frozen : (a : Path) (rest : List Name) → v.has (below a rest) ≡ true → w.has (below a rest) ≡ true → is_frozen w a rest ≡ true → is_frozen v a rest ≡ false → IsStrong (below a rest) ms
 
 -- a commit on those before it
-pub record IsStep (d : Draw) (ds : List Draw) : Type 0 where
+pub record IsStep (d : Draw) (ds : Series) : Type 0 where
   pub covers : Covers d.edit.writes d.marks
   pub guards : Guards (seen (base d) ds) (after (seen (base d) ds) d.edit.writes) d.marks
   pub fits_base : IsFit (seen (base d) ds) d.edit.writes
   pub fits : IsFit (seen all ds) d.edit.writes
-  pub apart : (e : Draw) → IsIn e ds → base d e.revision ≡ false → clashing d.marks e.marks ≡ false
-  pub closed : (e f : Draw) → IsIn e ds → IsIn f ds → base d e.revision ≡ true → base e f.revision ≡ true → base d f.revision ≡ true
+  pub apart : (e : Draw) → IsOne e ds → base d e.revision ≡ false → clashing d.marks e.marks ≡ false
+  pub closed : (e f : Draw) → IsOne e ds → IsOne f ds → base d e.revision ≡ true → base e f.revision ≡ true → base d f.revision ≡ true
 
-abbrev pub AreSteps : List Draw → Type 0
-AreSteps [] = Unit {0}
-AreSteps (d ∷ ds) = IsStep d ds × AreSteps ds
+abbrev pub AreSteps : Series → Type 0
+AreSteps (Over v) = Unit {0}
+AreSteps (Then d ds) = IsStep d ds × AreSteps ds
 
 -- all commits cover their edits
-pub covering : (ds : List Draw) → AreSteps ds → (e : Draw) → IsIn e ds → Covers e.edit.writes e.marks
-covering [] steps e i = absurd i
-covering (d ∷ ds) steps e i = elim i [ inl k ↦ subst (λ (x : Draw). Covers x.edit.writes x.marks) k steps.0.covers | inr j ↦ covering ds steps.1 e j ]
+pub covering : (ds : Series) → AreSteps ds → (e : Draw) → IsOne e ds → Covers e.edit.writes e.marks
+covering (Over v) steps e i = absurd i
+covering (Then d ds) steps e i = elim i [ inl k ↦ subst (λ (x : Draw). Covers x.edit.writes x.marks) k steps.0.covers | inr j ↦ covering ds steps.1 e j ]
 
 -- no commit that isn't seen has an Exists or Guard of the node at p
-abbrev pub IsClear : Sight → List Draw → Path → Type 0
-IsClear s ds p = (e : Draw) → IsIn e ds → s e.revision ≡ false → IsStrong p e.marks → ⊥
+abbrev pub IsClear : Sight → Series → Path → Type 0
+IsClear s ds p = (e : Draw) → IsOne e ds → s e.revision ≡ false → IsStrong p e.marks → ⊥
 
 -- no commit that isn't seen has a mark of the node at p
-abbrev pub IsUnmarked : Sight → List Draw → Path → Type 0
-IsUnmarked s ds p = (e : Draw) → IsIn e ds → s e.revision ≡ false → IsMarked p e.marks → ⊥
+abbrev pub IsUnmarked : Sight → Series → Path → Type 0
+IsUnmarked s ds p = (e : Draw) → IsOne e ds → s e.revision ≡ false → IsMarked p e.marks → ⊥
 
 -- all that a sight sees of a list is seen by another
-abbrev pub IsWithin : Sight → Sight → List Draw → Type 0
-IsWithin s t ds = (e : Draw) → IsIn e ds → s e.revision ≡ true → t e.revision ≡ true
+abbrev pub IsWithin : Sight → Sight → Series → Type 0
+IsWithin s t ds = (e : Draw) → IsOne e ds → s e.revision ≡ true → t e.revision ≡ true
 
 -- a sight sees with each commit what its base sees
-abbrev pub IsClosed : Sight → List Draw → Type 0
-IsClosed s ds = (e f : Draw) → IsIn e ds → IsIn f ds → s e.revision ≡ true → base e f.revision ≡ true → s f.revision ≡ true
+abbrev pub IsClosed : Sight → Series → Type 0
+IsClosed s ds = (e f : Draw) → IsOne e ds → IsOne f ds → s e.revision ≡ true → base e f.revision ≡ true → s f.revision ≡ true
 
-pub within_itself : (s : Sight) (ds : List Draw) → IsWithin s s ds
+pub within_itself : (s : Sight) (ds : Series) → IsWithin s s ds
 within_itself s ds e i h = h
 
-pub unseen : (s t : Sight) (ds : List Draw) → IsWithin s t ds → (e : Draw) → IsIn e ds → t e.revision ≡ false → s e.revision ≡ false
+pub unseen : (s t : Sight) (ds : Series) → IsWithin s t ds → (e : Draw) → IsOne e ds → t e.revision ≡ false → s e.revision ≡ false
 unseen s t ds within e i h = by (s e.revision) refl
   where
     by : (b : Bool) → s e.revision ≡ b → b ≡ false
     by true k = absurd (false≢true (sym h ∙ within e i k))
     by false k = refl
 
-module _ (d : Draw) (ds : List Draw) (step : IsStep d ds) (steps : AreSteps ds) (s : Sight) (within : IsWithin (base d) s ds) where
+module _ (d : Draw) (ds : Series) (step : IsStep d ds) (steps : AreSteps ds) (s : Sight) (within : IsWithin (base d) s ds) where
   -- a marked node is clear, and a strongly marked one is unmarked
   pub marked_clear : (p : Path) → IsMarked p d.marks → IsClear s ds p
   marked_clear p m e i h k = false≢true (sym (step.apart e i (unseen (base d) s ds within e i h)) ∙ marked_strong d.marks e.marks p m k)
@@ -128,7 +129,7 @@ module _ (d : Draw) (ds : List Draw) (step : IsStep d ds) (steps : AreSteps ds) 
   pub written_kept : (p : Path) (n : Name) → is_some (written (put_of p n) d.edit.writes) ≡ true → IsKept s ds p n
   written_kept p n w e i h = none_unless _ (λ k. false≢true (sym (step.apart e i (unseen (base d) s ds within e i h)) ∙ same_prop_marks d.marks e.marks p n (step.covers.prop p n w) ((covering ds steps e i).prop p n k)))
 
-module _ (ds : List Draw) (steps : AreSteps ds) (s : Sight) where
+module _ (ds : Series) (steps : AreSteps ds) (s : Sight) where
   -- of a clear node, its being there and its types are left alone
   pub clear_still : (p : Path) → IsClear s ds p → IsStill s ds p
   clear_still p clear e i h = none_unless _ (λ k. clear e i h ((covering ds steps e i).node p k))

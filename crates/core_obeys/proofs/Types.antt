@@ -1,5 +1,5 @@
 -- Each commit keeps the rules of node types: what a rule looks at is written by the commit alone, or by none of those that it doesn't see.
-use Rattle.std.proofs.Common.{◌≡◌, ◌⊎◌, inl, inr, Bool, true, false, cond, Some, None, Option, List, [], ◌∷◌, sym, ◌∙◌, is_some, refl}
+use Rattle.std.proofs.Common.{◌≡◌, ◌⊎◌, inl, inr, Bool, true, false, cond, Some, None, Option, List, [], sym, ◌∙◌, is_some, refl}
 use Rattle.jr_path.specs.declared.name.Name.{Name}
 use Rattle.jr_path.specs.declared.path.Path.{Path}
 use Rattle.jr_tree.specs.declared.edit.Write.{Write}
@@ -10,8 +10,8 @@ use Rattle.jr_types.specs.declared.TypeDef.{TypeDef}
 use Rattle.jr_types.specs.Types.{NodeTypes}
 use Rattle.jr_types.specs.Rules.{Child, property_faults, child_faults}
 use Rattle.oak_machine.specs.declared.event.Draw.{Draw}
-use Rattle.jcr_marks.proofs.Membership.{IsIn}
-use Rattle.core_obeys.proofs.Views.{View, Sight, IsStill, IsKept, all, base, seen, after, same_has, same_prop, same_has_after, same_prop_after, has_stays, prop_stays, some_or_none}
+use Rattle.core_obeys.proofs.Views.Series.{Over, Then}
+use Rattle.core_obeys.proofs.Views.{IsOne, Series, View, Sight, IsStill, IsKept, base, seen, after, same_has, same_prop, same_has_after, same_prop_after, has_stays, prop_stays, some_or_none}
 use Rattle.core_obeys.proofs.Clash.{IsStrong, IsMarked}
 use Rattle.core_obeys.proofs.Steps.{IsStep, AreSteps, within_itself, strong_unmarked, marked_clear, written_kept, clear_still, clear_primary, clear_mixins, unmarked_clear, unmarked_kept, unmarked_child, unmarked_child_primary, IsWithin, IsClosed, unseen}
 
@@ -49,7 +49,7 @@ pub children_agree : (types : List TypeDef) (v w : View) (p : Path) (n : Name) �
     → (w.has p ≡ true → child_faults types (types_in w p) n (child_in w p n) ≡ []) → v.has p ≡ true → child_faults types (types_in v p) n (child_in v p n) ≡ []
 children_agree types v w p n a holds h = rw (a.primary, a.mixins, a.child, a.type) (holds (sym a.node ∙ h))
 
-module _ (d : Draw) (ds : List Draw) (step : IsStep d ds) (steps : AreSteps ds) (s : Sight) (within : IsWithin (base d) s ds) where
+module _ (d : Draw) (ds : Series) (step : IsStep d ds) (steps : AreSteps ds) (s : Sight) (within : IsWithin (base d) s ds) where
   abbrev now : View
   now = seen s ds
 
@@ -65,10 +65,10 @@ module _ (d : Draw) (ds : List Draw) (step : IsStep d ds) (steps : AreSteps ds) 
   prop_same : (p : Path) (n : Name) → IsKept (base d) ds p n → (after now ws).prop p n ≡ (after before ws).prop p n
   prop_same p n kept = same_prop_after now before ws p n (sym (same_prop s ds p n (λ e i h. kept e i (unseen (base d) s ds within e i h))) ∙ same_prop (base d) ds p n kept)
 
-  unmarked : (p : Path) → IsStrong p d.marks → (e : Draw) → IsIn e ds → base d e.revision ≡ false → IsMarked p e.marks → ⊥
+  unmarked : (p : Path) → IsStrong p d.marks → (e : Draw) → IsOne e ds → base d e.revision ≡ false → IsMarked p e.marks → ⊥
   unmarked p m = strong_unmarked d ds step steps (base d) (within_itself (base d) ds) p m
 
-  clear : (p : Path) → IsMarked p d.marks → (e : Draw) → IsIn e ds → base d e.revision ≡ false → IsStrong p e.marks → ⊥
+  clear : (p : Path) → IsMarked p d.marks → (e : Draw) → IsOne e ds → base d e.revision ≡ false → IsStrong p e.marks → ⊥
   clear p m = marked_clear d ds step steps (base d) (within_itself (base d) ds) p m
 
   -- a strongly marked node is as it is at the base
@@ -157,14 +157,14 @@ module _ (d : Draw) (ds : List Draw) (step : IsStep d ds) (steps : AreSteps ds) 
   }
 
 -- each edit keeps the rules at its base
-abbrev pub AllTyped : List TypeDef → List Draw → Type 0
-AllTyped types [] = AreTyped types (seen all [])
-AllTyped types (d ∷ ds) = AreTyped types (after (seen (base d) ds) d.edit.writes) × AllTyped types ds
+abbrev pub AllTyped : List TypeDef → Series → Type 0
+AllTyped types (Over v) = AreTyped types v
+AllTyped types (Then d ds) = AreTyped types (after (seen (base d) ds) d.edit.writes) × AllTyped types ds
 
 -- so all that are seen together do, where with each commit what its base sees is seen
-pub typed : (types : List TypeDef) (ds : List Draw) → AreSteps ds → AllTyped types ds → (s : Sight) → IsClosed s ds → AreTyped types (seen s ds)
-typed types [] steps each s closed = each
-typed types (d ∷ ds) steps each s closed = by (s d.revision) refl (typed types ds steps.1 each.1 s (λ e f i j. closed e f (inr i) (inr j)))
+pub typed : (types : List TypeDef) (ds : Series) → AreSteps ds → AllTyped types ds → (s : Sight) → IsClosed s ds → AreTyped types (seen s ds)
+typed types (Over v) steps each s closed = each
+typed types (Then d ds) steps each s closed = by (s d.revision) refl (typed types ds steps.1 each.1 s (λ e f i j. closed e f (inr i) (inr j)))
   where
     by : (b : Bool) → s d.revision ≡ b → AreTyped types (seen s ds) → AreTyped types (cond b (after (seen s ds) d.edit.writes) (seen s ds))
     by true h was = typed_step d ds steps.0 steps.1 s (λ f i based. closed d f (inl refl) (inr i) h based) types was each.0

@@ -1,5 +1,5 @@
 -- What is seen of commits in their order, item by item.
-use Rattle.std.proofs.Common.{◌≡◌, ◌⊎◌, inl, inr, Bool, true, false, cond, Some, None, Option, List, [], ◌∷◌, refl, ap, ◌∙◌, is_some}
+use Rattle.std.proofs.Common.{◌≡◌, ◌⊎◌, inl, inr, Bool, true, false, cond, Some, None, Option, List, refl, ap, ◌∙◌, is_some}
 use Rattle.std.specs.Option.{unwrap_or}
 use mathlib.Core.Bool.{false≢true}
 use Rattle.jr_path.specs.declared.name.Name.{Name}
@@ -8,9 +8,8 @@ use Rattle.jr_value.specs.declared.value.Property.{Property}
 use Rattle.jr_rev.specs.declared.revision.Revision.{Revision}
 use Rattle.jr_rev.specs.Vectors.{sees}
 use Rattle.jr_tree.specs.declared.edit.Write.{Write}
-use Rattle.jr_tree.specs.Trees.{Nodes, node_at, property_at, initial_tree}
+use Rattle.jr_tree.specs.Trees.{Nodes, node_at, property_at}
 use Rattle.jr_tree.specs.Items.{here_of, put_of, written}
-use Rattle.jcr_marks.proofs.Membership.{IsIn}
 use Rattle.oak_machine.specs.declared.event.Draw.{Draw}
 
 -- which nodes are there, and which properties they have
@@ -36,30 +35,40 @@ all r = true
 abbrev pub base : Draw → Sight
 base d r = sees d.base r
 
--- what is seen of some commits, the last one first
-abbrev pub seen : Sight → List Draw → View
-seen s [] = view_of initial_tree
-seen s (d ∷ ds) = cond (s d.revision) (after (seen s ds) d.edit.writes) (seen s ds)
+-- commits in their order, the last one first, over what there was before them
+pub data Series : Type 0 where
+  Over : View → Series
+  Then : Draw → Series → Series
+
+-- d is one of the commits
+abbrev pub IsOne : Draw → Series → Type 0
+IsOne d (Over v) = ⊥
+IsOne d (Then e ds) = (e ≡ d) ⊎ IsOne d ds
+
+-- what is seen of some commits
+abbrev pub seen : Sight → Series → View
+seen s (Over v) = v
+seen s (Then d ds) = cond (s d.revision) (after (seen s ds) d.edit.writes) (seen s ds)
 
 -- each unseen commit leaves the node at p alone
-abbrev pub IsStill : Sight → List Draw → Path → Type 0
-IsStill s ds p = (e : Draw) → IsIn e ds → s e.revision ≡ false → written (here_of p) e.edit.writes ≡ None
+abbrev pub IsStill : Sight → Series → Path → Type 0
+IsStill s ds p = (e : Draw) → IsOne e ds → s e.revision ≡ false → written (here_of p) e.edit.writes ≡ None
 
 -- each unseen commit leaves that property alone
-abbrev pub IsKept : Sight → List Draw → Path → Name → Type 0
-IsKept s ds p n = (e : Draw) → IsIn e ds → s e.revision ≡ false → written (put_of p n) e.edit.writes ≡ None
+abbrev pub IsKept : Sight → Series → Path → Name → Type 0
+IsKept s ds p n = (e : Draw) → IsOne e ds → s e.revision ≡ false → written (put_of p n) e.edit.writes ≡ None
 
-pub same_has : (s : Sight) (ds : List Draw) (p : Path) → IsStill s ds p → (seen all ds).has p ≡ (seen s ds).has p
-same_has s [] p still = refl
-same_has s (d ∷ ds) p still = by (s d.revision) refl (same_has s ds p (λ e i h. still e (inr i) h))
+pub same_has : (s : Sight) (ds : Series) (p : Path) → IsStill s ds p → (seen all ds).has p ≡ (seen s ds).has p
+same_has s (Over v) p still = refl
+same_has s (Then d ds) p still = by (s d.revision) refl (same_has s ds p (λ e i h. still e (inr i) h))
   where
     by : (b : Bool) → s d.revision ≡ b → (seen all ds).has p ≡ (seen s ds).has p → unwrap_or (written (here_of p) d.edit.writes) ((seen all ds).has p) ≡ (cond b (after (seen s ds) d.edit.writes) (seen s ds)).has p
     by true h rest = ap (unwrap_or (written (here_of p) d.edit.writes)) rest
     by false h rest = ap (λ o. unwrap_or o ((seen all ds).has p)) (still d (inl refl) h) ∙ rest
 
-pub same_prop : (s : Sight) (ds : List Draw) (p : Path) (n : Name) → IsKept s ds p n → (seen all ds).prop p n ≡ (seen s ds).prop p n
-same_prop s [] p n kept = refl
-same_prop s (d ∷ ds) p n kept = by (s d.revision) refl (same_prop s ds p n (λ e i h. kept e (inr i) h))
+pub same_prop : (s : Sight) (ds : Series) (p : Path) (n : Name) → IsKept s ds p n → (seen all ds).prop p n ≡ (seen s ds).prop p n
+same_prop s (Over v) p n kept = refl
+same_prop s (Then d ds) p n kept = by (s d.revision) refl (same_prop s ds p n (λ e i h. kept e (inr i) h))
   where
     by : (b : Bool) → s d.revision ≡ b → (seen all ds).prop p n ≡ (seen s ds).prop p n → unwrap_or (written (put_of p n) d.edit.writes) ((seen all ds).prop p n) ≡ (cond b (after (seen s ds) d.edit.writes) (seen s ds)).prop p n
     by true h rest = ap (unwrap_or (written (put_of p n) d.edit.writes)) rest

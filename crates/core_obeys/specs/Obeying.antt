@@ -1,5 +1,5 @@
 -- What the product keeps, in a history and at each time of one.
-use Rattle.std.specs.Prelude.{◌≡◌, ℕ, ◌++◌, None, Some}
+use Rattle.std.specs.Prelude.{◌≡◌, ℕ, ◌++◌, Some}
 use Rattle.jr_rev.specs.declared.revision.Revision.{Revision}
 use Rattle.jr_rev.specs.declared.vector.RevVec.{RevVec}
 use Rattle.jr_tree.specs.Trees.{IsTree}
@@ -22,14 +22,14 @@ use Rattle.core_obeys.specs.Tidy.{IsTidy}
 -- nothing that is locked against its session or covered by a checked-in node; and where identifiers
 -- stand once, each REFERENCE names a node
 pub record Obeys (law : JcrLaw) (h : History) : Type 0 where
-  pub tree : IsTree (tree_by_commits h.past)
-  pub types : TypesOk law.types (tree_by_commits h.past)
+  pub tree : IsTree (tree_by_commits h.begin h.past)
+  pub types : TypesOk law.types (tree_by_commits h.begin h.past)
   pub bases : (s : ℕ) (v : RevVec) → base_of h.past s ≡ Some v
-      → TypesOk law.types (tree_at None h.past v)
+      → TypesOk law.types (tree_at h.begin h.past v)
   pub free : (r : Revision) (d : Draw) → draw_of h.past r ≡ Some d → MayCommit h.past r
-      → IsFree law.types (tree_by_commits h.past) (tokens_at_draw (tokens_by law) h r d.session)
-      d.edit.writes
-  pub references : IsTidy h.past → ReferencesOk (tree_by_commits h.past)
+      → IsFree law.types (tree_by_commits h.begin h.past)
+      (tokens_at_draw (tokens_by law) h r d.session) d.edit.writes
+  pub references : IsTidy h.begin h.past → ReferencesOk (tree_by_commits h.begin h.past)
 
 -- so the history was at each time
 abbrev pub ObeysThroughout : JcrLaw → History → Type 0

@@ -1,10 +1,10 @@
 -- Runs by a law that lets only plans start.
-use Rattle.std.specs.Prelude.{◌≡◌, None, ℕ, cond, List, [], ◌∷◌}
+use Rattle.std.specs.Prelude.{ℕ, cond, List, [], ◌∷◌}
 use Rattle.std.specs.Option.{option_map_or}
 use Rattle.jr_rev.specs.declared.revision.Revision.{Revision}
 use Rattle.jr_rev.specs.Revisions.{is_same}
 use Rattle.jr_tree.specs.declared.edit.Edit.{Edit}
-use Rattle.jr_tree.specs.Trees.{Nodes, initial_tree}
+use Rattle.jr_tree.specs.Trees.{Nodes}
 use Rattle.jr_types.specs.declared.TypeDef.{TypeDef}
 use Rattle.jr_types.specs.Rules.{TypesOk}
 use Rattle.oak_clash.specs.declared.mark.MarkAt.{MarkAt}
@@ -12,7 +12,7 @@ use Rattle.oak_machine.specs.declared.event.Event.TheVariants as event
 use Rattle.oak_machine.specs.Commits.{tree_at}
 use Rattle.oak_machine.specs.History.{History, Past, begin_tree}
 use Rattle.oak_machine.specs.Laws.{Starts, Says}
-use Rattle.oak_machine.specs.Runs.{IsRunOf, AreNodes}
+use Rattle.oak_machine.specs.Runs.{IsRun, AreNodes}
 use Rattle.oak_machine.specs.Sessions.{base_of}
 use Rattle.jcr_plan.specs.Plans.{PlanOk}
 
@@ -28,13 +28,13 @@ base_tree h s = option_map_or (tree_at h.begin h.past) (base_of h.past s) (begin
 abbrev pub StartsPlans : List TypeDef → Tokens → Starts → Type 0
 StartsPlans types tokens starts = (h : History) (s : ℕ) (edit : Edit) (marks : List MarkAt) → starts h s edit marks → PlanOk types (base_tree h s) (tokens h s) edit.writes marks
 
--- a run of one to eight cluster nodes that begins before any commit, by a law that lets only plans start, from an initial tree that meets the rules of these types
+-- a run of one to eight cluster nodes, by a law that lets only plans start, from whatever it begins
+-- with, whose tree meets the rules of these types
 pub record IsObeyingRun (types : List TypeDef) (tokens : Tokens) (starts : Starts) (says : Says) (h : History) : Type 0 where
   pub nodes : AreNodes h.clusters h.sessions
-  pub begun : h.begin ≡ None
-  pub run : IsRunOf starts says h.clusters h.sessions None h.past
+  pub run : IsRun starts says h
   pub plans : StartsPlans types tokens starts
-  pub typed : TypesOk types initial_tree
+  pub typed : TypesOk types (begin_tree h.begin)
 
 -- what lay behind when r was drawn
 abbrev pub before_draw : Past → Revision → Past

@@ -1,9 +1,7 @@
 -- Runs by the law of the product.
-use Rattle.std.specs.Prelude.{◌≡◌, None}
-use Rattle.jr_tree.specs.Trees.{initial_tree}
 use Rattle.jr_types.specs.Rules.{TypesOk}
-use Rattle.oak_machine.specs.History.{History}
-use Rattle.oak_machine.specs.Runs.{AreNodes, IsRunOf}
+use Rattle.oak_machine.specs.History.{History, begin_tree}
+use Rattle.oak_machine.specs.Runs.{AreNodes, IsRun}
 use Rattle.jcr_law.specs.declared.law.JcrLaw.{JcrLaw}
 use Rattle.jcr_law.specs.Lasting.{says_of, starts_of}
 use Rattle.jcr_law.specs.State.{tokens_of}
@@ -13,10 +11,9 @@ use Rattle.core_obeys.specs.Plans.{Tokens}
 abbrev pub tokens_by : JcrLaw → Tokens
 tokens_by law h s = tokens_of law h.begin h.past s
 
--- a run by the law of one to eight cluster nodes that begins before any commit, from an initial tree
--- that meets the types of the script
+-- a run by the law of one to eight cluster nodes, from whatever it begins with, whose tree meets
+-- the types of the script
 pub record IsProductRun (law : JcrLaw) (h : History) : Type 0 where
   pub nodes : AreNodes h.clusters h.sessions
-  pub begun : h.begin ≡ None
-  pub run : IsRunOf (starts_of law) (says_of law) h.clusters h.sessions None h.past
-  pub typed : TypesOk law.types initial_tree
+  pub run : IsRun (starts_of law) (says_of law) h
+  pub typed : TypesOk law.types (begin_tree h.begin)

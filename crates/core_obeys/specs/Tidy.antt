@@ -1,4 +1,5 @@
--- Journals in which each commit keeps the references: identifiers stand once, and change only under a mark of their node.
+-- Journals in which each commit keeps the references: those that there are at first name nodes;
+-- identifiers stand once, and change only under a mark of their node.
 use Rattle.std.specs.Prelude.{None, ◌≡◌, ◌&&◌, ℕ, Bool, true, false, List, [], ◌∷◌, Some, IsTrue}
 use Rattle.std.specs.List.{list_any}
 use Rattle.std.specs.Ordering.{eq_by_cmp}
@@ -13,9 +14,10 @@ use Rattle.oak_clash.specs.declared.mark.Mark.TheVariants.{Exists, Guard}
 use Rattle.oak_clash.specs.declared.mark.MarkAt.{MarkAt}
 use Rattle.oak_machine.specs.declared.event.Draw.{Draw}
 use Rattle.oak_machine.specs.declared.event.Event.TheVariants as event
-use Rattle.oak_machine.specs.History.{Past}
+use Rattle.oak_machine.specs.History.{Begin, Past}
 use Rattle.oak_machine.specs.Commits.{tree_at}
 use Rattle.jcr_marks.specs.Marks.{stays}
+use Rattle.jcr_ref.specs.References.{ReferencesOk}
 use Rattle.core_merge.specs.Independent.{writes_property}
 use Rattle.core_merge.specs.Orders.{tree_by_commits}
 
@@ -38,9 +40,16 @@ pub record IsTidyEdit (t : Nodes) (d : Draw) : Type 0 where
   pub marked : (p : Path) → IsTrue (writes_property p uuid d.edit.writes) → IsTrue (is_node_marked p d.marks)
   pub frozen : (p : Path) → IsTrue (stays t (applied None t d.edit.writes) p) → IsTrue (is_of_type t frozen_type p) → IsTrue (is_of_type (applied None t d.edit.writes) frozen_type p)
 
--- each draw is such an edit, and in each tree of all commits identifiers stand once
-abbrev pub IsTidy : Past → Type 0
-IsTidy [] = Unit {0}
-IsTidy (event.Draw d ∷ past) = IsTidyEdit (tree_at None past d.base) d × IsTidy past
-IsTidy (event.Commit r ∷ past) = HasDistinctIds (tree_by_commits (event.Commit r ∷ past)) × IsTidy past
-IsTidy (_ ∷ past) = IsTidy past
+-- in the tree of a start each reference names a node; what there is before any commit has none
+abbrev pub BeginsTidy : Begin → Type 0
+BeginsTidy None = Unit {0}
+BeginsTidy (Some s) = ReferencesOk s.tree
+
+-- the beginning is tidy, each draw is such an edit, and in each tree of all commits identifiers
+-- stand once
+abbrev pub IsTidy : Begin → Past → Type 0
+IsTidy begin [] = BeginsTidy begin
+IsTidy begin (event.Draw d ∷ past) = IsTidyEdit (tree_at begin past d.base) d × IsTidy begin past
+IsTidy begin (event.Commit r ∷ past) =
+    HasDistinctIds (tree_by_commits begin (event.Commit r ∷ past)) × IsTidy begin past
+IsTidy begin (_ ∷ past) = IsTidy begin past

@@ -3,7 +3,7 @@
 //! hold. Each edit is checked on the tree of its own base alone.
 #![tactic(auto)]
 
-ghost use Rattle.std.specs.Prelude.{None, ◌≡◌, ℕ, List, Some};
+ghost use Rattle.std.specs.Prelude.{◌≡◌, ℕ, List, Some};
 ghost use Rattle.jr_rev.specs.declared.revision.Revision.{Revision};
 ghost use Rattle.jr_rev.specs.declared.vector.RevVec.{RevVec};
 ghost use Rattle.jr_types.specs.declared.TypeDef.{TypeDef};
@@ -35,21 +35,33 @@ pub use product::{
 /// After each commit the tree of all commits meets the rules of node types, at each node and item (JSR 283, 3.7 Node Types). So
 /// does what a closed vector sees, and with it what a session sees at its base.
 pub fn commits_obey_types<L: Law>(law: &L)
-    ensures order { (types : List TypeDef) (tokens : Tokens) (h : History) → IsObeyingRun types tokens (L.may_start law.now) (L.may_say law.now) h → TypesOk types (tree_by_commits h.past) }
-    ensures closed { (types : List TypeDef) (tokens : Tokens) (h : History) (v : RevVec) → IsObeyingRun types tokens (L.may_start law.now) (L.may_say law.now) h → IsClosed h.past v → TypesOk types (tree_at None h.past v) }
-    ensures bases { (types : List TypeDef) (tokens : Tokens) (h : History) (s : ℕ) (v : RevVec) → IsObeyingRun types tokens (L.may_start law.now) (L.may_say law.now) h → base_of h.past s ≡ Some v → TypesOk types (tree_at None h.past v) }
+    ensures order { (types : List TypeDef) (tokens : Tokens) (h : History)
+        → IsObeyingRun types tokens (L.may_start law.now) (L.may_say law.now) h
+        → TypesOk types (tree_by_commits h.begin h.past) }
+    ensures closed { (types : List TypeDef) (tokens : Tokens) (h : History) (v : RevVec)
+        → IsObeyingRun types tokens (L.may_start law.now) (L.may_say law.now) h
+        → IsClosed h.past v → TypesOk types (tree_at h.begin h.past v) }
+    ensures bases { (types : List TypeDef) (tokens : Tokens) (h : History) (s : ℕ) (v : RevVec)
+        → IsObeyingRun types tokens (L.may_start law.now) (L.may_say law.now) h
+        → base_of h.past s ≡ Some v → TypesOk types (tree_at h.begin h.past v) }
 {}
 
 /// When a commit is made, no node that it changes is locked against the tokens that its session held when it was drawn, and none is
 /// covered by a checked-in node, in the tree of all commits before it (JSR 283, 17 Locking and 15 Versioning).
 pub fn commits_find_their_nodes_free<L: Law>(law: &L)
-    ensures { (types : List TypeDef) (tokens : Tokens) (h : History) (r : Revision) (d : Draw) → IsObeyingRun types tokens (L.may_start law.now) (L.may_say law.now) h → draw_of h.past r ≡ Some d → MayCommit h.past r → IsFree types (tree_by_commits h.past) (tokens_at_draw tokens h r d.session) d.edit.writes }
+    ensures { (types : List TypeDef) (tokens : Tokens) (h : History) (r : Revision) (d : Draw)
+        → IsObeyingRun types tokens (L.may_start law.now) (L.may_say law.now) h
+        → draw_of h.past r ≡ Some d → MayCommit h.past r
+        → IsFree types (tree_by_commits h.begin h.past) (tokens_at_draw tokens h r d.session)
+        d.edit.writes }
 {}
 
-/// After each commit of a run that keeps identifiers apart, each reference of the tree of all commits names a node (JSR 283, 3.8
-/// Referential Integrity).
+/// After each commit of a run that keeps identifiers apart, each reference of the tree of all commits
+/// names a node, where each of what the run begins with does (JSR 283, 3.8 Referential Integrity).
 pub fn commits_keep_references<L: Law>(law: &L)
-    ensures { (types : List TypeDef) (tokens : Tokens) (h : History) → IsObeyingRun types tokens (L.may_start law.now) (L.may_say law.now) h → IsTidy h.past → ReferencesOk (tree_by_commits h.past) }
+    ensures { (types : List TypeDef) (tokens : Tokens) (h : History)
+        → IsObeyingRun types tokens (L.may_start law.now) (L.may_say law.now) h
+        → IsTidy h.begin h.past → ReferencesOk (tree_by_commits h.begin h.past) }
 {}
 
 /// A plan marks the parent of each node that it adds or removes. So a law that lets only plans start merges trees.

@@ -3,7 +3,7 @@ ghost use Rattle.std.specs.Prelude.{◌≡◌, ◌≢◌, ℕ, List, None, Some}
 ghost use Rattle.jr_path.specs.declared.path.Item.{Item};
 ghost use Rattle.jr_rev.specs.declared.revision.Revision.{Revision};
 ghost use Rattle.jr_rev.specs.declared.vector.RevVec.{RevVec};
-ghost use Rattle.jr_tree.specs.Trees.{IsTree, initial_tree};
+ghost use Rattle.jr_tree.specs.Trees.{IsTree};
 ghost use Rattle.jr_items.specs.Refusals.{clash};
 ghost use Rattle.jr_types.specs.Rules.{TypesOk};
 ghost use Rattle.jcr_trans.specs.declared.command.Command.{Command};
@@ -16,7 +16,7 @@ ghost use Rattle.jcr_plan.specs.Plans.{IsFree};
 ghost use Rattle.jcr_ref.specs.References.{ReferencesOk};
 ghost use Rattle.oak_machine.specs.declared.event.Draw.{Draw};
 ghost use Rattle.oak_machine.specs.Commits.{draw_of, refusal_of, tree_at};
-ghost use Rattle.oak_machine.specs.History.{History};
+ghost use Rattle.oak_machine.specs.History.{Begin, History, begin_tree};
 ghost use Rattle.oak_machine.specs.Runs.{AreNodes, MayCommit};
 ghost use Rattle.oak_machine.specs.Sessions.{base_of, next_index};
 ghost use Rattle.core_heads.specs.Sound.{IsNodesRun};
@@ -29,27 +29,31 @@ ghost use Rattle.core_clash.specs.Unclashing.{IsUnclashing};
 ghost use Rattle.core_obeys.specs.Product.{IsProductRun, tokens_by};
 ghost use Rattle.core_obeys.specs.Tidy.{IsTidy};
 
-/// In each run by the law of the product the tree of all commits, in the order in which they were made, is a tree and meets
-/// the rules of node types (JSR 283, 3.7 Node Types), and so does what a session sees at its base, which is a tree whether or
-/// not the initial tree meets them; no commit changes what is locked against the tokens that its session held when it was
-/// drawn, or what a checked-in node covers (17 Locking, 15 Versioning); and where identifiers stand once, each REFERENCE names
-/// a node (3.8 Referential Integrity).
+/// In each run by the law of the product, from whatever it begins with, the tree of all commits, in
+/// the order in which they were made, is a tree and meets the rules of node types (JSR 283, 3.7 Node
+/// Types), where what it begins with meets them, and so does what a session sees at its base, which
+/// is a tree whether or not what it begins with meets them; no commit changes what is locked against
+/// the tokens that its session held when it was drawn, or what a checked-in node covers (17 Locking,
+/// 15 Versioning); and where identifiers stand once, and each REFERENCE of what it begins with names
+/// a node, each REFERENCE names a node (3.8 Referential Integrity).
 pub fn the_product_obeys()
-    ensures trees { (law : JcrLaw) (h : History) → IsProductRun law h → IsTree (tree_by_commits h.past) }
+    ensures trees { (law : JcrLaw) (h : History) → IsProductRun law h
+        → IsTree (tree_by_commits h.begin h.past) }
     ensures types { (law : JcrLaw) (h : History) → IsProductRun law h
-        → TypesOk law.types (tree_by_commits h.past) }
+        → TypesOk law.types (tree_by_commits h.begin h.past) }
     ensures bases { (law : JcrLaw) (h : History) (s : ℕ) (v : RevVec) → IsProductRun law h
-        → base_of h.past s ≡ Some v → TypesOk law.types (tree_at None h.past v) }
-    ensures bases_are_trees { (law : JcrLaw) (clusters : ℕ) (sessions : List ℕ)
-        → AreNodes clusters sessions → SeesTrees law clusters sessions None }
-    ensures bases_are_typed { (law : JcrLaw) (clusters : ℕ) (sessions : List ℕ)
-        → AreNodes clusters sessions → TypesOk law.types initial_tree
-        → SeesTyped law clusters sessions None }
+        → base_of h.past s ≡ Some v → TypesOk law.types (tree_at h.begin h.past v) }
+    ensures bases_are_trees { (begin : Begin) (law : JcrLaw) (clusters : ℕ) (sessions : List ℕ)
+        → AreNodes clusters sessions → SeesTrees law clusters sessions begin }
+    ensures bases_are_typed { (begin : Begin) (law : JcrLaw) (clusters : ℕ) (sessions : List ℕ)
+        → AreNodes clusters sessions → TypesOk law.types (begin_tree begin)
+        → SeesTyped law clusters sessions begin }
     ensures free { (law : JcrLaw) (h : History) (r : Revision) (d : Draw) → IsProductRun law h
         → draw_of h.past r ≡ Some d → MayCommit h.past r
-        → IsFree law.types (tree_by_commits h.past) (tokens_at_draw (tokens_by law) h r d.session) d.edit.writes }
-    ensures references { (law : JcrLaw) (h : History) → IsProductRun law h → IsTidy h.past
-        → ReferencesOk (tree_by_commits h.past) }
+        → IsFree law.types (tree_by_commits h.begin h.past)
+        (tokens_at_draw (tokens_by law) h r d.session) d.edit.writes }
+    ensures references { (law : JcrLaw) (h : History) → IsProductRun law h → IsTidy h.begin h.past
+        → ReferencesOk (tree_by_commits h.begin h.past) }
 {}
 
 /// In each run by the law of the product all this holds at each time, as each run was a run at each time before.

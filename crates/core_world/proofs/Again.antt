@@ -33,19 +33,17 @@ use Rattle.core_clash.specs.Views.{AreOrdered}
 use Rattle.core_clash.proofs.Basics.{decide, same_revision, writer_other}
 use Rattle.core_clash.proofs.Finished.{event_keeps}
 use Rattle.core_clash.proofs.Undone.{clear_keeps}
-use Rattle.core_keep.specs.Formers.{AreFormers}
 use Rattle.core_keep.specs.Journal.{course_of, IsKeptWorld}
 use Rattle.core_keep.specs.Keeps.{Course}
 use Rattle.core_keep.specs.Steps.{AreLeft, AreNotes, IsPruned}
 use Rattle.core_keep.proofs.Events.{kept_idle}
 use Rattle.core_keep.proofs.World.{kept_pruned}
-use Rattle.core_watch.specs.Reading.{IsReading}
 use Rattle.core_watch.proofs.GoingOn.{on_pruned}
 use Rattle.core_watch.proofs.StayingOn.{formers_pruned}
 use Rattle.core_world.specs.Kept.{AreCommitting, IsFreeOf, has_written}
 use Rattle.core_world.specs.States.{State, core_in, nodes_in}
 use Rattle.core_world.proofs.Freed.{effect, sound_undone}
-use Rattle.core_world.proofs.Letting.{LetsRead, lets_event, lets_on, lets_then}
+use Rattle.core_world.proofs.Letting.{LetsRead, lets_event, lets_then, lets_change, lets_same}
 use Rattle.core_world.proofs.Tables.{undo_main, undo_none}
 use Rattle.core_world.proofs.Undoing.{not_dead}
 
@@ -186,27 +184,16 @@ module _ (w : State) (a : AreCommitting w.past w.table w.running) (d : Draw) (p 
 
   -- ---- readers
 
-  lets_same : LetsRead w.table now w.past w.past
-  lets_same = by (nodes_in w.table p) refl
+  lets_undo : LetsRead w.table now w.past w.past
+  lets_undo = by (nodes_in w.table p) refl
     where
       by : (o : Option Document) → nodes_in w.table p ≡ o → LetsRead w.table now w.past w.past
-      by None is = record {
-        reads = λ formers y held reading. subst
-            (λ (es : List (DocId × Document)). IsReading (documents_in es) w.past formers y)
-            (sym (undo_none w.table p d.revision is)) reading;
-        tells = λ formers l. subst
-            (λ (es : List (DocId × Document)).
-            AreFormers (documents_in es) (course_of w.past) formers)
-            (sym (undo_none w.table p d.revision is)) l;
-        bounds = λ q. refl;
-        sweeps = λ q. refl;
-      }
-      by (Some f) is = lets_on w.table now w.past w.past
+      by None is = lets_same w.table now w.past (undo_none w.table p d.revision is)
+      by (Some f) is = lets_change w.table now w.past a.kept.told
           (λ pin held. on_pruned pin ds docs_now w.past _ a.kept held p f (changed_at f) is
           (undo_main w.table p d.revision f is) (pruned f is))
           (λ formers l. formers_pruned ds docs_now w.past _ a.kept p f (changed_at f) is
           (undo_main w.table p d.revision f is) (pruned f is) formers l)
-          (λ q. refl) (λ q. refl)
 
   module _ (s : ℕ) where
     abbrev then : Past
@@ -214,7 +201,7 @@ module _ (w : State) (a : AreCommitting w.past w.table w.running) (d : Draw) (p 
 
     pub again_lets : LetsRead w.table (after_undo w.table (id.Node p) d.revision) w.past
         (event.Went s kind.Undo ∷ w.past)
-    again_lets = lets_then w.table now now w.past w.past then (λ pin held. held) lets_same
+    again_lets = lets_then w.table now now w.past then _ again_world lets_undo
         (lets_event now w.past _ again_world (event.Went s kind.Undo) (λ q. refl) (λ q. refl)
         (λ q. refl))
 

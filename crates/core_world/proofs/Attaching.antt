@@ -46,6 +46,7 @@ use Rattle.core_world.proofs.Readers.{apart_from, event_reads, is_live}
 use Rattle.core_world.proofs.Roots.{root_quiet}
 use Rattle.core_world.proofs.Telling.{nodes_commit, nodes_let, same_world}
 use Rattle.core_world.proofs.Letting.{lets_calm, lets_then}
+use Rattle.core_world.proofs.Observers.{event_observes}
 
 -- ---- an attached session's base is that of its reader
 
@@ -231,8 +232,12 @@ module _ (starts : Starts) (says : Says) (proper : StartsProper starts) (w : Sta
           working = work_quiet w.sessions w.past w.running w.reading kept.sessions.working e refl (λ q. refl) (λ k. refl);
           memories = aside starts says w.clusters w.sessions kept.sessions.nodes w.past w.memories kept.sessions.memories e run (λ j. refl) (λ j. refl);
           readers = event_reads w.past w.table w.formers w.reading kept.sessions.readers (reader_held starts says proper w kept.sessions) e u
-              (lets_then w.table u u w.past w.past (e ∷ w.past) (λ pin h. h) (nodes_let w.past w.table u w.running kept.sessions.committing t same previous) (lets_calm u w.past (λ r. has_written (kept.sessions.committing.writers r)) (same_world w.past w.table u w.running kept.sessions.committing t same previous) e (λ x. refl) refl))
+              (lets_then w.table u u w.past (e ∷ w.past) (λ r. has_written (kept.sessions.committing.writers r)) (same_world w.past w.table u w.running kept.sessions.committing t same previous) (nodes_let w.past w.table u w.running kept.sessions.committing t same previous) (lets_calm u w.past (λ r. has_written (kept.sessions.committing.writers r)) (same_world w.past w.table u w.running kept.sessions.committing t same previous) e (λ x. refl) refl))
               (apart_from w.past w.table w.formers w.reading kept.sessions.readers (reader_held starts says proper w kept.sessions) s unread);
+          observers = event_observes starts says w.clusters w.sessions kept.sessions.nodes proper w.past e run w.table u w.formers w.observing kept.sessions.observers (λ k. refl) (λ q r h. refl)
+              _ (quiet_commits w.past u w.running (nodes_commit w.past w.table u w.running kept.sessions.committing t same previous) t e refl (λ k. refl)).kept
+              (lets_then w.table u u w.past (e ∷ w.past) (λ r. has_written (kept.sessions.committing.writers r)) (same_world w.past w.table u w.running kept.sessions.committing t same previous) (nodes_let w.past w.table u w.running kept.sessions.committing t same previous)
+              (lets_calm u w.past (λ r. has_written (kept.sessions.committing.writers r)) (same_world w.past w.table u w.running kept.sessions.committing t same previous) e (λ x. refl) refl));
         };
         root = root_quiet w.clusters w.past u e refl (root_same w.clusters w.past w.table u same kept.root);
         settings = attach_set w.sessions w.past w.table kept.settings s i v there;

@@ -1,5 +1,5 @@
 -- Background work and sweeps keep the world.
-use Rattle.std.proofs.Common.{◌≡◌, ℕ, ◌≤◌, true, false, cond, not, ◌&&◌, ◌||◌, Option, Some, None, [], ◌∷◌, is_some, is_none, refl, sym, ap, subst, ◌∙◌}
+use Rattle.std.proofs.Common.{◌≡◌, ℕ, ◌≤◌, true, false, cond, not, ◌&&◌, Option, Some, None, [], ◌∷◌, is_some, is_none, refl, sym, ap, subst, ◌∙◌}
 use Rattle.std.specs.Prelude.{◌==◌, Err, Ok, drop, slice_get}
 use Rattle.std.specs.List.{list_all}
 use Rattle.std.specs.Option.{option_map_or}
@@ -44,14 +44,15 @@ use Rattle.core_world.specs.Steps.{after_back, after_learn, after_learn_swept, a
 use Rattle.core_world.specs.Kept.{has_written, AreCommitting, AreSessionsKept, AreLayersKept, IsRootKept, WereOnRoot}
 use Rattle.core_world.proofs.Finishing.{quiet_commits}
 use Rattle.core_world.proofs.Flights.{draws_nothing, work_quiet}
-use Rattle.core_world.proofs.Lives.{its_node, node_goes, reader_held, reads_calm, session_there, told}
+use Rattle.core_world.proofs.Lives.{its_node, node_goes, reader_held, reads_calm, session_there, told, observes_calm}
 use Rattle.core_world.proofs.Letting.{is_bound, LetsRead, lets_calm, lets_still, lets_then}
 use Rattle.core_world.proofs.Memories.{aside, learn_memories, pending_memories, swept_memories}
 use Rattle.core_world.proofs.Readers.{event_reads, moved_base}
-use Rattle.core_world.proofs.Roots.{root_out, root_quiet, root_swept, update_elsewhere}
+use Rattle.core_world.proofs.Roots.{root_out, root_quiet, root_swept, update_elsewhere, starts_raised}
 use Rattle.core_world.proofs.Setting.{settings_quiet, update_apart}
 use Rattle.core_world.proofs.Tables.{put_write}
 use Rattle.core_world.proofs.Telling.{revectored, vectors_commit, vectors_let}
+use Rattle.core_world.proofs.Observers.{event_observes, moves_none}
 
 -- an update that makes no document and has no condition
 abbrev pub done_at : Table → DocId → UpdateOp → Option Document → Table
@@ -82,8 +83,11 @@ module _ (starts : Starts) (says : Says) (proper : StartsProper starts) (w : Sta
       working = work_quiet w.sessions w.past w.running w.reading kept.working e draws ends on;
       memories = aside starts says w.clusters w.sessions kept.nodes w.past w.memories kept.memories e (may, kept.run) leaves (λ j. leaves_both w.sessions j e (leaves j) (ap (λ o. option_map_or (λ n. not (is_of_node w.sessions j n)) o true) unmoved));
       readers = event_reads w.past w.table w.formers w.reading kept.readers (reader_held starts says proper w kept) e u
-          (lets_then w.table u u w.past w.past (e ∷ w.past) (λ pin h. h) lets (lets_calm u w.past (λ r. has_written (committing.writers r)) committing.kept e calm unbound))
+          (lets_then w.table u u w.past (e ∷ w.past) (λ r. has_written (committing.writers r)) committing.kept lets (lets_calm u w.past (λ r. has_written (committing.writers r)) committing.kept e calm unbound))
           (λ q r h. ap (λ o. option_map_or (λ n. n == q) o false) unbased);
+      observers = event_observes starts says w.clusters w.sessions kept.nodes proper w.past e (may, kept.run) w.table u w.formers w.observing kept.observers on (λ q r h. moves_none e unmoved q)
+          _ (quiet_commits w.past u w.running committing (told starts says proper w kept) e quiet on).kept
+          (lets_then w.table u u w.past (e ∷ w.past) (λ r. has_written (committing.writers r)) committing.kept lets (lets_calm u w.past (λ r. has_written (committing.writers r)) committing.kept e calm unbound));
     }
 
     -- an update that raises the vectors of a document, where it is there
@@ -117,7 +121,7 @@ module _ (starts : Starts) (says : Says) (proper : StartsProper starts) (w : Sta
     pub sweep_sessions : (r : Revision) → r.cluster ≡ node_of w s → is_at_most r (published None w.past (node_of w s)) ≡ true → AreSessionsKept starts says (after_sweep w s r)
     sweep_sessions r of low = with_vectors (event.Sweep (node_of w s) r) (of, low) refl (λ k. refl) (λ q. refl) refl refl (λ q. refl) refl (λ j. refl) refl [] (sweep_op r) refl refl refl refl (λ d. d.last_rev) (λ d. raised d.sweep_rev r) (λ d n. refl)
 
-    pub learn_sessions : is_stopped_under w.sessions w.past s ≡ false → (n : ℕ) (last sweep : RevVec) → IsOnRoot w.clusters (drop n w.past) last sweep → AreSessionsKept starts says (after_learn w s last sweep)
+    pub learn_sessions : is_stopped_under w.sessions w.past s ≡ false → (n : ℕ) (last sweep : RevVec) → IsOnRoot None w.clusters (drop n w.past) last sweep → AreSessionsKept starts says (after_learn w s last sweep)
     learn_sessions on n last sweep root =
         let e : Event = event.In (node_of w s) (learned (memory_of w s) last sweep).head in
         let learns = learn_memories starts says w.clusters w.sessions kept.nodes w.past w.memories kept.memories (node_of w s) node (node_goes starts says proper w kept s there on) n last sweep root kept.run in
@@ -128,6 +132,7 @@ module _ (starts : Starts) (says : Says) (proper : StartsProper starts) (w : Sta
           working = work_quiet w.sessions w.past w.running w.reading kept.working e refl (λ q. refl) (λ k. refl);
           memories = learns.1;
           readers = reads_calm starts says proper w kept e (λ q. refl) refl (λ q r h. refl);
+          observers = observes_calm starts says proper w kept e learns.0 (λ k. refl) (λ q. refl) refl (λ q r h. refl) w.running (quiet_commits w.past w.table w.running kept.committing (told starts says proper w kept) e refl (λ k. refl));
         }
 
     pub pending_sessions : has_left w.past s ≡ false → AreSessionsKept starts says (after_pending w s)
@@ -141,6 +146,7 @@ module _ (starts : Starts) (says : Says) (proper : StartsProper starts) (w : Sta
           working = work_quiet w.sessions w.past w.running w.reading kept.working e refl (λ q. refl) (λ k. refl);
           memories = pending_memories starts says w.clusters w.sessions kept.nodes w.past w.memories kept.memories s (node_of w s) node run;
           readers = reads_calm starts says proper w kept e (λ q. refl) refl (λ q r h. refl);
+          observers = observes_calm starts says proper w kept e run (λ k. refl) (λ q. refl) refl (λ q r h. refl) w.running (quiet_commits w.past w.table w.running kept.committing (told starts says proper w kept) e refl (λ k. refl));
         }
 
     pub learn_swept_sessions : has_left w.past s ≡ false → (r : Revision) → r.cluster ≡ node_of w s → is_at_most r (local None w.past (node_of w s)) ≡ true → AreSessionsKept starts says (after_learn_swept w s r)
@@ -154,6 +160,7 @@ module _ (starts : Starts) (says : Says) (proper : StartsProper starts) (w : Sta
           working = work_quiet w.sessions w.past w.running w.reading kept.working e refl (λ q. refl) (λ k. refl);
           memories = swept_memories starts says w.clusters w.sessions kept.nodes w.past w.memories kept.memories s (node_of w s) node r of low run;
           readers = reads_calm starts says proper w kept e (λ q. refl) refl (λ q r h. refl);
+          observers = observes_calm starts says proper w kept e run (λ k. refl) (λ q. refl) refl (λ q r h. refl) w.running (quiet_commits w.past w.table w.running kept.committing (told starts says proper w kept) e refl (λ k. refl));
         }
 
 -- ---- with the root
@@ -176,6 +183,7 @@ module _ (starts : Starts) (says : Says) (proper : StartsProper starts) (w : Sta
       document = revectored kept.root.document (raised kept.root.document.last_rev r) kept.root.document.sweep_rev (next_number w.table);
       there = told_root w.table kept.root.document (back_op [] r) refl refl refl kept.root.there;
       tells = root_out w.clusters kept.sessions.nodes.eight w.past kept.root.document.last_rev kept.root.document.sweep_rev kept.root.tells (node_of w s) on r of;
+      begun = kept.root.begun;
     };
     settings = settings_quiet w.sessions w.past w.table (after_update w.table (back_op [] r)) (event.Out (node_of w s) r) refl (update_apart w.table [] (back_op [] r) refl) kept.settings;
   }
@@ -187,6 +195,7 @@ module _ (starts : Starts) (says : Says) (proper : StartsProper starts) (w : Sta
       document = revectored kept.root.document kept.root.document.last_rev (raised kept.root.document.sweep_rev r) (next_number w.table);
       there = told_root w.table kept.root.document (sweep_op r) refl refl refl kept.root.there;
       tells = root_swept w.clusters kept.sessions.nodes.eight w.past kept.root.document.last_rev kept.root.document.sweep_rev kept.root.tells (node_of w s) on r of low;
+      begun = starts_raised w.clusters kept.root.document.sweep_rev r kept.root.begun;
     });
     settings = settings_quiet w.sessions w.past w.table (after_update w.table (sweep_op r)) (event.Sweep (node_of w s) r) refl (update_apart w.table [] (sweep_op r) refl) kept.settings;
   }
@@ -213,13 +222,13 @@ module _ (starts : Starts) (says : Says) (proper : StartsProper starts) (w : Sta
   }
 
   pub own_entry_is : own_entry (memory_of w s) ≡ local None w.past (node_of w s)
-  own_entry_is = own_is w.clusters w.sessions kept.sessions.nodes w.past (sound_run w.clusters w.sessions kept.sessions.nodes None starts says w.past kept.sessions.run) (node_of w s) on (memory_of w s) (kept.sessions.memories.memory (node_of w s) on)
+  own_entry_is = own_is None w.clusters w.sessions kept.sessions.nodes w.past (sound_run w.clusters w.sessions kept.sessions.nodes None starts says w.past kept.sessions.run) (node_of w s) on (memory_of w s) (kept.sessions.memories.memory (node_of w s) on)
 
   -- what was public when the root was read, the head sees once it is learned
   pub heard : (last sweep : RevVec) → WereOnRoot w.clusters w.past last sweep → (r : Revision) → sees last r ≡ true → sees (learned (memory_of w s) last sweep).head r ≡ true
   heard last sweep were r h = still_seen (greatest (memory_of w s).head last) (own_entry (memory_of w s)) r low (right_seen (memory_of w s).head last r h) at_own
     where
-      is : IsMemoryOf w.clusters w.past (node_of w s) (memory_of w s)
+      is : IsMemoryOf None w.clusters w.past (node_of w s) (memory_of w s)
       is = kept.sessions.memories.memory (node_of w s) on
 
       own_cluster : (own_entry (memory_of w s)).cluster ≡ node_of w s
@@ -238,5 +247,5 @@ module _ (starts : Starts) (says : Says) (proper : StartsProper starts) (w : Sta
           (published_is w.clusters w.sessions kept.sessions.nodes None w.past (sound_run w.clusters w.sessions kept.sessions.nodes None starts says w.past kept.sessions.run) (node_of w s)).1)
 
 -- what is read of the root now
-pub told_now : (clusters : ℕ) (past : Past) (t : Table) → IsRootKept clusters past t → (d : Document) → nodes_in t [] ≡ Some d → IsOnRoot clusters past d.last_rev d.sweep_rev
-told_now clusters past t root d there = subst (λ (e : Document). IsOnRoot clusters past e.last_rev e.sweep_rev) (ap (λ (o : Option Document). option_map_or (λ e. e) o d) (sym root.there ∙ there)) root.tells
+pub told_now : (clusters : ℕ) (past : Past) (t : Table) → IsRootKept clusters past t → (d : Document) → nodes_in t [] ≡ Some d → IsOnRoot None clusters past d.last_rev d.sweep_rev
+told_now clusters past t root d there = subst (λ (e : Document). IsOnRoot None clusters past e.last_rev e.sweep_rev) (ap (λ (o : Option Document). option_map_or (λ e. e) o d) (sym root.there ∙ there)) root.tells

@@ -41,7 +41,7 @@ place clusters first zero i d h = absurd (none i h)
 place clusters first (suc count) zero d h = ap (λ k. begun k (start clusters)) (omega arith)
 place clusters first (suc count) (suc i) d h = place clusters (first + 1) count i d (omega arith) ∙ ap (λ k. begun k (start clusters)) (omega arith)
 
-begun_at : (clusters k : ℕ) → IsNode clusters k → memory_at (all_begun clusters 1 clusters) k ≡ begun k (start clusters)
+pub begun_at : (clusters k : ℕ) → IsNode clusters k → memory_at (all_begun clusters 1 clusters) k ≡ begun k (start clusters)
 begun_at clusters k node = read_at (all_begun clusters 1 clusters) k ∙ (place clusters 1 clusters (k - 1) (begun k no_entries) (let a = node.0 in let b = node.1 in omega arith) ∙ ap (λ j. begun j (start clusters)) (let a = node.0 in omega arith))
 
 -- its documents list no previous ones
@@ -83,8 +83,9 @@ start_kept starts says clusters sessions nodes = record {
   working = record { idle = λ s h on. refl; stays = λ s x h. absurd (false≢true (ap is_some h)); goes = λ s x h. absurd (false≢true (ap is_some h)); reads = λ s r h. absurd (false≢true (ap is_some h)); halted = λ s stopped h. absurd (false≢true h) };
   memories = record {
     counted = length-map-range_with_len (λ k. begun k (start clusters)) 1 clusters;
-    memory = λ k node. subst (λ (m : NodeState). IsMemoryOf clusters [] k m) (sym (begun_at clusters k node)) (begun_is clusters sessions nodes k node);
-    pins = λ k node. subst (λ (m : NodeState). ArePinsOf sessions [] k m) (sym (begun_at clusters k node)) (begun_pins clusters sessions k);
+    memory = λ k node. subst (λ (m : NodeState). IsMemoryOf None clusters [] k m) (sym (begun_at clusters k node)) (begun_is None clusters sessions nodes tt k node);
+    pins = λ k node. subst (λ (m : NodeState). ArePinsOf sessions [] k m) (sym (begun_at clusters k node)) (begun_pins None clusters sessions k);
   };
   readers = record { told = record { listed = λ p d h e i. absurd (subst (λ l. IsIn e l) ((start_holds clusters (length sessions)).whole p d h) i); former = λ p k f h. absurd (false≢true (ap is_some h)); copies = λ p k f x h there. absurd (false≢true (ap is_some h)) }; above = λ s r h. absurd (false≢true (ap is_some h)); reads = λ s r h. absurd (false≢true (ap is_some h)); at_base = λ s r h. absurd (false≢true (ap is_some h)); pairs = λ s r h. absurd (false≢true (ap is_some h)) };
+  observers = record { goes = λ s r h. absurd (false≢true (ap is_some h)); apart = λ s r h. absurd (false≢true (ap is_some h)); between = λ s r h. absurd (false≢true (ap is_some h)); tells = λ s r h. absurd (false≢true (ap is_some h)) };
 }

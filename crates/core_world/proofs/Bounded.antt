@@ -3,7 +3,7 @@ use Rattle.core_nodes.proofs.Recovering.{flier_alive}
 use Rattle.core_keep.specs.Journal.{IsUsed}
 use Rattle.core_keep.proofs.Events.{kept_bound}
 use Rattle.oak_read.specs.Meaning.{documents_in}
-use Rattle.std.proofs.Common.{◌≡◌, ◌⊎◌, inl, inr, ℕ, arith, Bool, true, false, cond, not, ◌&&◌, ◌||◌, Some, None, Option, List, [], ◌∷◌, refl, sym, ap, ◌∙◌, subst, is_some}
+use Rattle.std.proofs.Common.{◌≡◌, ◌⊎◌, inl, inr, ℕ, Bool, true, false, cond, not, ◌&&◌, ◌||◌, Some, None, Option, List, [], ◌∷◌, refl, sym, ap, ◌∙◌, subst, is_some}
 use Rattle.std.specs.Prelude.{◌==◌}
 use Rattle.std.specs.BTreeMap.{is_at}
 use Rattle.std.specs.Ordering.{nat_cmp}
@@ -20,7 +20,7 @@ use Rattle.oak_machine.specs.History.{Past}
 use Rattle.oak_machine.specs.Commits.{draw_of, is_ended, is_in_base, is_in_flight}
 use Rattle.oak_machine.specs.Laws.{Says, Starts, StartsProper}
 use Rattle.oak_machine.specs.Runs.{IsNode, IsRunOf, MayBound}
-use Rattle.oak_machine.specs.Sessions.{has_left, has_login, is_drawing, is_recovered, is_stopped_under}
+use Rattle.oak_machine.specs.Sessions.{has_left, has_login, is_drawing, is_recovered, is_stopped_under, pinned_at}
 use Rattle.oak_node.specs.Pins.{pin_of}
 use Rattle.oak_store.specs.Tables.{Table}
 use Rattle.core_heads.proofs.Below.{below_seen}
@@ -30,7 +30,6 @@ use Rattle.core_clash.specs.Collecting.{MayBound as MayBoundBases}
 use Rattle.core_clash.specs.Sessions.{Running}
 use Rattle.core_clash.proofs.Basics.{some_is}
 use Rattle.core_clash.proofs.Dropped.{bound_keeps}
-use Rattle.core_nodes.specs.Nodes.{pinned_at}
 use Rattle.core_world.specs.Held.{holding_in}
 use Rattle.core_world.specs.Kept.{AreCommitting, AreLayersKept, has_written}
 use Rattle.core_world.specs.States.{State, core_in, history_in, memory_of, node_of}
@@ -103,7 +102,7 @@ module _ (starts : Starts) (says : Says) (proper : StartsProper starts) (w : Sta
   alive : (r : Revision) → is_in_flight w.past r ≡ true → (d : Draw) → draw_of w.past r ≡ Some d → is_recovered w.past (node_of w d.session) ≡ false
   alive r flies d drawn =
       let by = drawn_by starts says w.clusters w.sessions w.past r d kept.sessions.run drawn in
-      ap (is_recovered w.past) (ap (λ o. unwrap_or o 0) by.node ∙ ap (λ (x : Revision). x.cluster) by.named) ∙ flier_alive starts says w.clusters w.sessions kept.sessions.nodes w.past kept.sessions.run r flies
+      ap (is_recovered w.past) (ap (λ o. unwrap_or o 0) by.node ∙ ap (λ (x : Revision). x.cluster) by.named) ∙ flier_alive None starts says w.clusters w.sessions kept.sessions.nodes w.past kept.sessions.run r flies
 
   base_sees_bound : (r o : Revision) → is_in_flight w.past r ≡ true → sees m o ≡ true → is_in_base w.past r o ≡ true
   base_sees_bound r o flies seen =
@@ -142,7 +141,7 @@ module _ (starts : Starts) (says : Says) (proper : StartsProper starts) (w : Sta
 
       unseen : (o : Revision) (b : Bool) → sees m o ≡ b → (is_in_flight w.past o ≡ true) ⊎ ⊥ → b ≡ false
       unseen o false e flies = refl
-      unseen o true e (inl flies) = absurd ((bound_run w.clusters w.sessions kept.sessions.nodes None starts says w.past m t (may, kept.sessions.run) o.cluster (node o flies) (flier_alive starts says w.clusters w.sessions kept.sessions.nodes w.past kept.sessions.run o flies) o (inl flies)).0 e)
+      unseen o true e (inl flies) = absurd ((bound_run w.clusters w.sessions kept.sessions.nodes None starts says w.past m t (may, kept.sessions.run) o.cluster (node o flies) (flier_alive None starts says w.clusters w.sessions kept.sessions.nodes w.past kept.sessions.run o flies) o (inl flies)).0 e)
       unseen o true e (inr n) = absurd n
 
 pub bound_commits : (past : Past) (t : Table) (running : ℕ → Option Running) (a : AreCommitting past t running) → (m s : RevVec) → MayBoundBases past m s → IsUsed past (sees m) → AreCommitting (event.Bound m s ∷ past) t running

@@ -31,7 +31,7 @@ use Rattle.core_read.specs.Holds.{IsClosedSight}
 use Rattle.core_read.specs.Told.{IsIn}
 use Rattle.core_world.specs.Bounding.{CanAllBound, CanBound, fed_node, fed_settings, IsBounding}
 use Rattle.core_world.specs.Held.{holding_in, is_node_in, MayTakeBound}
-use Rattle.core_world.specs.Kept.{AreLayersKept}
+use Rattle.core_world.specs.Kept.{AreLayersKept, SeesStarts}
 use Rattle.core_world.specs.Start.{start_settings, start_state, start_table}
 use Rattle.core_world.specs.States.{State, memory_at, nodes_in}
 use Rattle.core_world.proofs.Held.{head_is, node_in, pins_alive, takes_part}
@@ -45,19 +45,19 @@ least_sees : (v w : RevVec) (r : Revision) → sees (least v w) r ≡ true → (
 least_sees v w r h = (below_seen (least v w) v r (least_left v w) h, below_seen (least v w) w r (least_right v w) h)
 
 -- the lesser of two that can bound can
-lesser_can : (past : Past) (x y : Pin) → CanBound past x → CanBound past y → CanBound past (lesser_pair x y)
-lesser_can past x y a b = record {
+lesser_can : (clusters : ℕ) (past : Past) (x y : Pin) → CanBound clusters past x → CanBound clusters past y → CanBound clusters past (lesser_pair x y)
+lesser_can clusters past x y a b = record {
   good = record {
     behind = λ o ahead seen. a.good.behind o ahead (least_sees x.base y.base o seen).0;
     closed = λ o d drawn seen q h. let s = least_sees x.base y.base o seen in least_seen x.base y.base q (a.good.closed o d drawn s.0 q h) (b.good.closed o d drawn s.1 q h);
   };
   swept = least_lower (least x.sweep y.sweep) x.base y.base (below_along (least x.sweep y.sweep) x.sweep x.base (least_left x.sweep y.sweep) a.swept) (below_along (least x.sweep y.sweep) y.sweep y.base (least_right x.sweep y.sweep) b.swept);
-  begun = least_seen x.sweep y.sweep (start_of 1) a.begun b.begun;
+  begun = λ k node. least_seen x.sweep y.sweep (start_of k) (a.begun k node) (b.begun k node);
 }
 
-fold_can : (past : Past) (x : Pin) (ys : List Pin) → CanBound past x → ((y : Pin) → IsIn y ys → CanBound past y) → CanBound past (fold lesser_pair x ys)
-fold_can past x [] a each = a
-fold_can past x (y ∷ ys) a each = fold_can past (lesser_pair x y) ys (lesser_can past x y a (each y (inl refl))) (λ z i. each z (inr i))
+fold_can : (clusters : ℕ) (past : Past) (x : Pin) (ys : List Pin) → CanBound clusters past x → ((y : Pin) → IsIn y ys → CanBound clusters past y) → CanBound clusters past (fold lesser_pair x ys)
+fold_can clusters past x [] a each = a
+fold_can clusters past x (y ∷ ys) a each = fold_can clusters past (lesser_pair x y) ys (lesser_can clusters past x y a (each y (inl refl))) (λ z i. each z (inr i))
 
 fold_below : (x : Pin) (ys : List Pin) → IsPairBelow (fold lesser_pair x ys) x
 fold_below x [] = (below_itself x.base, below_itself x.sweep)
@@ -83,7 +83,7 @@ module _ (starts : Starts) (says : Says) (clusters : ℕ) (sessions : List ℕ) 
   good_stays [] past run v good = good
   good_stays (e ∷ added) past run v good = good_kept clusters None (added ++ past) (e ∷ added ++ past) (later_run clusters sessions nodes None starts says e (added ++ past) run) (Seen v) (good_stays added past run.1 v good)
 
-  can_stays : (added past : Past) → IsRunOf starts says clusters sessions None (added ++ past) → (x : Pin) → CanBound past x → CanBound (added ++ past) x
+  can_stays : (added past : Past) → IsRunOf starts says clusters sessions None (added ++ past) → (x : Pin) → CanBound clusters past x → CanBound clusters (added ++ past) x
   can_stays added past run x can = record { good = good_stays added past run x.base can.good; swept = can.swept; begun = can.begun }
 
 -- ---- a node that was recovered
@@ -114,21 +114,21 @@ bounding_skips w k x recovered bounding = record {
 -- ---- what is held
 
 -- a pair that goes together
-pair_can : (past : Past) (x : Pin) → IsGood None past (Seen x.base) → IsPair x.base x.sweep → CanBound past x
-pair_can past x good pair = record { good = good; swept = seen_below x.sweep x.base pair.vector.stands pair.below; begun = pair.begun }
+pair_can : (clusters : ℕ) (past : Past) (x : Pin) → IsGood None past (Seen x.base) → IsPair x.base x.sweep → SeesStarts clusters x.sweep → CanBound clusters past x
+pair_can clusters past x good pair begun = record { good = good; swept = seen_below x.sweep x.base pair.vector.stands pair.below; begun = begun }
 
-module _ (starts : Starts) (says : Says) (proper : StartsProper starts) (w : State) (kept : AreLayersKept starts says w) where
+module _ (starts : Starts) (says : Says) (proper : StartsProper starts) (w : State) (kept : AreLayersKept starts says w) (begun : (k : ℕ) → IsNode w.clusters k → SeesStarts w.clusters (memory_at w.memories k).sweep) where
   -- a head can bound
-  pub head_can : (k : ℕ) → IsNode w.clusters k → CanBound w.past ((holding_in w).heads k)
+  pub head_can : (k : ℕ) → IsNode w.clusters k → CanBound w.clusters w.past ((holding_in w).heads k)
   head_can k node =
       let memory = kept.sessions.memories.memory k node in
       let good : IsGood None w.past (Seen (memory_at w.memories k).head) =
       subst (λ (v : RevVec). IsGood None w.past (Seen v)) (sym memory.head) (head_good w.clusters w.sessions kept.sessions.nodes None w.past (sound_run w.clusters w.sessions kept.sessions.nodes None starts says w.past kept.sessions.run) k node) in
-      subst (λ (x : Pin). CanBound w.past x) (sym (head_is starts says proper w kept k node)) (pair_can w.past (Rattle.oak_node.specs.Pins.pin_now (memory_at w.memories k)) good memory.sweep)
+      subst (λ (x : Pin). CanBound w.clusters w.past x) (sym (head_is starts says proper w kept k node)) (pair_can w.clusters w.past (Rattle.oak_node.specs.Pins.pin_now (memory_at w.memories k)) good memory.sweep (begun k node))
 
   -- what the root has published can
-  pub root_can : CanBound w.past (root_pair kept.root.document)
-  root_can = pair_can w.past (root_pair kept.root.document) good kept.root.tells.pair
+  pub root_can : CanBound w.clusters w.past (root_pair kept.root.document)
+  root_can = pair_can w.clusters w.past (root_pair kept.root.document) good kept.root.tells.pair kept.root.begun
     where
       public : IsGood None w.past (Public w.clusters None w.past)
       public = public_good w.clusters w.sessions kept.sessions.nodes None w.past (sound_run w.clusters w.sessions kept.sessions.nodes None starts says w.past kept.sessions.run)
@@ -142,7 +142,7 @@ module _ (starts : Starts) (says : Says) (proper : StartsProper starts) (w : Sta
   -- the root was read
   pub bounding_begins : (root : Document) → nodes_in w.table [] ≡ Some root → IsBounding w 1 (root_pair root)
   bounding_begins root is = record {
-    can = subst (λ (d : Document). CanBound w.past (root_pair d)) (ap (λ o. unwrap_or o root) (sym kept.root.there ∙ is)) root_can;
+    can = subst (λ (d : Document). CanBound w.clusters w.past (root_pair d)) (ap (λ o. unwrap_or o root) (sym kept.root.there ∙ is)) root_can;
     heads = λ j node below. absurd (none j node.0 below);
     pins = λ j node below. absurd (none j node.0 below);
   }
@@ -154,13 +154,13 @@ module _ (starts : Starts) (says : Says) (proper : StartsProper starts) (w : Sta
     -- cluster node k is read
     pub bounding_node : IsNode w.clusters k → IsBounding w (k + 1) (fed_node w k x)
     bounding_node node = record {
-      can = fold_can w.past x ((holding_in w).heads k ∷ (holding_in w).pins k) bounding.can each;
+      can = fold_can w.clusters w.past x ((holding_in w).heads k ∷ (holding_in w).pins k) bounding.can each;
       heads = λ j n below taking. pair_below j n below ((holding_in w).heads j) (fold_below x ((holding_in w).heads k ∷ (holding_in w).pins k)) (λ h. bounding.heads j n h taking) (λ (same : j ≡ k). subst (λ (i : ℕ). IsPairBelow (fed_node w k x) ((holding_in w).heads i)) (sym same) (fold_each x ((holding_in w).heads k ∷ (holding_in w).pins k) ((holding_in w).heads k) (inl refl)));
       pins = λ j n below taking y i. pair_below j n below y (fold_below x ((holding_in w).heads k ∷ (holding_in w).pins k)) (λ h. bounding.pins j n h taking y i) (λ (same : j ≡ k). fold_each x ((holding_in w).heads k ∷ (holding_in w).pins k) y (inr (subst (λ (n : ℕ). IsIn y ((holding_in w).pins n)) same i)));
     }
       where
-        each : (y : Pin) → IsIn y ((holding_in w).heads k ∷ (holding_in w).pins k) → CanBound w.past y
-        each y (inl one) = subst (λ (z : Pin). CanBound w.past z) one (head_can k node)
+        each : (y : Pin) → IsIn y ((holding_in w).heads k ∷ (holding_in w).pins k) → CanBound w.clusters w.past y
+        each y (inl one) = subst (λ (z : Pin). CanBound w.clusters w.past z) one (head_can k node)
         each y (inr i) = all.pins k (takes_part starts says proper w kept k node (pins_alive starts says proper w kept k node y i)) y i
 
         pair_below : (j : ℕ) → IsNode w.clusters j → j < k + 1 → (y : Pin) → IsPairBelow (fed_node w k x) x → (j < k → IsPairBelow x y) → (j ≡ k → IsPairBelow (fed_node w k x) y) → IsPairBelow (fed_node w k x) y
@@ -178,8 +178,8 @@ module _ (starts : Starts) (says : Says) (proper : StartsProper starts) (w : Sta
     closed = closed_by w.past (fed_settings w x).base can.good;
   }
     where
-      can : CanBound w.past (fed_settings w x)
-      can = fold_can w.past x (holding_in w).kept bounding.can all.kept
+      can : CanBound w.clusters w.past (fed_settings w x)
+      can = fold_can w.clusters w.past x (holding_in w).kept bounding.can all.kept
 
       node_of : (k : ℕ) → (holding_in w).gone k ≡ false → IsNode w.clusters k
       node_of k taking = Rattle.core_world.proofs.Held.node_is w.clusters k (first (Rattle.core_world.specs.Held.is_node_in w.clusters k) taking)
@@ -191,12 +191,17 @@ module _ (starts : Starts) (says : Says) (proper : StartsProper starts) (w : Sta
       within : (k : ℕ) → (holding_in w).gone k ≡ false → k < w.clusters + 1
       within k taking = let n = (node_of k taking).1 in omega arith
 
+  -- its sweep vector sees the start of each cluster node
+  pub bounding_begun : CanAllBound w → (x : Pin) → IsBounding w (w.clusters + 1) x → SeesStarts w.clusters (fed_settings w x).sweep
+  bounding_begun all x bounding = (fold_can w.clusters w.past x (holding_in w).kept bounding.can all.kept).begun
+
 -- ---- over a step
 
-module _ (starts : Starts) (says : Says) (proper : StartsProper starts) (w u : State) (added : Past) (kept : AreLayersKept starts says w) (then : AreLayersKept starts says u) (grown : u.past ≡ added ++ w.past) (same : u.clusters ≡ w.clusters) (its : u.sessions ≡ w.sessions) (step : IsHoldingStep (holding_in w) (holding_in u)) where
-  can_on : (x : Pin) → CanBound w.past x → CanBound u.past x
-  can_on x can = subst (λ (p : Past). CanBound p x) (sym grown)
-      (can_stays starts says u.clusters u.sessions then.sessions.nodes added w.past (subst (λ (p : Past). IsRunOf starts says u.clusters u.sessions None p) grown then.sessions.run) x can)
+module _ (starts : Starts) (says : Says) (proper : StartsProper starts) (w u : State) (added : Past) (kept : AreLayersKept starts says w) (begun : (k : ℕ) → IsNode w.clusters k → SeesStarts w.clusters (memory_at w.memories k).sweep) (then : AreLayersKept starts says u) (grown : u.past ≡ added ++ w.past) (same : u.clusters ≡ w.clusters) (its : u.sessions ≡ w.sessions) (step : IsHoldingStep (holding_in w) (holding_in u)) where
+  can_on : (x : Pin) → CanBound w.clusters w.past x → CanBound u.clusters u.past x
+  can_on x can = subst (λ (p : Past). CanBound u.clusters p x) (sym grown)
+      (can_stays starts says u.clusters u.sessions then.sessions.nodes added w.past (subst (λ (p : Past). IsRunOf starts says u.clusters u.sessions None p) grown then.sessions.run) x
+      (subst (λ (n : ℕ). CanBound n w.past x) (sym same) can))
 
   was_there : (k : ℕ) → (holding_in u).gone k ≡ false → (holding_in w).gone k ≡ false
   was_there k h = by ((holding_in w).gone k) refl
@@ -217,7 +222,7 @@ module _ (starts : Starts) (says : Says) (proper : StartsProper starts) (w u : S
   all_can_on all = record {
     pins = λ k taking x i. elim (step.pins k x taking i) [
       | inl j ↦ can_on x (all.pins k (was_there k taking) x j)
-      | inr one ↦ subst (λ (y : Pin). CanBound u.past y) (sym one) (can_on ((holding_in w).heads k) (head_can starts says proper w kept k (node_was k (was_there k taking))))
+      | inr one ↦ subst (λ (y : Pin). CanBound u.clusters u.past y) (sym one) (can_on ((holding_in w).heads k) (head_can starts says proper w kept begun k (node_was k (was_there k taking))))
     ];
     kept = λ x i. elim (step.kept x i) [ inl j ↦ can_on x (all.kept x j) | inr j ↦ can_on x (all.pins j.0 j.1 x j.2) ];
   }

@@ -80,4 +80,4 @@ second_kept =
 
 -- the first moves on to the head, and leaves
 first_left : Kept (after_leave (after_refresh second_done 0) 0)
-first_left = leave_keeps proper_starts any_said proper _ (refresh_keeps proper_starts any_said proper second_done second_kept 0 refl refl refl refl refl) 0 refl refl refl refl refl refl
+first_left = leave_keeps proper_starts any_said proper _ (refresh_keeps proper_starts any_said proper second_done second_kept 0 refl refl refl refl refl refl) 0 refl refl refl refl refl refl refl

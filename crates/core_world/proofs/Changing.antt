@@ -1,5 +1,5 @@
 -- A step that changes documents of nodes and previous ones, without a commit, keeps the world where the committers stay sound and readers read on.
-use Rattle.std.proofs.Common.{◌≡◌, ℕ, true, false, ◌||◌, not, None, [], ◌∷◌, refl, ap, ◌∙◌}
+use Rattle.std.proofs.Common.{◌≡◌, ℕ, true, false, not, None, [], ◌∷◌, refl, ap, ◌∙◌}
 use Rattle.std.specs.Option.{option_map_or}
 use Rattle.std.specs.Prelude.{◌==◌}
 use Rattle.jr_path.specs.declared.path.DocId.TheVariants as id
@@ -25,7 +25,7 @@ use Rattle.core_watch.proofs.Lasting.{reading_lasts}
 use Rattle.core_watch.proofs.StayingOn.{formers_event}
 use Rattle.core_world.specs.Collecting.{after_change}
 use Rattle.core_world.specs.Held.{holding_in}
-use Rattle.core_world.specs.Kept.{AreCommitting, AreLayersKept, AreReading, IsRootKept, has_written}
+use Rattle.core_world.specs.Kept.{AreCommitting, AreLayersKept, AreReading, IsRootKept, has_written, AreObserving}
 use Rattle.core_world.specs.States.{State, core_in}
 use Rattle.core_world.proofs.Finishing.{quiet_commits}
 use Rattle.core_world.proofs.Flights.{work_quiet}
@@ -34,6 +34,8 @@ use Rattle.core_world.proofs.Lives.{goes_not, moves_no_pin, reader_held, told}
 use Rattle.core_world.proofs.Memories.{aside}
 use Rattle.core_world.proofs.Roots.{root_quiet}
 use Rattle.core_world.proofs.Setting.{settings_quiet}
+use Rattle.core_world.proofs.Letting.{lets_calm, observes_on}
+use Rattle.core_world.proofs.Observers.{between_on, moves_none, observers_last}
 
 module _ (starts : Starts) (says : Says) (proper : StartsProper starts) (w : State) (kept : AreLayersKept starts says w) (s : ℕ) (login : has_login w.past s ≡ true) (stays : has_left w.past s ≡ false) (k : StepKind) (other : is_kind k kind.End ≡ false) (apart : is_kind k kind.Pin ≡ false) where
   abbrev e : Event
@@ -65,6 +67,18 @@ module _ (starts : Starts) (says : Says) (proper : StartsProper starts) (w : Sta
       pairs = kept.sessions.readers.pairs;
     }
 
+    changed_run : IsRunOf starts says w.clusters w.sessions None (e ∷ w.past)
+    changed_run = ((login, stays), kept.sessions.run)
+
+    -- readers of changes go on over the change of documents, and then over the event
+    observers : AreObserving w.sessions (e ∷ w.past) u more w.observing
+    observers = observers_last starts says w.clusters w.sessions kept.sessions.nodes proper w.past e changed_run w.table u w.formers more w.observing kept.sessions.observers (λ j. refl)
+        (λ q r h. between_on starts says w.clusters w.sessions kept.sessions.nodes w.past e q r (moves_none e (moves_no_pin s k other apart) q) (λ o. refl) (λ o. refl) (kept.sessions.observers.between q r h))
+        _ (quiet_commits w.past u w.running committing (told starts says proper w kept.sessions) e refl (λ j. refl)).kept
+        (λ r can tells. (lets_calm u w.past (λ o. has_written (kept.sessions.committing.writers o)) world e (λ o. refl) refl).observes more r can
+        (observes_on w.formers more (documents_in w.table.documents) u w.past w.past (told starts says proper w kept.sessions) grows r (λ q seen. refl) on
+        (record { done = λ o. has_written (kept.sessions.committing.writers o); world = world; then = can.then; now = can.then; bases = λ q ws h o. refl }) tells))
+
     pub changed_keeps : AreLayersKept starts says (record (after_change w s k u) { formers = more })
     changed_keeps =
         let run : IsRunOf starts says w.clusters w.sessions None (e ∷ w.past) = ((login, stays), kept.sessions.run) in
@@ -76,6 +90,7 @@ module _ (starts : Starts) (says : Says) (proper : StartsProper starts) (w : Sta
             working = work_quiet w.sessions w.past w.running w.reading kept.sessions.working e refl (goes_not s k other) (λ j. refl);
             memories = aside starts says w.clusters w.sessions kept.sessions.nodes w.past w.memories kept.sessions.memories e run (λ j. refl) (λ j. ap (λ o. option_map_or (λ n. not (is_of_node w.sessions j n)) o true) (moves_no_pin s k other apart));
             readers = readers;
+            observers = observers;
           };
           root = root_quiet w.clusters w.past u e refl root;
           settings = settings_quiet w.sessions w.past w.table u e refl set kept.settings;

@@ -145,7 +145,7 @@ module _ (sessions : List ℕ) (past : Past) (t : Table) (set : AreSettingsKept 
 -- ---- the root, with the same documents of nodes
 
 pub root_same : (clusters : ℕ) (past : Past) (t u : Table) → ((p : Path) → nodes_in u p ≡ nodes_in t p) → IsRootKept clusters past t → IsRootKept clusters past u
-root_same clusters past t u same root = record { document = root.document; there = same [] ∙ root.there; tells = root.tells }
+root_same clusters past t u same root = record { document = root.document; there = same [] ∙ root.there; tells = root.tells; begun = root.begun }
 
 -- ---- the steps
 

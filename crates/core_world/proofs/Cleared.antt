@@ -1,7 +1,7 @@
 -- No step of a world brings back what is gone from a document: each but the write of a committer
 -- brings nothing of any revision, and no committer at work is that of what is dead.
 use Rattle.std.proofs.Common.{◌≡◌, inl, inr, ℕ, Bool, true, false, cond, not, ◌&&◌, ◌||◌}
-use Rattle.std.proofs.Common.{Some, None, Option, is_some, is_none, List, [], ◌∷◌}
+use Rattle.std.proofs.Common.{Some, None, Option, is_some, is_none, List, ◌∷◌}
 use Rattle.std.proofs.Common.{refl, sym, ap, subst, ◌∙◌}
 use Rattle.std.specs.Prelude.{Err, Ok}
 use Rattle.std.specs.FinMap.{is_sorted}

@@ -1,6 +1,5 @@
 -- A recovery undoes what is dead in a document.
-use Rattle.std.proofs.Common.{◌≡◌, ℕ, Bool, true, false, cond, not, Option, Some, None, [], ◌∷◌, refl, ap}
-use Rattle.std.specs.Option.{option_map_or}
+use Rattle.std.proofs.Common.{◌≡◌, ℕ, Bool, true, false, [], ◌∷◌, refl}
 use Rattle.jr_path.specs.declared.path.Path.{Path}
 use Rattle.jr_path.specs.declared.path.DocId.TheVariants as id
 use Rattle.oak_machine.specs.Commits.{is_ended}
@@ -13,7 +12,6 @@ use Rattle.oak_machine.specs.declared.event.StepKind.TheVariants as kind
 use Rattle.oak_store.specs.Tables.{Table, after_undo}
 use Rattle.core_keep.specs.Holding.{IsHoldingStep}
 use Rattle.core_clash.specs.Core.{IsDead}
-use Rattle.core_nodes.specs.Nodes.{is_of_node}
 use Rattle.core_nodes.proofs.Pins.{leaves_both}
 use Rattle.core_world.specs.Held.{holding_in}
 use Rattle.core_world.specs.Kept.{AreCommitting, AreLayersKept, AreSessionsKept, IsKept, IsPinned}
@@ -32,6 +30,7 @@ use Rattle.core_world.proofs.Setting.{settings_quiet, undo_apart}
 use Rattle.core_world.proofs.Truths.{leaves_nothing}
 use Rattle.core_world.proofs.Undoing.{clear_commits, clear_lets}
 use Rattle.core_world.proofs.Whole.{goes, layers_of}
+use Rattle.core_world.proofs.Observers.{event_observes}
 
 module _ (starts : Starts) (says : Says) (proper : StartsProper starts) (w : State) (s : ℕ) (login : has_login w.past s ≡ true) (stays : has_left w.past s ≡ false)
     (d : Draw) (dead : IsDead w.past d) (p : Path) where
@@ -70,6 +69,8 @@ module _ (starts : Starts) (says : Says) (proper : StartsProper starts) (w : Sta
       memories = aside starts says w.clusters w.sessions kept.nodes w.past w.memories kept.memories e ((login, stays), kept.run) (λ j. refl) (λ j. leaves_both w.sessions j e refl refl);
       readers = event_reads w.past w.table w.formers w.reading kept.readers (reader_held starts says proper w kept) e (after_undo w.table (id.Node p) d.revision)
           (lets (is_ended w.past d.revision) refl) (λ q r h. refl);
+      observers = event_observes starts says w.clusters w.sessions kept.nodes proper w.past e ((login, stays), kept.run) w.table then w.formers w.observing kept.observers (λ k. refl) (λ q r h. refl)
+          _ (commits (is_ended w.past d.revision) refl).kept (lets (is_ended w.past d.revision) refl);
     }
 
   module _ (kept : AreLayersKept starts says w) where
@@ -86,10 +87,10 @@ module _ (starts : Starts) (says : Says) (proper : StartsProper starts) (w : Sta
         (same_kept starts says proper w kept (after_undo w.table (id.Node p) d.revision) (undo_apart w.table p d.revision))
 
     pub clear_pinned : IsPinned w → IsPinned (after_clear w s p d.revision)
-    clear_pinned pinned = quiet_pinned starts says proper w kept pinned u refl refl refl (λ q. refl) (undo_apart w.table p d.revision)
+    clear_pinned pinned = quiet_pinned starts says proper w kept pinned u refl refl refl refl (λ q. refl) (undo_apart w.table p d.revision)
 
   -- what is dead is undone, also where it has ended
   pub clear_whole : IsKept starts says w → IsKept starts says (after_clear w s p d.revision)
   clear_whole kept =
       let layers = layers_of starts says w kept in
-      goes starts says proper w kept u (clear_layers layers) (λ r. refl) (λ r. refl) (clear_rises layers) (clear_pinned layers kept.pinned)
+      goes starts says proper w kept u refl (clear_layers layers) (λ r. refl) (λ r. refl) (clear_rises layers) (clear_pinned layers kept.pinned)

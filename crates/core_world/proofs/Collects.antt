@@ -33,7 +33,7 @@ use Rattle.core_keep.specs.Dropping.{DropsGarbage, is_number_of}
 use Rattle.core_keep.specs.Steps.{IsMainAt}
 use Rattle.core_keep.proofs.Garbage.{same_parts, unlisted_from}
 use Rattle.core_world.specs.Collecting.{without}
-use Rattle.core_world.specs.Kept.{IsRootKept}
+use Rattle.core_world.specs.Kept.{IsRootKept, SeesStarts}
 use Rattle.core_world.specs.States.{core_in, moved_in, nodes_in}
 use Rattle.core_world.proofs.Tables.{put_main, put_node}
 use Rattle.core_read.proofs.Entries.{lookup-remove}
@@ -90,16 +90,17 @@ pub root_changed : (clusters : ℕ) (past : Past) (t u : Table) (p : Path) (old 
 root_changed clusters past t u p old d main there last sweep root = by (eq_by_cmp path_cmp [] p) refl
   where
     by : (b : Bool) → eq_by_cmp path_cmp [] p ≡ b → IsRootKept clusters past u
-    by false h = record { document = root.document; there = main.elsewhere.node [] h ∙ root.there; tells = root.tells }
+    by false h = record { document = root.document; there = main.elsewhere.node [] h ∙ root.there; tells = root.tells; begun = root.begun }
     by true h =
         let one : [] ≡ p = same_path [] p h in
         let its : root.document ≡ old = ap (λ o. unwrap_or o root.document) (sym root.there ∙ (ap (nodes_in t) one ∙ there)) in
         record {
           document = d;
           there = ap (nodes_in u) one ∙ main.at;
-          tells = subst (λ (v : Rattle.jr_rev.specs.declared.vector.RevVec.RevVec). Rattle.core_nodes.specs.Nodes.IsOnRoot clusters past v d.sweep_rev) (sym last ∙ refl)
-              (subst (λ (v : Rattle.jr_rev.specs.declared.vector.RevVec.RevVec). Rattle.core_nodes.specs.Nodes.IsOnRoot clusters past old.last_rev v) (sym sweep)
-              (subst (λ (x : Document). Rattle.core_nodes.specs.Nodes.IsOnRoot clusters past x.last_rev x.sweep_rev) its root.tells));
+          tells = subst (λ (v : Rattle.jr_rev.specs.declared.vector.RevVec.RevVec). Rattle.core_nodes.specs.Nodes.IsOnRoot None clusters past v d.sweep_rev) (sym last ∙ refl)
+              (subst (λ (v : Rattle.jr_rev.specs.declared.vector.RevVec.RevVec). Rattle.core_nodes.specs.Nodes.IsOnRoot None clusters past old.last_rev v) (sym sweep)
+              (subst (λ (x : Document). Rattle.core_nodes.specs.Nodes.IsOnRoot None clusters past x.last_rev x.sweep_rev) its root.tells));
+          begun = subst (λ (v : Rattle.jr_rev.specs.declared.vector.RevVec.RevVec). SeesStarts clusters v) (sym sweep) (subst (λ (x : Document). SeesStarts clusters x.sweep_rev) its root.begun);
         }
 
 -- ---- a pruned document

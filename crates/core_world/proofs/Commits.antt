@@ -23,9 +23,7 @@ use Rattle.oak_machine.specs.declared.event.StepKind.TheVariants as kind
 use Rattle.oak_machine.specs.Commits.{marks_of}
 use Rattle.oak_machine.specs.Laws.{Says, Starts, StartsProper}
 use Rattle.oak_machine.specs.Runs.{MayFollow, MayRefuse}
-use Rattle.oak_machine.specs.Sessions.{has_left, has_login, is_end_of_session, is_stop_of, is_drawing}
-use Rattle.oak_read.specs.declared.reader.Reader.{Reader}
-use Rattle.oak_read.specs.Meaning.{documents_in}
+use Rattle.oak_machine.specs.Sessions.{has_left, has_login, is_end_of_session, is_stop_of}
 use Rattle.oak_store.specs.Tables.{Table, after_undo, next_number}
 use Rattle.core_clash.specs.Core.{root_of}
 use Rattle.oak_commit.specs.Looking.{whole}
@@ -50,6 +48,7 @@ use Rattle.core_world.proofs.Readers.{event_reads, moved_base}
 use Rattle.core_world.proofs.Refusing.{refuse_commits, want_commits}
 use Rattle.core_world.proofs.Undoing.{undo_commits, undo_lets}
 use Rattle.core_world.proofs.Writing.{write_commits, write_lets}
+use Rattle.core_world.proofs.Observers.{event_observes, moves_none}
 
 module _ (starts : Starts) (says : Says) (proper : StartsProper starts) (w : State) (kept : AreSessionsKept starts says w) where
   module _ (s : ℕ) (x : Running) (here : w.running s ≡ Some x) where
@@ -83,6 +82,8 @@ module _ (starts : Starts) (says : Says) (proper : StartsProper starts) (w : Sta
         working = working;
         memories = aside starts says w.clusters w.sessions kept.nodes w.past w.memories kept.memories e (may, kept.run) leaves (λ j. leaves_both w.sessions j e (leaves j) (ap (λ o. option_map_or (λ n. not (is_of_node w.sessions j n)) o true) unmoved));
         readers = event_reads w.past w.table w.formers w.reading kept.readers (reader_held starts says proper w kept) e u lets (λ q r h. ap (λ o. option_map_or (λ n. n == q) o false) unbased);
+        observers = event_observes starts says w.clusters w.sessions kept.nodes proper w.past e (may, kept.run) w.table u w.formers w.observing kept.observers on (λ q r h. moves_none e unmoved q)
+            (λ r. has_written (committing.writers r)) committing.kept lets;
       }
 
     module _ (uncommitted : x.committed ≡ false) (going : x.writer.undoing ≡ false) where
@@ -178,6 +179,7 @@ module _ (starts : Starts) (says : Says) (proper : StartsProper starts) (w : Sta
         working = work_session w.sessions w.past w.running w.reading kept.working s _ (kept.working.stays s x here) (kept.working.goes s x here);
         memories = kept.memories;
         readers = kept.readers;
+        observers = kept.observers;
       }
 
     -- ---- undoing

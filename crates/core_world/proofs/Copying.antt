@@ -5,7 +5,6 @@ use Rattle.std.specs.List.{filter}
 use Rattle.std.specs.Option.{option_map_or, unwrap_or}
 use Rattle.std.specs.Ordering.{eq_by_cmp}
 use mathlib.Core.Bool.{false≢true}
-use Rattle.jr_path.specs.Ids.{id_cmp}
 use Rattle.jr_path.specs.Names.{path_cmp}
 use Rattle.jr_path.specs.declared.path.DocId.TheVariants as id
 use Rattle.jr_path.specs.declared.path.Path.{Path}

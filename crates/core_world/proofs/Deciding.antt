@@ -2,7 +2,6 @@
 use Rattle.std.proofs.Common.{◌≡◌, ℕ, Bool, true, false, not, ◌&&◌, ◌||◌, Some, None, Option, is_some, refl, sym, ap, subst, ◌∙◌}
 use Rattle.std.specs.Prelude.{slice_get}
 use Rattle.std.specs.Option.{option_map, option_map_or, unwrap_or}
-use mathlib.Core.Bool.{false≢true}
 use Rattle.jr_path.specs.declared.path.DocId.{DocId}
 use Rattle.jr_path.specs.declared.path.DocId.TheVariants as id
 use Rattle.jr_path.specs.declared.path.Path.{Path}
@@ -14,7 +13,7 @@ use Rattle.oak_commit.specs.Clashing.{has_mark, marked, noted}
 use Rattle.oak_doc.specs.declared.document.Document.{Document}
 use Rattle.oak_doc.specs.Updates.{of_revision}
 use Rattle.oak_machine.specs.declared.event.Draw.{Draw}
-use Rattle.oak_machine.specs.Commits.{draw_of, is_committed, is_drawn, is_ended, is_in_flight}
+use Rattle.oak_machine.specs.Commits.{draw_of, is_committed, is_drawn, is_ended}
 use Rattle.oak_machine.specs.Laws.{Says, Starts, StartsProper}
 use Rattle.oak_node.specs.Pins.{pin_of}
 use Rattle.oak_read.specs.Meaning.{commit_root_of, documents_in}
@@ -24,7 +23,7 @@ use Rattle.core_read.proofs.Told.{no_edit}
 use Rattle.core_heads.proofs.Runs.{held_in_use}
 use Rattle.core_keep.specs.Journal.{IsHeld as IsHeldPair, is_swept}
 use Rattle.core_clash.specs.Core.{Core, root_of}
-use Rattle.core_clash.proofs.Basics.{not_both, or_left, some_of}
+use Rattle.core_clash.proofs.Basics.{or_left, some_of}
 use Rattle.core_clash.proofs.Shrinking.{status_is}
 use Rattle.core_clash.proofs.Steps.{undone_here}
 use Rattle.core_world.specs.Kept.{IsKept}

@@ -16,13 +16,13 @@ use Rattle.oak_machine.specs.declared.event.Event.TheVariants as event
 use Rattle.oak_machine.specs.History.{Past}
 use Rattle.oak_machine.specs.Laws.{Says, Starts, StartsProper}
 use Rattle.oak_machine.specs.Runs.{IsNode, IsRunOf, MayDraw}
-use Rattle.oak_machine.specs.Sessions.{base_of, has_left, has_login, is_attached, is_drawing, is_recovered, is_stopped, is_stopped_under}
+use Rattle.oak_machine.specs.Sessions.{base_of, has_left, has_login, is_attached, is_drawing, is_recovered, is_stopped, is_stopped_under, pinned_at, session_base}
 use Rattle.oak_node.specs.Heads.{finished, next_draw, with_draw}
 use Rattle.oak_node.specs.Memory.{NodeState, own_entry}
 use Rattle.oak_node.specs.Pins.{pin_of}
 use Rattle.core_clash.specs.Collecting.{SeesBounded}
 use Rattle.core_clash.specs.Sessions.{IsTheirs, Running}
-use Rattle.core_nodes.specs.Nodes.{IsPair, base_of_pin, pinned_at, session_base}
+use Rattle.core_nodes.specs.Nodes.{IsPair, base_of_pin}
 use Rattle.core_nodes.proofs.Events.{next_is}
 use Rattle.core_nodes.proofs.Pins.{alive_base, session_owner}
 use Rattle.core_world.specs.States.{State, base_in, history_in, memory_at, memory_of, node_of, with_memory, with_session}
@@ -34,7 +34,7 @@ use Rattle.core_world.proofs.Drawing.{draw_commits}
 use Rattle.core_world.proofs.Finishing.{finish_commits, quiet_commits}
 use Rattle.std.specs.Prelude.{◌==◌}
 use Rattle.core_world.proofs.Flights.{drawn_idle, ended_idle, same_number, still_idle, was_drawing, was_drawn, work_quiet}
-use Rattle.core_world.proofs.Lives.{reads_calm, its_node, on_node, session_there, told}
+use Rattle.core_world.proofs.Lives.{reads_calm, its_node, on_node, session_there, told, observes_calm}
 use Rattle.core_world.proofs.Memories.{aside, draw_memories, end_memories, set_here}
 use Rattle.core_world.proofs.Readers.{detached_base, session_based, some_pinned}
 
@@ -103,7 +103,7 @@ module _ (starts : Starts) (says : Says) (proper : StartsProper starts) (w : Sta
         idle = kept.working.idle s none on;
         base = base_is detached;
         cluster = on_node starts says proper w kept s there ∙ ap (λ k. Some k) (sym same_node);
-        next = next_is w.clusters w.past (node_of w s) (memory_of w s) (kept.memories.memory (node_of w s) node) ∙ ap (λ k. Rattle.oak_machine.specs.Heads.next_draw w.clusters None w.past k) (sym same_node);
+        next = next_is None w.clusters w.past (node_of w s) (memory_of w s) (kept.memories.memory (node_of w s) node) ∙ ap (λ k. Rattle.oak_machine.specs.Heads.next_draw w.clusters None w.past k) (sym same_node);
         lawful = lawful;
       }
 
@@ -135,6 +135,8 @@ module _ (starts : Starts) (says : Says) (proper : StartsProper starts) (w : Sta
         memories = subst (λ (k : ℕ). AreMemories w.clusters w.sessions (event.Draw d ∷ w.past) (with_memory w.memories k (after_notes d.revision (with_draw (memory_at w.memories k) d.revision) paths))) same_node
             (draw_memories starts says w.clusters w.sessions kept.nodes w.past w.memories kept.memories d run (ap (λ k. next_draw (memory_at w.memories k)) (sym same_node)) paths);
         readers = reads_calm starts says proper w kept (event.Draw d) (λ q. refl) refl (λ q r h. refl);
+        observers = observes_calm starts says proper w kept (event.Draw d) run (λ k. refl) (λ q. refl) refl (λ q r h. refl) (with_session w.running s (Some (beginning d)))
+            (draw_commits starts says proper w.clusters w.sessions kept.nodes w.past w.table w.running kept.committing d run bounded);
       }
 
   -- ---- the end of a revision
@@ -184,6 +186,8 @@ module _ (starts : Starts) (says : Says) (proper : StartsProper starts) (w : Sta
       };
       memories = ended_memories;
       readers = reads_calm starts says proper w kept (event.End r) (λ q. refl) refl (λ q y h. refl);
+      observers = observes_calm starts says proper w kept (event.End r) run_ended (λ k. refl) (λ q. refl) refl (λ q y h. refl) (with_session w.running s None)
+          (finish_commits w.past w.table w.running kept.committing (told starts says proper w kept) s x here through);
     }
 
 -- ---- the head moves
@@ -201,6 +205,7 @@ module _ (starts : Starts) (says : Says) (proper : StartsProper starts) (w : Sta
         working = work_quiet w.sessions w.past w.running w.reading kept.working e refl (λ q. refl) (λ k. refl);
         memories = aside starts says w.clusters w.sessions kept.nodes w.past w.memories kept.memories e run (λ j. refl) (λ j. refl);
         readers = reads_calm starts says proper w kept e (λ q. refl) refl (λ q r h. refl);
+        observers = observes_calm starts says proper w kept e run (λ k. refl) (λ q. refl) refl (λ q r h. refl) w.running (quiet_commits w.past w.table w.running kept.committing (told starts says proper w kept) e refl (λ k. refl));
       }
 
 module _ (starts : Starts) (says : Says) (proper : StartsProper starts) (w : State) (kept : AreSessionsKept starts says w) (s : ℕ) (x : Running) (here : w.running s ≡ Some x) (through : IsThrough x) where

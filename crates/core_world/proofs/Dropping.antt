@@ -1,6 +1,6 @@
 -- The settings drop what they keep for the sessions of stopped cluster nodes.
-use Rattle.std.proofs.Common.{◌≡◌, ◌⊎◌, inl, inr, ℕ, Bool, true, false, cond, not, Option, Some, None, List, [], ◌∷◌, ◌++◌, fold, map, is_some, refl, sym, ap, subst, ◌∙◌, arith}
-use Rattle.std.specs.Prelude.{◌==◌, slice_get}
+use Rattle.std.proofs.Common.{◌≡◌, inl, inr, ℕ, Bool, true, false, cond, Option, Some, None, List, [], ◌∷◌, fold, map, is_some, refl, sym, ap, subst, ◌∙◌}
+use Rattle.std.specs.Prelude.{◌==◌}
 use Rattle.std.specs.BTreeMap.{is_at}
 use Rattle.std.specs.FinMap.{is_sorted}
 use Rattle.std.specs.Map.{lookup, remove_entry, values_of}
@@ -28,9 +28,9 @@ use Rattle.core_read.specs.Told.{IsIn}
 use Rattle.core_keep.specs.Bounds.{kept_pairs}
 use Rattle.core_keep.specs.Holding.{IsHoldingStep}
 use Rattle.core_nodes.specs.Nodes.{IsPair, base_of_pin}
-use Rattle.core_world.specs.Held.{holding_in, kept_in}
+use Rattle.core_world.specs.Held.{holding_in}
 use Rattle.core_world.specs.Kept.{AreLayersKept, AreSettingsKept, IsKept, IsPinned, reader_at}
-use Rattle.core_world.specs.States.{State, actor_pin, memory_at, memory_of, nodes_in, reader_pin}
+use Rattle.core_world.specs.States.{State, memory_at}
 use Rattle.core_world.specs.Steps.{after_drop_readers, after_update, settings_ops}
 use Rattle.core_world.proofs.Attaching.{number_test}
 use Rattle.core_world.proofs.Backs.{with_table}
@@ -170,14 +170,14 @@ module _ (starts : Starts) (says : Says) (proper : StartsProper starts) (w : Sta
         by false e = refl
 
     pub drop_pinned : IsPinned w → IsPinned (after_drop_readers w s ss)
-    drop_pinned pinned = same_pinned starts says proper w kept pinned (after_drop_readers w s ss) refl (λ q r h. alike starts says proper w kept pinned (after_drop_readers w s ss) q refl
+    drop_pinned pinned = same_pinned starts says proper w kept pinned (after_drop_readers w s ss) refl refl (λ q r h. alike starts says proper w kept pinned (after_drop_readers w s ss) q refl
         (ap (λ (o : Option Document). option_and_then (λ d. lookup (is_at (nat_cmp q)) d.readers) o) made
         ∙ (left_for q ss (apart q r h) kept.settings.document
         ∙ sym (ap (λ (o : Option Document). option_and_then (λ d. lookup (is_at (nat_cmp q)) d.readers) o) kept.settings.there)))
-        refl)
+        refl) (λ q r h. refl)
 
   -- the settings drop what they keep for sessions of stopped nodes
   pub drop_whole : IsKept starts says w → IsKept starts says (after_drop_readers w s ss)
   drop_whole kept =
       let layers = layers_of starts says w kept in
-      goes starts says proper w kept (after_drop_readers w s ss) (drop_layers layers) (λ r. refl) (λ r. refl) (drop_rises layers) (drop_pinned layers kept.pinned)
+      goes starts says proper w kept (after_drop_readers w s ss) refl (drop_layers layers) (λ r. refl) (λ r. refl) (drop_rises layers) (drop_pinned layers kept.pinned)

@@ -1,5 +1,5 @@
 -- What has nothing of a revision gets nothing of it by others' updates and undoings.
-use Rattle.std.proofs.Common.{◌≡◌, ◌⊎◌, inl, inr, ℕ, Bool, true, false, cond, not, ◌&&◌, Some, None, Option, List, [], ◌∷◌, fold, is_some, is_none, refl, sym, ap, subst, ◌∙◌}
+use Rattle.std.proofs.Common.{◌≡◌, inl, inr, ℕ, Bool, true, false, cond, not, ◌&&◌, Some, None, Option, List, [], ◌∷◌, fold, is_some, is_none, refl, sym, ap, subst, ◌∙◌}
 use Rattle.std.specs.Prelude.{Err, Ok}
 use Rattle.std.specs.List.{filter_map, list_all}
 use Rattle.std.specs.Option.{option_map_or}
@@ -27,7 +27,7 @@ use Rattle.oak_doc.specs.declared.update.UpdateOp.{UpdateOp}
 use Rattle.oak_doc.specs.Updates.{after_changes, changed, document_of, is_met, of_revision, refusal, undone, updated}
 use Rattle.oak_machine.specs.History.{Past}
 use Rattle.oak_read.specs.Meaning.{documents_in}
-use Rattle.oak_store.specs.Tables.{Table, after_undo, found, next_number, with_document}
+use Rattle.oak_store.specs.Tables.{Table, after_undo, found, next_number}
 use Rattle.core_read.specs.Holds.{root_entry}
 use Rattle.core_clash.specs.Core.{Docs, docs_after}
 use Rattle.core_clash.specs.Sound.{Sound}

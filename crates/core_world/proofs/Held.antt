@@ -1,7 +1,7 @@
 -- What a world holds rises with its steps: heads rise, pins are old ones or heads, and the settings keep what was kept or pinned.
 use Rattle.core_nodes.proofs.Pins.{pinned_alive}
 use Rattle.std.proofs.Common.{◌≡◌, ◌⊎◌, inl, inr, ℕ, ◌≤◌, Bool, true, false, cond, not, ◌&&◌, ◌||◌, Some, None, Option, List, [], ◌∷◌, ◌++◌, is_some, refl, sym, ap, subst, ◌∙◌, arith}
-use Rattle.std.specs.Prelude.{◌==◌, nat_le, slice_get}
+use Rattle.std.specs.Prelude.{nat_le, slice_get}
 use Rattle.std.specs.BTreeMap.{insert_entry, is_at}
 use Rattle.std.specs.Map.{lookup, remove_entry, values_of}
 use Rattle.std.specs.Option.{option_map_or}
@@ -23,7 +23,6 @@ use Rattle.oak_doc.specs.declared.document.Document.{Document}
 use Rattle.oak_doc.specs.declared.update.Change.{Change}
 use Rattle.oak_doc.specs.declared.update.Change.TheVariants as change
 use Rattle.oak_doc.specs.Updates.{after_changes}
-use Rattle.oak_machine.specs.declared.event.Event.TheVariants as event
 use Rattle.oak_machine.specs.Heads.{head_of}
 use Rattle.oak_machine.specs.History.{Past}
 use Rattle.oak_machine.specs.Laws.{Says, Starts, StartsProper}
@@ -38,7 +37,6 @@ use Rattle.core_read.specs.Told.{IsIn}
 use Rattle.core_clash.proofs.Basics.{or_right}
 use Rattle.core_heads.proofs.Below.{seen_below}
 use Rattle.core_heads.proofs.Entries.{raised_sees}
-use Rattle.core_heads.proofs.Orders.{same_number}
 use Rattle.core_heads.proofs.Runs.{grow_run}
 use Rattle.core_keep.specs.Bounds.{kept_pairs}
 use Rattle.core_keep.specs.Holding.{Holding, IsHoldingStep, IsPairBelow}

@@ -21,10 +21,10 @@ use Rattle.oak_machine.specs.Commits.{is_committed, marks_of}
 use Rattle.oak_machine.specs.Runs.{MayCommit}
 use Rattle.oak_read.specs.Meaning.{documents_in}
 use Rattle.oak_store.specs.Tables.{Table, next_number, with_document}
-use Rattle.core_read.specs.Holds.{is_at_path}
+use Rattle.core_read.specs.Holds.{is_at_path, edit_of}
 use Rattle.core_read.specs.Told.{IsIn, IsTold}
 use Rattle.core_read.proofs.Updates.{last_same}
-use Rattle.core_keep.specs.Journal.{IsKeptWorld}
+use Rattle.core_keep.specs.Journal.{IsKeptWorld, IsHeld}
 use Rattle.core_keep.specs.Steps.{IsMainAt}
 use Rattle.core_keep.proofs.Events.{kept_last}
 use Rattle.core_watch.proofs.GoingOn.{on_last}
@@ -48,6 +48,9 @@ use Rattle.core_world.proofs.Paths.{in_is}
 use Rattle.core_world.proofs.Progress.{among_in, is_among}
 use Rattle.core_world.proofs.Tables.{moved_stays, put_main, put_node}
 use Rattle.core_world.proofs.Working.{goes, kept_name, mine, world_of}
+use Rattle.jr_rev.specs.declared.vector.Pin.{Pin}
+use Rattle.jr_rev.specs.Vectors.{sees}
+use Rattle.core_changes.proofs.Steps.{step_commit}
 
 module _ (past : Past) (t : Table) (running : ℕ → Option Running) (a : AreCommitting past t running) (told : IsTold past) (s : ℕ) (x : Running) (here : running s ≡ Some x) (uncommitted : x.committed ≡ false) (going : x.writer.undoing ≡ false)
     (unmet : x.writer.due ≡ []) (none_left : x.writer.left ≡ []) where
@@ -137,8 +140,15 @@ module _ (past : Past) (t : Table) (running : ℕ → Option Running) (a : AreCo
       unstopped = at_session (λ q (y : Running). is_stopped past y.draw.revision.cluster ≡ false) running s _ (a.unstopped s x here) (λ q y f h. a.unstopped q y h);
     }
 
+    -- no pin that is held sees the revision
+    commit_edits : (pin : Pin) → IsHeld past pin.base pin.sweep → (q : Revision) → sees pin.base q ≡ true → edit_of later q ≡ edit_of past q
+    commit_edits pin held q seen =
+        (step_commit pin.base pin (documents_in t.documents) past _ (world_of past t running a told) (documents_in now.documents) r x.draw
+        (record { to = held; used = held.base; above = held.above; below = λ o h. h }) may_last.going.draw commit_follows
+        (λ v h. on_last (record { base = v; sweep = pin.sweep }) (documents_in t.documents) (documents_in now.documents) past _ (world_of past t running a told) h r x.draw (op x.draw.marks) (next_number t) may_last.going.draw commit_follows refl refl main readable)).edits q seen
+
     -- readers read on
     pub commit_lets : LetsRead t now past later
-    commit_lets = lets_on t now past later
+    commit_lets = lets_on t now past later told commit_edits
         (λ pin held. on_last pin (documents_in t.documents) (documents_in now.documents) past _ (world_of past t running a told) held r x.draw (op x.draw.marks) (next_number t) may_last.going.draw commit_follows refl refl main readable)
         (λ formers l. formers_last (documents_in t.documents) (documents_in now.documents) past _ (world_of past t running a told) r x.draw (op x.draw.marks) (next_number t) may_last.going.draw commit_follows refl refl main readable formers l) (λ q. refl) (λ q. refl)

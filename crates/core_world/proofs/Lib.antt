@@ -16,6 +16,7 @@ pub mod Finishing
 pub mod Logged
 pub mod Memories
 pub mod Readers
+pub mod Observers
 pub mod Lives
 pub mod Commits
 pub mod Draws

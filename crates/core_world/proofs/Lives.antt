@@ -11,7 +11,7 @@ use Rattle.oak_machine.specs.declared.event.StepKind.TheVariants as kind
 use Rattle.oak_machine.specs.Heads.{head_of}
 use Rattle.oak_machine.specs.Laws.{Says, Starts, StartsProper}
 use Rattle.oak_machine.specs.Runs.{IsNode, IsRunOf}
-use Rattle.oak_machine.specs.Sessions.{has_left, has_login, is_end_of_session, is_recovered, is_stopped, is_stopped_under, next_index}
+use Rattle.oak_machine.specs.Sessions.{has_left, has_login, is_end_of_session, is_recovered, is_stopped, is_stopped_under, next_index, is_stop_of}
 use Rattle.oak_machine.specs.Steps.{is_kind}
 use Rattle.oak_read.specs.declared.reader.Reader.{Reader}
 use Rattle.core_read.specs.Told.{IsTold}
@@ -26,14 +26,17 @@ use Rattle.core_clash.specs.Sessions.{Running}
 use Rattle.core_nodes.specs.Nodes.{cursor_owner, moved_pin}
 use Rattle.core_world.specs.States.{State, history_in, memory_of, node_of}
 use Rattle.core_world.specs.Steps.{after_leave, after_login, after_observe, after_refresh, after_said, after_went}
-use Rattle.core_world.specs.Kept.{AreReading, AreSessionsKept, has_written}
-use Rattle.core_world.proofs.Letting.{is_bound}
+use Rattle.core_world.specs.Kept.{AreReading, AreSessionsKept, has_written, AreCommitting, AreObserving}
+use Rattle.core_world.proofs.Letting.{is_bound, lets_calm}
 use Rattle.core_world.proofs.Finishing.{quiet_commits}
 use Rattle.core_nodes.proofs.Pasts.{running_alive}
 use Rattle.core_world.proofs.Flights.{same_number, still_idle, was_drawing, work_quiet}
 use Rattle.core_world.proofs.Logged.{login_node, some_number}
 use Rattle.core_world.proofs.Memories.{aside, leave_memories, login_memories, observe_memories, refresh_memories}
-use Rattle.core_world.proofs.Readers.{pin_reads, live_is, moved_base, moves_base_of, pair_held, quiet_reads}
+use Rattle.core_world.proofs.Readers.{pin_reads, live_is, moved_base, moves_base_of, pair_held, quiet_reads, based_is}
+use Rattle.oak_changes.specs.declared.changes.ChangesReader.{ChangesReader}
+use Rattle.core_changes.specs.Instants.{AreHeld}
+use Rattle.core_world.proofs.Observers.{between_are_held, event_observes, moves_apart, moves_none, moves_pin_of}
 
 pub chosen_false : (b c : Bool) → c ≡ false → cond b false c ≡ false
 chosen_false true c h = refl
@@ -66,7 +69,7 @@ module _ (starts : Starts) (says : Says) (proper : StartsProper starts) (w : Sta
     node_goes on = sym (ap (λ o. option_map_or (is_stopped w.past) o false) on_node) ∙ on
 
     pub node_alive : is_stopped_under w.sessions w.past s ≡ false → is_recovered w.past (node_of w s) ≡ false
-    node_alive on = running_alive starts says w.clusters w.sessions w.past kept.run (node_of w s) (node_goes on)
+    node_alive on = running_alive None starts says w.clusters w.sessions w.past kept.run (node_of w s) (node_goes on)
 
     pub its_head : (memory_of w s).head ≡ head_of w.clusters None w.past (node_of w s)
     its_head = (kept.memories.memory (node_of w s) its_node).head
@@ -92,6 +95,26 @@ module _ (starts : Starts) (says : Says) (proper : StartsProper starts) (w : Sta
   pub reads_pinned : (e : Event) (s : ℕ) → ((q : Revision) → is_commit_of q e ≡ false) → is_bound e ≡ false → moved_base e ≡ Some s → w.reading s ≡ None → AreReading (e ∷ w.past) w.table w.formers w.reading
   reads_pinned = pin_reads w.past w.table w.formers w.reading kept.readers reader_held (λ r. has_written (kept.committing.writers r)) kept.committing.kept
 
+  -- readers of changes after an event that moves none of their pins, where no document is changed
+  pub observes_calm : (e : Event) → IsRunOf starts says w.clusters w.sessions None (e ∷ w.past) → ((k : ℕ) → is_stop_of k e ≡ false) → ((q : Revision) → is_commit_of q e ≡ false) → is_bound e ≡ false
+      → ((s : ℕ) (r : ChangesReader) → w.observing s ≡ Some r → moves_pin_of s e ≡ false) → (running : ℕ → Option Running) → AreCommitting (e ∷ w.past) w.table running → AreObserving w.sessions (e ∷ w.past) w.table w.formers w.observing
+  observes_calm e run on calm unbound stays running committing = event_observes starts says w.clusters w.sessions kept.nodes proper w.past e run w.table w.table w.formers w.observing kept.observers on stays
+      (λ r. has_written (committing.writers r)) committing.kept (lets_calm w.table w.past (λ r. has_written (kept.committing.writers r)) kept.committing.kept e calm unbound)
+
+  -- who reads changes has logged in and hasn't left
+  pub observer_login : (s : ℕ) (r : ChangesReader) → w.observing s ≡ Some r → has_login w.past s ≡ true
+  observer_login s r h = (based_is w.past s r.pin.base (kept.observers.between s r h).own).login
+
+  pub observer_held : (s : ℕ) (r : ChangesReader) → w.observing s ≡ Some r → AreHeld w.past r.from r.pin
+  observer_held s r h = between_are_held starts says w.clusters w.sessions kept.nodes w.past kept.run s r (kept.observers.between s r h)
+
+  pub no_observer : (s : ℕ) → has_login w.past s ≡ false → w.observing s ≡ None
+  no_observer s new = by (w.observing s) refl
+    where
+      by : (o : Option ChangesReader) → w.observing s ≡ o → o ≡ None
+      by None h = refl
+      by (Some r) h = absurd (false≢true (sym new ∙ observer_login s r h))
+
   pub no_reader : (s : ℕ) → has_login w.past s ≡ false → w.reading s ≡ None
   no_reader s new = by (w.reading s) refl
     where
@@ -112,10 +135,11 @@ module _ (starts : Starts) (says : Says) (proper : StartsProper starts) (w : Sta
         working = work_quiet w.sessions w.past w.running w.reading kept.working e refl (λ q. refl) (λ k. refl);
         memories = login_memories starts says w.clusters w.sessions kept.nodes w.past w.memories kept.memories s (node_of w s) (on_node s there) (memory_of w s).head run;
         readers = reads_pinned e s (λ q. refl) refl refl (no_reader s first);
+        observers = observes_calm e run (λ k. refl) (λ q. refl) refl (moves_apart w.observing s (no_observer s first) e refl) w.running (quiet_commits w.past w.table w.running kept.committing told e refl (λ k. refl));
       }
 
-  pub refresh_keeps : (s : ℕ) → is_stopped_under w.sessions w.past s ≡ false → has_login w.past s ≡ true → has_left w.past s ≡ false → w.running s ≡ None → w.reading s ≡ None → AreSessionsKept starts says (after_refresh w s)
-  refresh_keeps s on login stays none unread =
+  pub refresh_keeps : (s : ℕ) → is_stopped_under w.sessions w.past s ≡ false → has_login w.past s ≡ true → has_left w.past s ≡ false → w.running s ≡ None → w.reading s ≡ None → w.observing s ≡ None → AreSessionsKept starts says (after_refresh w s)
+  refresh_keeps s on login stays none unread unobserved =
       let e : Event = event.Refresh s (memory_of w s).head in
       let there = session_there s login in
       let run : IsRunOf starts says w.clusters w.sessions None (e ∷ w.past) = (record { running = on; login = login; idle = kept.working.idle s none on; head = (node_of w s, on_node s there, its_head s there) }, kept.run) in
@@ -126,6 +150,7 @@ module _ (starts : Starts) (says : Says) (proper : StartsProper starts) (w : Sta
         working = work_quiet w.sessions w.past w.running w.reading kept.working e refl (λ q. refl) (λ k. refl);
         memories = refresh_memories starts says w.clusters w.sessions kept.nodes w.past w.memories kept.memories s (node_of w s) (on_node s there) (memory_of w s).head run stays;
         readers = reads_pinned e s (λ q. refl) refl refl unread;
+        observers = observes_calm e run (λ k. refl) (λ q. refl) refl (moves_apart w.observing s unobserved e refl) w.running (quiet_commits w.past w.table w.running kept.committing told e refl (λ k. refl));
       }
 
   -- ---- the end of a session, replies, and other steps
@@ -146,8 +171,8 @@ module _ (starts : Starts) (says : Says) (proper : StartsProper starts) (w : Sta
       by false e = refl
       by true e = absurd (false≢true (sym on ∙ (ap (is_stopped_under w.sessions w.past) (same_number s q e) ∙ stopped)))
 
-  pub leave_keeps : (s : ℕ) → is_stopped_under w.sessions w.past s ≡ false → slice_get w.sessions (cursor_owner s) ≡ None → has_login w.past s ≡ true → has_left w.past s ≡ false → w.running s ≡ None → w.reading s ≡ None → AreSessionsKept starts says (after_leave w s)
-  leave_keeps s on few login stays none unread =
+  pub leave_keeps : (s : ℕ) → is_stopped_under w.sessions w.past s ≡ false → slice_get w.sessions (cursor_owner s) ≡ None → has_login w.past s ≡ true → has_left w.past s ≡ false → w.running s ≡ None → w.reading s ≡ None → w.observing s ≡ None → AreSessionsKept starts says (after_leave w s)
+  leave_keeps s on few login stays none unread unobserved =
       let e : Event = event.Went s kind.End in
       let there = session_there s login in
       let run : IsRunOf starts says w.clusters w.sessions None (e ∷ w.past) = ((login, stays), kept.run) in
@@ -164,10 +189,11 @@ module _ (starts : Starts) (says : Says) (proper : StartsProper starts) (w : Sta
         };
         memories = leave_memories starts says w.clusters w.sessions kept.nodes w.past w.memories kept.memories s (node_of w s) (on_node s there) few run;
         readers = reads_pinned e s (λ q. refl) refl refl unread;
+        observers = observes_calm e run (λ k. refl) (λ q. refl) refl (moves_apart w.observing s unobserved e refl) w.running (quiet_commits w.past w.table w.running kept.committing told e refl (λ k. refl));
       }
 
-  pub observe_keeps : (s : ℕ) → slice_get w.sessions (cursor_owner s) ≡ None → has_login w.past s ≡ true → has_left w.past s ≡ false → w.reading s ≡ None → (pin : Pin) → pin_of (memory_of w s) s ≡ Some pin → AreSessionsKept starts says (after_observe w s pin)
-  observe_keeps s few login stays unread pin has =
+  pub observe_keeps : (s : ℕ) → slice_get w.sessions (cursor_owner s) ≡ None → has_login w.past s ≡ true → has_left w.past s ≡ false → w.reading s ≡ None → w.observing s ≡ None → (pin : Pin) → pin_of (memory_of w s) s ≡ Some pin → AreSessionsKept starts says (after_observe w s pin)
+  observe_keeps s few login stays unread unobserved pin has =
       let e : Event = event.Went s kind.Pin in
       let there = session_there s login in
       let run : IsRunOf starts says w.clusters w.sessions None (e ∷ w.past) = ((login, stays), kept.run) in
@@ -178,6 +204,7 @@ module _ (starts : Starts) (says : Says) (proper : StartsProper starts) (w : Sta
         working = work_quiet w.sessions w.past w.running w.reading kept.working e refl (λ q. refl) (λ k. refl);
         memories = observe_memories starts says w.clusters w.sessions kept.nodes w.past w.memories kept.memories s (node_of w s) (on_node s there) few pin has run;
         readers = reads_pinned e s (λ q. refl) refl refl unread;
+        observers = observes_calm e run (λ k. refl) (λ q. refl) refl (moves_apart w.observing s unobserved e refl) w.running (quiet_commits w.past w.table w.running kept.committing told e refl (λ k. refl));
       }
 
   pub said_keeps : (s i : ℕ) (text : Text) → i ≡ next_index w.past s → says (history_in w) s i text → AreSessionsKept starts says (after_said w s i text)
@@ -191,6 +218,7 @@ module _ (starts : Starts) (says : Says) (proper : StartsProper starts) (w : Sta
         working = work_quiet w.sessions w.past w.running w.reading kept.working e refl (λ q. refl) (λ k. refl);
         memories = aside starts says w.clusters w.sessions kept.nodes w.past w.memories kept.memories e run (λ j. refl) (λ j. refl);
         readers = reads_calm e (λ q. refl) refl (λ q r h. refl);
+        observers = observes_calm e run (λ k. refl) (λ q. refl) refl (λ q r h. refl) w.running (quiet_commits w.past w.table w.running kept.committing told e refl (λ k. refl));
       }
 
   pub went_keeps : (s : ℕ) (k : StepKind) → is_kind k kind.End ≡ false → is_kind k kind.Pin ≡ false → has_login w.past s ≡ true → has_left w.past s ≡ false → AreSessionsKept starts says (after_went w s k)
@@ -204,4 +232,5 @@ module _ (starts : Starts) (says : Says) (proper : StartsProper starts) (w : Sta
         working = work_quiet w.sessions w.past w.running w.reading kept.working e refl (goes_not s k other) (λ j. refl);
         memories = aside starts says w.clusters w.sessions kept.nodes w.past w.memories kept.memories e run (λ j. refl) (λ j. ap (λ o. option_map_or (λ n. not (Rattle.core_nodes.specs.Nodes.is_of_node w.sessions j n)) o true) (moves_no_pin s k other apart));
         readers = reads_calm e (λ q. refl) refl (λ q r h. ap (λ o. option_map_or (λ n. n == q) o false) (moves_no_pin s k other apart));
+        observers = observes_calm e run (λ k. refl) (λ q. refl) refl (λ q r h. moves_none e (moves_no_pin s k other apart) q) w.running (quiet_commits w.past w.table w.running kept.committing told e refl (λ k. refl));
       }

@@ -1,33 +1,44 @@
 -- A reader is made, is fed, or is taken away; and what it gives.
-use Rattle.std.proofs.Common.{◌≡◌, ℕ, Some, None, Option, sym, ap, subst, ◌∙◌, false}
+use Rattle.std.proofs.Common.{◌≡◌, ℕ, Some, None, Option, sym, ap, subst, ◌∙◌, false, List, true}
 use Rattle.std.specs.declared.alloc.Global.{Global}
 use Rattle.jr_path.specs.declared.path.Path.{Path}
 use Rattle.jr_rev.specs.declared.vector.Pin.{Pin}
 use Rattle.oak_machine.specs.Commits.{tree_at}
-use Rattle.oak_machine.specs.Laws.{Says, Starts, StartsProper}
+use Rattle.oak_machine.specs.Laws.{Says, Starts, StartsProper, StartsWrite}
 use Rattle.oak_machine.specs.Sessions.{is_stopped_under}
+use Rattle.oak_changes.specs.declared.changes.Step.TheVariants as observed
+use Rattle.oak_changes.specs.Reading.{changes_reader, due as due_changes, fed as fed_changes}
+use Rattle.oak_machine.specs.Changed.{changes_between}
 use Rattle.oak_read.specs.declared.reader.Reader.{Reader}
 use Rattle.oak_read.specs.declared.reader.ReadOut.{ReadOut}
 use Rattle.oak_read.specs.declared.reader.Step.TheVariants as step
 use Rattle.oak_read.specs.Meaning.{documents_in}
 use Rattle.oak_read.specs.Reading.{IsTable, answer, children_reader, due, fed, node_reader}
-use Rattle.core_nodes.specs.Nodes.{IsPair}
+use Rattle.core_nodes.specs.Nodes.{IsPair, cursor_owner}
 use Rattle.core_watch.specs.Standing.{AreChildrenOf, IsNodeOf, path_read}
 use Rattle.core_watch.specs.Reading.{IsReading}
 use Rattle.core_watch.proofs.Fed.{reading_feeds}
 use Rattle.core_watch.proofs.Moments.{fed_keeps}
 use Rattle.core_watch.proofs.Instants.{begins_children, begins_node, gives_children, gives_node}
 use Rattle.core_world.specs.States.{State, with_session}
-use Rattle.core_world.specs.Steps.{with_reader}
-use Rattle.core_world.specs.Kept.{AreReading, AreSessionsKept, has_written, IsAboveBounds, live_base}
+use Rattle.core_world.specs.Steps.{with_reader, with_observer}
+use Rattle.core_world.specs.Kept.{AreReading, AreSessionsKept, has_written, IsAboveBounds, live_base, AreObserving, IsBetweenPins}
 use Rattle.core_world.proofs.Committers.{at_others, at_session}
-use Rattle.core_world.proofs.Lives.{reader_held}
+use Rattle.core_world.proofs.Lives.{reader_held, observer_held}
+use Rattle.jr_rev.specs.declared.vector.RevVec.{RevVec}
+use Rattle.jr_rev.specs.Vectors.{sees}
+use Rattle.jr_tree.specs.declared.shared.CommitChanges.{CommitChanges}
+use Rattle.oak_changes.specs.declared.changes.ChangesReader.{ChangesReader}
+use Rattle.core_changes.specs.Observing.{IsObserving}
+use Rattle.core_changes.proofs.Instants.{observing_begins, observing_feeds, observing_gives, reply_keeps}
+use Rattle.core_changes.proofs.Written.{are_writing}
+use Rattle.std.specs.Prelude.{slice_get}
 
 module _ (starts : Starts) (says : Says) (proper : StartsProper starts) (w : State) (kept : AreSessionsKept starts says w) where
   -- ---- a reader is made
 
   with_reads : (reading : ℕ → Option Reader) → AreReading w.past w.table w.formers reading → ((q : ℕ) (r : Reader) → reading q ≡ Some r → is_stopped_under w.sessions w.past q ≡ false) → AreSessionsKept starts says (record w { reading = reading })
-  with_reads reading are on = record { nodes = kept.nodes; run = kept.run; committing = kept.committing; working = record { idle = kept.working.idle; stays = kept.working.stays; goes = kept.working.goes; reads = on; halted = kept.working.halted }; memories = kept.memories; readers = are }
+  with_reads reading are on = record { nodes = kept.nodes; run = kept.run; committing = kept.committing; working = record { idle = kept.working.idle; stays = kept.working.stays; goes = kept.working.goes; reads = on; halted = kept.working.halted }; memories = kept.memories; readers = are; observers = kept.observers }
 
   made : (s : ℕ) (r : Reader) → is_stopped_under w.sessions w.past s ≡ false → live_base w.past s ≡ Some r.pin.base → IsPair r.pin.base r.pin.sweep → IsAboveBounds w.past r.pin → IsReading (documents_in w.table.documents) w.past w.formers r → AreSessionsKept starts says (with_reader w s (Some r))
   made s r on base pair above reads = with_reads (with_session w.reading s (Some r)) (record {
@@ -76,3 +87,53 @@ module _ (starts : Starts) (says : Says) (proper : StartsProper starts) (w : Sta
 
     pub children_given : (p : Path) (o : ReadOut) → r.parent ≡ Some p → r.step ≡ step.Done o → AreChildrenOf (tree_at None w.past r.pin.base) p o
     children_given p o kind ends = gives_children (documents_in w.table.documents) w.past w.formers r p o (kept.readers.reads s r here) kind ends
+
+-- ---- readers of changes
+
+module _ (starts : Starts) (says : Says) (proper : StartsProper starts) (w : State) (kept : AreSessionsKept starts says w) where
+  with_observes : (observing : ℕ → Option ChangesReader) → AreObserving w.sessions w.past w.table w.formers observing → AreSessionsKept starts says (record w { observing = observing })
+  with_observes observing are = record { nodes = kept.nodes; run = kept.run; committing = kept.committing; working = kept.working; memories = kept.memories; readers = kept.readers; observers = are }
+
+  set : (s : ℕ) (r : ChangesReader) → is_stopped_under w.sessions w.past s ≡ false → slice_get w.sessions (cursor_owner s) ≡ None → IsBetweenPins w.past s r → IsObserving (documents_in w.table.documents) w.past w.formers r → AreSessionsKept starts says (with_observer w s (Some r))
+  set s r on few between tells = with_observes (with_session w.observing s (Some r)) (record {
+    goes = at_session (λ q (y : ChangesReader). is_stopped_under w.sessions w.past q ≡ false) w.observing s r on (λ q y f h. kept.observers.goes q y h);
+    apart = at_session (λ q (y : ChangesReader). slice_get w.sessions (cursor_owner q) ≡ None) w.observing s r few (λ q y f h. kept.observers.apart q y h);
+    between = at_session (λ q (y : ChangesReader). IsBetweenPins w.past q y) w.observing s r between (λ q y f h. kept.observers.between q y h);
+    tells = at_session (λ q (y : ChangesReader). IsObserving (documents_in w.table.documents) w.past w.formers y) w.observing s r tells (λ q y f h. kept.observers.tells q y h);
+  })
+
+  -- one begins
+  pub notice_keeps : (s : ℕ) (a : Global) (from : RevVec) (pin : Pin) → is_stopped_under w.sessions w.past s ≡ false → slice_get w.sessions (cursor_owner s) ≡ None → IsBetweenPins w.past s (changes_reader a from pin) → AreSessionsKept starts says (with_observer w s (Some (changes_reader a from pin)))
+  notice_keeps s a from pin on few between = set s (changes_reader a from pin) on few between (observing_begins (documents_in w.table.documents) w.past w.formers a from pin)
+
+  -- one is taken away
+  pub unnotice_keeps : (s : ℕ) → AreSessionsKept starts says (with_observer w s None)
+  unnotice_keeps s = with_observes (with_session w.observing s None) (record {
+    goes = at_others (λ q (y : ChangesReader). is_stopped_under w.sessions w.past q ≡ false) w.observing s (λ q y f h. kept.observers.goes q y h);
+    apart = at_others (λ q (y : ChangesReader). slice_get w.sessions (cursor_owner q) ≡ None) w.observing s (λ q y f h. kept.observers.apart q y h);
+    between = at_others (λ q (y : ChangesReader). IsBetweenPins w.past q y) w.observing s (λ q y f h. kept.observers.between q y h);
+    tells = at_others (λ q (y : ChangesReader). IsObserving (documents_in w.table.documents) w.past w.formers y) w.observing s (λ q y f h. kept.observers.tells q y h);
+  })
+
+  -- one is fed, and gives what commits changed
+
+  module _ (s : ℕ) (r : ChangesReader) (here : w.observing s ≡ Some r) where
+    same_between : (q : ChangesReader) → q.from ≡ r.from → q.pin ≡ r.pin → IsBetweenPins w.past s r → IsBetweenPins w.past s q
+    same_between q from pin is = record {
+      cursor = is.cursor ∙ ap (λ v. Some v) (sym from);
+      own = is.own ∙ ap (λ (p : Pin). Some p.base) (sym pin);
+      pair = subst (λ (p : Pin). IsPair p.base p.sweep) (sym pin) is.pair;
+      above = subst (λ (p : Pin). IsAboveBounds w.past p) (sym pin) is.above;
+      above_cursor = λ o h. subst (λ (v : RevVec). sees v o ≡ true) (sym from) (is.above_cursor o h);
+    }
+
+    pub feed_keeps : StartsWrite starts → IsTable w.table.documents → AreSessionsKept starts says (with_observer w s (Some (fed_changes r (answer w.table.documents (due_changes r)))))
+    feed_keeps writes table =
+        let x = answer w.table.documents (due_changes r) in
+        let same = reply_keeps r x in
+        set s (fed_changes r x) (kept.observers.goes s r here) (kept.observers.apart s r here) (same_between (fed_changes r x) same.0 same.1 (kept.observers.between s r here))
+        (observing_feeds w.table.documents w.past w.formers (λ q. has_written (kept.committing.writers q)) r table kept.committing.kept (observer_held starts says proper w kept s r here) kept.readers.told
+        (are_writing starts says w.clusters w.sessions writes kept.nodes proper w.past kept.run r.from r.pin.base) (kept.observers.tells s r here))
+
+    pub changes_given : (o : List CommitChanges) → r.step ≡ observed.Done o → o ≡ changes_between None w.past r.from r.pin.base
+    changes_given o ends = observing_gives (documents_in w.table.documents) w.past w.formers r o (kept.observers.tells s r here) ends

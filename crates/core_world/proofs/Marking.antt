@@ -21,7 +21,7 @@ use Rattle.core_keep.proofs.Events.{kept_idle}
 use Rattle.core_keep.proofs.World.{kept_mark_op}
 use Rattle.core_watch.proofs.GoingOn.{on_mark}
 use Rattle.core_watch.proofs.StayingOn.{formers_mark}
-use Rattle.core_world.proofs.Letting.{LetsRead, lets_event, lets_on, lets_then}
+use Rattle.core_world.proofs.Letting.{LetsRead, lets_event, lets_then, lets_change}
 use Rattle.core_read.specs.Holds.{IsSameBut}
 use Rattle.core_clash.specs.Core.{Docs, MayMark, root_of, with_writer}
 use Rattle.core_clash.specs.Sessions.{Running}
@@ -98,7 +98,7 @@ module _ (past : Past) (t : Table) (running : ℕ → Option Running) (a : AreCo
 
     -- readers read on
     pub mark_lets : LetsRead t now past later
-    mark_lets = lets_then t now now past past later (λ pin held. held)
-        (lets_on t now past past (λ pin held. on_mark pin (documents_in t.documents) (documents_in now.documents) past _ (world_of past t running a told) held root op n refl refl (put_main t root doc n))
-        (λ formers l. formers_mark (documents_in t.documents) (documents_in now.documents) past _ (world_of past t running a told) root op n refl refl (put_main t root doc n) formers l) (λ q. refl) (λ q. refl))
+    mark_lets = lets_then t now now past later _ marked_world
+        (lets_change t now past told (λ pin held. on_mark pin (documents_in t.documents) (documents_in now.documents) past _ (world_of past t running a told) held root op n refl refl (put_main t root doc n))
+        (λ formers l. formers_mark (documents_in t.documents) (documents_in now.documents) past _ (world_of past t running a told) root op n refl refl (put_main t root doc n) formers l))
         (lets_event now past _ marked_world (event.Went x.draw.session kind.Mark) (λ q. refl) (λ q. refl) (λ q. refl))

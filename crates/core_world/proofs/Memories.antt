@@ -66,13 +66,13 @@ at_memory P ms k m j lk hk lj here there = by (j == k) refl
 
 module _ (starts : Starts) (says : Says) (clusters : ℕ) (sessions : List ℕ) (nodes : AreNodes clusters sessions) (past : Past) (ms : List NodeState) (are : AreMemories clusters sessions past ms) where
   -- a step on the memory of cluster node k
-  pub step_on : (k : ℕ) → IsNode clusters k → (m : NodeState) (later : Past) → IsMemoryOf clusters later k m → ArePinsOf sessions later k m
-      → ((j : ℕ) → IsNode clusters j → (j == k) ≡ false → IsMemoryOf clusters later j (memory_at ms j))
+  pub step_on : (k : ℕ) → IsNode clusters k → (m : NodeState) (later : Past) → IsMemoryOf None clusters later k m → ArePinsOf sessions later k m
+      → ((j : ℕ) → IsNode clusters j → (j == k) ≡ false → IsMemoryOf None clusters later j (memory_at ms j))
       → ((j : ℕ) → IsNode clusters j → (j == k) ≡ false → ArePinsOf sessions later j (memory_at ms j))
       → AreMemories clusters sessions later (with_memory ms k m)
   step_on k node m later memory pins memories all_pins = record {
     counted = length-set ms (k - 1) m ∙ are.counted;
-    memory = λ j of. at_memory (λ i x. IsMemoryOf clusters later i x) ms k m j node.0 within of.0 memory (memories j of);
+    memory = λ j of. at_memory (λ i x. IsMemoryOf None clusters later i x) ms k m j node.0 within of.0 memory (memories j of);
     pins = λ j of. at_memory (λ i x. ArePinsOf sessions later i x) ms k m j node.0 within of.0 pins (all_pins j of);
   }
     where
@@ -83,7 +83,7 @@ module _ (starts : Starts) (says : Says) (clusters : ℕ) (sessions : List ℕ) 
   pub aside : (e : Event) → IsRunOf starts says clusters sessions None (e ∷ past) → ((j : ℕ) → leaves_memory j e ≡ true) → ((j : ℕ) → leaves_pins sessions j e ≡ true) → AreMemories clusters sessions (e ∷ past) ms
   aside e run leaves leaves_all = record {
     counted = are.counted;
-    memory = λ j of. apart_run starts says clusters sessions nodes e past j (memory_at ms j) run (leaves j) (are.memory j of);
+    memory = λ j of. apart_run None starts says clusters sessions nodes e past j (memory_at ms j) run (leaves j) (are.memory j of);
     pins = λ j of. pins_kept sessions past j (memory_at ms j) (are.pins j of) e (leaves_all j);
   }
 
@@ -103,34 +103,34 @@ module _ (starts : Starts) (says : Says) (clusters : ℕ) (sessions : List ℕ) 
 
     pub login_memories : (v : RevVec) → IsRunOf starts says clusters sessions None (event.Login s v ∷ past) → AreMemories clusters sessions (event.Login s v ∷ past) (with_memory ms k (pinned (memory_at ms k) s))
     login_memories v run = step_on k node (pinned (memory_at ms k) s) (event.Login s v ∷ past)
-        (let is = apart_run starts says clusters sessions nodes (event.Login s v) past k (memory_at ms k) run refl (are.memory k node) in
-        Rattle.core_nodes.proofs.Events.pins_kept clusters (event.Login s v ∷ past) k (memory_at ms k) _ is (insert_sorted s (pin_now (memory_at ms k)) (memory_at ms k).pins is.memory.owners))
-        (login_run starts says clusters sessions nodes past k (memory_at ms k) (are.memory k node) (are.pins k node) s v run on)
-        (λ j of h. apart_run starts says clusters sessions nodes (event.Login s v) past j (memory_at ms j) run refl (are.memory j of))
+        (let is = apart_run None starts says clusters sessions nodes (event.Login s v) past k (memory_at ms k) run refl (are.memory k node) in
+        Rattle.core_nodes.proofs.Events.pins_kept None clusters (event.Login s v ∷ past) k (memory_at ms k) _ is (insert_sorted s (pin_now (memory_at ms k)) (memory_at ms k).pins is.memory.owners))
+        (login_run None starts says clusters sessions nodes past k (memory_at ms k) (are.memory k node) (are.pins k node) s v run on)
+        (λ j of h. apart_run None starts says clusters sessions nodes (event.Login s v) past j (memory_at ms j) run refl (are.memory j of))
         (λ j of h. pins_kept sessions past j (memory_at ms j) (are.pins j of) (event.Login s v) (of_other j h))
 
     pub refresh_memories : (v : RevVec) → IsRunOf starts says clusters sessions None (event.Refresh s v ∷ past) → has_left past s ≡ false → AreMemories clusters sessions (event.Refresh s v ∷ past) (with_memory ms k (pinned (memory_at ms k) s))
     refresh_memories v run stays = step_on k node (pinned (memory_at ms k) s) (event.Refresh s v ∷ past)
-        (let is = apart_run starts says clusters sessions nodes (event.Refresh s v) past k (memory_at ms k) run refl (are.memory k node) in
-        Rattle.core_nodes.proofs.Events.pins_kept clusters (event.Refresh s v ∷ past) k (memory_at ms k) _ is (insert_sorted s (pin_now (memory_at ms k)) (memory_at ms k).pins is.memory.owners))
-        (refresh_run starts says clusters sessions nodes past k (memory_at ms k) (are.memory k node) (are.pins k node) s v run on stays)
-        (λ j of h. apart_run starts says clusters sessions nodes (event.Refresh s v) past j (memory_at ms j) run refl (are.memory j of))
+        (let is = apart_run None starts says clusters sessions nodes (event.Refresh s v) past k (memory_at ms k) run refl (are.memory k node) in
+        Rattle.core_nodes.proofs.Events.pins_kept None clusters (event.Refresh s v ∷ past) k (memory_at ms k) _ is (insert_sorted s (pin_now (memory_at ms k)) (memory_at ms k).pins is.memory.owners))
+        (refresh_run None starts says clusters sessions nodes past k (memory_at ms k) (are.memory k node) (are.pins k node) s v run on stays)
+        (λ j of h. apart_run None starts says clusters sessions nodes (event.Refresh s v) past j (memory_at ms j) run refl (are.memory j of))
         (λ j of h. pins_kept sessions past j (memory_at ms j) (are.pins j of) (event.Refresh s v) (of_other j h))
 
     pub leave_memories : slice_get sessions (cursor_owner s) ≡ None → IsRunOf starts says clusters sessions None (event.Went s kind.End ∷ past) → AreMemories clusters sessions (event.Went s kind.End ∷ past) (with_memory ms k (without_session (memory_at ms k) s))
     leave_memories none run = step_on k node (without_session (memory_at ms k) s) (event.Went s kind.End ∷ past)
-        (let is = apart_run starts says clusters sessions nodes (event.Went s kind.End) past k (memory_at ms k) run refl (are.memory k node) in
-        Rattle.core_nodes.proofs.Events.pins_kept clusters (event.Went s kind.End ∷ past) k (memory_at ms k) _ is (remove_sorted (cursor_owner s) _ (remove_sorted s (memory_at ms k).pins is.memory.owners)))
-        (leave_run clusters sessions past k (memory_at ms k) (are.memory k node) (are.pins k node) s on none)
-        (λ j of h. apart_run starts says clusters sessions nodes (event.Went s kind.End) past j (memory_at ms j) run refl (are.memory j of))
+        (let is = apart_run None starts says clusters sessions nodes (event.Went s kind.End) past k (memory_at ms k) run refl (are.memory k node) in
+        Rattle.core_nodes.proofs.Events.pins_kept None clusters (event.Went s kind.End ∷ past) k (memory_at ms k) _ is (remove_sorted (cursor_owner s) _ (remove_sorted s (memory_at ms k).pins is.memory.owners)))
+        (leave_run None clusters sessions past k (memory_at ms k) (are.memory k node) (are.pins k node) s on none)
+        (λ j of h. apart_run None starts says clusters sessions nodes (event.Went s kind.End) past j (memory_at ms j) run refl (are.memory j of))
         (λ j of h. pins_kept sessions past j (memory_at ms j) (are.pins j of) (event.Went s kind.End) (of_other j h))
 
     pub observe_memories : slice_get sessions (cursor_owner s) ≡ None → (pin : Pin) → pin_of (memory_at ms k) s ≡ Some pin → IsRunOf starts says clusters sessions None (event.Went s kind.Pin ∷ past) → AreMemories clusters sessions (event.Went s kind.Pin ∷ past) (with_memory ms k (with_pin (memory_at ms k) (cursor_owner s) pin))
     observe_memories none pin has run = step_on k node (with_pin (memory_at ms k) (cursor_owner s) pin) (event.Went s kind.Pin ∷ past)
-        (let is = apart_run starts says clusters sessions nodes (event.Went s kind.Pin) past k (memory_at ms k) run refl (are.memory k node) in
-        Rattle.core_nodes.proofs.Events.pins_kept clusters (event.Went s kind.Pin ∷ past) k (memory_at ms k) _ is (insert_sorted (cursor_owner s) pin (memory_at ms k).pins is.memory.owners))
+        (let is = apart_run None starts says clusters sessions nodes (event.Went s kind.Pin) past k (memory_at ms k) run refl (are.memory k node) in
+        Rattle.core_nodes.proofs.Events.pins_kept None clusters (event.Went s kind.Pin ∷ past) k (memory_at ms k) _ is (insert_sorted (cursor_owner s) pin (memory_at ms k).pins is.memory.owners))
         (cursor_put sessions past k (memory_at ms k) (are.pins k node) s pin on none has)
-        (λ j of h. apart_run starts says clusters sessions nodes (event.Went s kind.Pin) past j (memory_at ms j) run refl (are.memory j of))
+        (λ j of h. apart_run None starts says clusters sessions nodes (event.Went s kind.Pin) past j (memory_at ms j) run refl (are.memory j of))
         (λ j of h. pins_kept sessions past j (memory_at ms j) (are.pins j of) (event.Went s kind.Pin) (of_other j h))
 
   -- ---- draws and ends
@@ -142,9 +142,9 @@ module _ (starts : Starts) (says : Says) (clusters : ℕ) (sessions : List ℕ) 
     pairs = λ owner pin h. has.pairs owner pin (sym (ap (λ (ps : List (ℕ × Pin)). lookup (is_at (nat_cmp owner)) ps) same) ∙ h);
   }
 
-  notes_memory : (later : Past) (k : ℕ) (r : Revision) (paths : List Path) (m : NodeState) → IsMemoryOf clusters later k m → IsMemoryOf clusters later k (after_notes r m paths)
+  notes_memory : (later : Past) (k : ℕ) (r : Revision) (paths : List Path) (m : NodeState) → IsMemoryOf None clusters later k m → IsMemoryOf None clusters later k (after_notes r m paths)
   notes_memory later k r [] m is = is
-  notes_memory later k r (p ∷ ps) m is = notes_memory later k r ps _ (notes_kept clusters later k m _ is)
+  notes_memory later k r (p ∷ ps) m is = notes_memory later k r ps _ (notes_kept None clusters later k m _ is)
 
   notes_pins : (later : Past) (k : ℕ) (r : Revision) (paths : List Path) (m : NodeState) → ArePinsOf sessions later k m → ArePinsOf sessions later k (after_notes r m paths)
   notes_pins later k r [] m has = has
@@ -163,31 +163,31 @@ module _ (starts : Starts) (says : Says) (clusters : ℕ) (sessions : List ℕ) 
       let k = d.revision.cluster in
       let node : IsNode clusters k = nodes.node d.session k run.0.cluster in
       step_on k node (after_notes d.revision (with_draw (memory_at ms k) d.revision) paths) (event.Draw d ∷ past)
-      (notes_memory (event.Draw d ∷ past) k d.revision paths _ (subst (λ (r : Revision). IsMemoryOf clusters (event.Draw d ∷ past) k (with_draw (memory_at ms k) r)) (sym next) (draw_run starts says clusters sessions nodes d past run (memory_at ms k) (are.memory k node))))
+      (notes_memory (event.Draw d ∷ past) k d.revision paths _ (subst (λ (r : Revision). IsMemoryOf None clusters (event.Draw d ∷ past) k (with_draw (memory_at ms k) r)) (sym next) (draw_run None starts says clusters sessions nodes d past run (memory_at ms k) (are.memory k node))))
       (notes_pins (event.Draw d ∷ past) k d.revision paths _ (same_pins (event.Draw d ∷ past) k (memory_at ms k) (with_draw (memory_at ms k) d.revision) refl (pins_kept sessions past k (memory_at ms k) (are.pins k node) (event.Draw d) refl)))
-      (λ j of h. apart_run starts says clusters sessions nodes (event.Draw d) past j (memory_at ms j) run (apart_node j k h) (are.memory j of))
+      (λ j of h. apart_run None starts says clusters sessions nodes (event.Draw d) past j (memory_at ms j) run (apart_node j k h) (are.memory j of))
       (λ j of h. pins_kept sessions past j (memory_at ms j) (are.pins j of) (event.Draw d) refl)
 
   pub end_memories : (r : Revision) → IsNode clusters r.cluster → IsRunOf starts says clusters sessions None (event.End r ∷ past) → AreMemories clusters sessions (event.End r ∷ past) (with_memory ms r.cluster (finished (memory_at ms r.cluster) r))
   end_memories r node run =
       step_on r.cluster node (finished (memory_at ms r.cluster) r) (event.End r ∷ past)
-      (end_run starts says clusters sessions nodes r past run (memory_at ms r.cluster) (are.memory r.cluster node))
+      (end_run None starts says clusters sessions nodes r past run (memory_at ms r.cluster) (are.memory r.cluster node))
       (same_pins (event.End r ∷ past) r.cluster (memory_at ms r.cluster) (finished (memory_at ms r.cluster) r) refl (pins_kept sessions past r.cluster (memory_at ms r.cluster) (are.pins r.cluster node) (event.End r) refl))
-      (λ j of h. apart_run starts says clusters sessions nodes (event.End r) past j (memory_at ms j) run (apart_node j r.cluster h) (are.memory j of))
+      (λ j of h. apart_run None starts says clusters sessions nodes (event.End r) past j (memory_at ms j) run (apart_node j r.cluster h) (are.memory j of))
       (λ j of h. pins_kept sessions past j (memory_at ms j) (are.pins j of) (event.End r) refl)
 
   -- ---- what a node learns
 
-  pub learn_memories : (k : ℕ) → IsNode clusters k → is_stopped past k ≡ false → (n : ℕ) (last sweep : RevVec) → IsOnRoot clusters (drop n past) last sweep → IsRunOf starts says clusters sessions None past
+  pub learn_memories : (k : ℕ) → IsNode clusters k → is_stopped past k ≡ false → (n : ℕ) (last sweep : RevVec) → IsOnRoot None clusters (drop n past) last sweep → IsRunOf starts says clusters sessions None past
       → IsRunOf starts says clusters sessions None (event.In k (learned (memory_at ms k) last sweep).head ∷ past)
       × AreMemories clusters sessions (event.In k (learned (memory_at ms k) last sweep).head ∷ past) (with_memory ms k (learned (memory_at ms k) last sweep))
   learn_memories k node goes n last sweep root run =
       let m = learned (memory_at ms k) last sweep in
-      let learns = learn_run starts says clusters sessions nodes past run k n node goes (memory_at ms k) (are.memory k node) last sweep root in (
+      let learns = learn_run None starts says clusters sessions nodes past run k n node goes (memory_at ms k) (are.memory k node) last sweep root in (
         learns.0,
         step_on k node m (event.In k m.head ∷ past) learns.1
             (same_pins (event.In k m.head ∷ past) k (memory_at ms k) m refl (pins_kept sessions past k (memory_at ms k) (are.pins k node) (event.In k m.head) refl))
-            (λ j of h. apart_run starts says clusters sessions nodes (event.In k m.head) past j (memory_at ms j) learns.0 (apart_node j k h) (are.memory j of))
+            (λ j of h. apart_run None starts says clusters sessions nodes (event.In k m.head) past j (memory_at ms j) learns.0 (apart_node j k h) (are.memory j of))
             (λ j of h. pins_kept sessions past j (memory_at ms j) (are.pins j of) (event.In k m.head) refl),
       )
 
@@ -196,9 +196,9 @@ module _ (starts : Starts) (says : Says) (clusters : ℕ) (sessions : List ℕ) 
   pending_memories s k node run =
       let e : Event = event.Went s kind.Back in
       step_on k node (without_seen (memory_at ms k)) (e ∷ past)
-      (notes_kept clusters (e ∷ past) k (memory_at ms k) _ (apart_run starts says clusters sessions nodes e past k (memory_at ms k) run refl (are.memory k node)))
+      (notes_kept None clusters (e ∷ past) k (memory_at ms k) _ (apart_run None starts says clusters sessions nodes e past k (memory_at ms k) run refl (are.memory k node)))
       (same_pins (e ∷ past) k (memory_at ms k) (without_seen (memory_at ms k)) refl (pins_kept sessions past k (memory_at ms k) (are.pins k node) e refl))
-      (λ j of h. apart_run starts says clusters sessions nodes e past j (memory_at ms j) run refl (are.memory j of))
+      (λ j of h. apart_run None starts says clusters sessions nodes e past j (memory_at ms j) run refl (are.memory j of))
       (λ j of h. pins_kept sessions past j (memory_at ms j) (are.pins j of) e refl)
 
   -- a node that learns how far its own sweep went, which is at most its local revision
@@ -235,7 +235,7 @@ module _ (starts : Starts) (says : Says) (clusters : ℕ) (sessions : List ℕ) 
         };
       })
       (same_pins (e ∷ past) k m (swept_to m r) refl (pins_kept sessions past k m (are.pins k node) e refl))
-      (λ j on h. apart_run starts says clusters sessions nodes e past j (memory_at ms j) run refl (are.memory j on))
+      (λ j on h. apart_run None starts says clusters sessions nodes e past j (memory_at ms j) run refl (are.memory j on))
       (λ j on h. pins_kept sessions past j (memory_at ms j) (are.pins j on) e refl)
     where
       own : (x : Revision) → (sees (memory_at ms k).sweep x ≡ true) ⊎ ((x.cluster ≡ r.cluster) × (is_at_most x r ≡ true)) → sees (memory_at ms k).head x ≡ true

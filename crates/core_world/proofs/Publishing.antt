@@ -1,14 +1,11 @@
 -- The root is told what is published of a cluster node, and that it is swept.
-use Rattle.std.proofs.Common.{◌≡◌, ℕ, true, false, cond, not, Option, Some, None, [], ◌∷◌, refl, ap}
-use Rattle.std.specs.Option.{option_map_or}
-use Rattle.jr_path.specs.declared.path.DocId.TheVariants as id
+use Rattle.std.proofs.Common.{◌≡◌, ℕ, true, None, [], ◌∷◌, refl}
 use Rattle.jr_rev.specs.declared.revision.Revision.{Revision}
 use Rattle.jr_rev.specs.Revisions.{is_at_most}
 use Rattle.jr_rev.specs.Vectors.{raised}
 use Rattle.oak_machine.specs.Heads.{local, published}
 use Rattle.oak_machine.specs.Laws.{Says, Starts, StartsProper}
 use Rattle.oak_machine.specs.Runs.{IsNode}
-use Rattle.oak_machine.specs.declared.event.Event.{Event}
 use Rattle.oak_machine.specs.declared.event.Event.TheVariants as event
 use Rattle.oak_store.specs.Tables.{Table, next_number}
 use Rattle.core_keep.specs.Holding.{IsHoldingStep}
@@ -19,7 +16,7 @@ use Rattle.core_world.specs.Steps.{after_publish, after_update, publish_op}
 use Rattle.core_world.proofs.Backs.{told_root, with_table, with_vectors}
 use Rattle.core_world.proofs.Held.{holding, memory_still, same_kept}
 use Rattle.core_world.proofs.Letting.{lets_still}
-use Rattle.core_world.proofs.Roots.{out_now, root_out, root_quiet, root_swept}
+use Rattle.core_world.proofs.Roots.{out_now, root_out, root_quiet, root_swept, starts_raised}
 use Rattle.core_world.proofs.Seated.{quiet_pinned}
 use Rattle.core_world.proofs.Setting.{settings_quiet, update_apart}
 use Rattle.core_world.proofs.Telling.{revectored}
@@ -54,6 +51,7 @@ module _ (starts : Starts) (says : Says) (proper : StartsProper starts) (w : Sta
         there = told_root w.table kept.root.document (publish_op r) refl refl refl kept.root.there;
         tells = root_swept w.clusters kept.sessions.nodes.eight (event.Out k r ∷ w.past) (raised kept.root.document.last_rev r) kept.root.document.sweep_rev
             (root_out w.clusters kept.sessions.nodes.eight w.past kept.root.document.last_rev kept.root.document.sweep_rev kept.root.tells k node r of) k node r of public;
+        begun = starts_raised w.clusters kept.root.document.sweep_rev r kept.root.begun;
       });
       settings = settings_quiet w.sessions (event.Out k r ∷ w.past) told_table told_table (event.Sweep k r) refl refl
           (settings_quiet w.sessions w.past w.table told_table (event.Out k r) refl (update_apart w.table [] (publish_op r) refl) kept.settings);
@@ -65,10 +63,10 @@ module _ (starts : Starts) (says : Says) (proper : StartsProper starts) (w : Sta
         (same_kept starts says proper w kept told_table (update_apart w.table [] (publish_op r) refl))
 
     pub publish_pinned : IsPinned w → IsPinned (after_publish w k r)
-    publish_pinned pinned = quiet_pinned starts says proper w kept pinned u refl refl refl (λ q. refl) (update_apart w.table [] (publish_op r) refl)
+    publish_pinned pinned = quiet_pinned starts says proper w kept pinned u refl refl refl refl (λ q. refl) (update_apart w.table [] (publish_op r) refl)
 
   -- what a node's draws make public, by whichever session it is told
   pub publish_whole : IsKept starts says w → IsKept starts says (after_publish w k r)
   publish_whole kept =
       let layers = layers_of starts says w kept in
-      goes starts says proper w kept u (publish_layers layers) (λ q. refl) (λ q. refl) (publish_rises layers) (publish_pinned layers kept.pinned)
+      goes starts says proper w kept u refl (publish_layers layers) (λ q. refl) (λ q. refl) (publish_rises layers) (publish_pinned layers kept.pinned)

@@ -10,11 +10,11 @@ use Rattle.oak_machine.specs.History.{Past}
 use Rattle.oak_machine.specs.Commits.{is_commit_of}
 use Rattle.oak_machine.specs.declared.event.Event.TheVariants as event
 use Rattle.oak_machine.specs.declared.event.StepKind.TheVariants as kind
-use Rattle.oak_machine.specs.Sessions.{base_of, has_left, has_login, is_attached, last_checkpoint}
+use Rattle.oak_machine.specs.Sessions.{base_of, has_left, has_login, is_attached, last_checkpoint, pinned_at, session_base}
 use Rattle.oak_read.specs.declared.reader.Reader.{Reader}
 use Rattle.oak_read.specs.Meaning.{documents_in}
 use Rattle.oak_store.specs.Tables.{Table}
-use Rattle.core_nodes.specs.Nodes.{moved_pin, pinned_at, session_base}
+use Rattle.core_nodes.specs.Nodes.{moved_pin}
 use Rattle.oak_machine.specs.Laws.{Says, Starts}
 use Rattle.oak_machine.specs.Runs.{AreNodes, IsRunOf}
 use Rattle.core_heads.specs.Sound.{IsHeld}

@@ -1,15 +1,13 @@
 -- The memory of a stopped cluster node is recovered: all that it had in flight ends.
 use Rattle.std.proofs.Common.{◌≡◌, ◌≤◌, ◌⊎◌, inl, inr, ℕ, Bool, true, false, cond, not, ◌&&◌, ◌||◌, Some, None, Option, List, [], ◌∷◌, ◌++◌, reverse, is_some, refl, sym, ap, subst, ◌∙◌, arith, append_assoc}
 use Rattle.std.specs.Prelude.{◌==◌, slice_get}
-use Rattle.std.specs.Option.{option_map, option_map_or, unwrap_or}
+use Rattle.std.specs.Option.{option_map, unwrap_or}
 use mathlib.Core.Bool.{false≢true}
-use Rattle.jr_path.specs.declared.path.Path.{Path}
-use Rattle.jr_path.specs.declared.name.Name.{Name}
 use Rattle.jr_rev.specs.declared.revision.Revision.{Revision}
 use Rattle.jr_rev.specs.declared.vector.Pin.{Pin}
 use Rattle.jr_rev.specs.Revisions.{is_same}
 use Rattle.jr_rev.specs.declared.vector.RevVec.{RevVec}
-use Rattle.jr_rev.specs.Vectors.{is_below, start_of}
+use Rattle.jr_rev.specs.Vectors.{is_below}
 use Rattle.jr_rev.proofs.Bounds.{below_itself}
 use Rattle.oak_clash.specs.Clashes.{commit_root}
 use Rattle.oak_clash.specs.declared.mark.Mark.{Mark}
@@ -21,11 +19,11 @@ use Rattle.oak_machine.specs.declared.event.Draw.{Draw}
 use Rattle.oak_machine.specs.declared.event.Event.{Event}
 use Rattle.oak_machine.specs.declared.event.Event.TheVariants as event
 use Rattle.oak_machine.specs.History.{Past}
-use Rattle.oak_machine.specs.Commits.{draw_of, is_committed, is_drawn, is_ended, is_in_base, is_in_flight}
+use Rattle.oak_machine.specs.Commits.{draw_of, is_committed, is_drawn, is_ended, is_in_base, is_in_flight, is_commit_of}
 use Rattle.oak_machine.specs.Heads.{draws_by, flying}
 use Rattle.oak_machine.specs.Laws.{Says, Starts, StartsProper}
 use Rattle.oak_machine.specs.Runs.{AreNodes, IsNode, IsRunOf}
-use Rattle.oak_machine.specs.Sessions.{is_attached, is_recovered, is_stopped, is_stopped_under}
+use Rattle.oak_machine.specs.Sessions.{is_attached, is_recovered, is_stopped, is_stopped_under, is_stop_of}
 use Rattle.oak_node.specs.Memory.{NodeState}
 use Rattle.oak_node.specs.Pins.{pin_of}
 use Rattle.oak_node.specs.Stops.{with_recovery}
@@ -34,8 +32,8 @@ use Rattle.oak_read.specs.Meaning.{documents_in}
 use Rattle.oak_read.specs.declared.reader.Reader.{Reader}
 use Rattle.oak_store.specs.Tables.{Table}
 use Rattle.core_read.specs.Committing.{IsPartly, IsUnwritten}
-use Rattle.core_read.specs.Holds.{edit_of, root_entry}
-use Rattle.core_read.specs.Told.{IsIn, IsInUse, IsTold}
+use Rattle.core_read.specs.Holds.{root_entry}
+use Rattle.core_read.specs.Told.{IsIn, IsTold}
 use Rattle.core_keep.specs.Formers.{Formers}
 use Rattle.core_keep.specs.Holding.{IsHoldingStep}
 use Rattle.core_keep.specs.Journal.{IsHeld as IsHeldPair, IsKeptWorld, is_bounded, is_swept}
@@ -43,29 +41,31 @@ use Rattle.core_keep.proofs.Events.{kept_end}
 use Rattle.core_heads.proofs.Locals.{draws_in}
 use Rattle.core_heads.proofs.Orders.{and_both, filter_in}
 use Rattle.core_heads.proofs.Runs.{held_in_use, sound_run, told_past}
-use Rattle.core_clash.specs.Core.{Docs, IsCleared, IsDead, with_writer}
+use Rattle.core_clash.specs.Core.{IsCleared, IsDead, with_writer}
 use Rattle.core_clash.specs.Sessions.{IsTheirs, Running}
 use Rattle.core_clash.proofs.Basics.{decide, not_both, same_revision, some_of, writer_other}
 use Rattle.core_clash.proofs.Finished.{finish_keeps}
 use Rattle.core_clash.proofs.Undone.{drop_keeps}
-use Rattle.core_nodes.specs.Nodes.{after_ends, after_recovery, is_of_node}
+use Rattle.core_nodes.specs.Nodes.{after_ends, after_recovery}
 use Rattle.core_nodes.proofs.Lists.{reverse_in}
 use Rattle.core_nodes.proofs.Recovering.{ends_before, none_flies, recovered_pins, recovered_pins_apart, recovery_apart, recovery_run}
 use Rattle.core_world.specs.Held.{holding_in}
-use Rattle.core_world.specs.Kept.{AreAtWork, AreCommitting, AreLayersKept, AreReading, AreSessionsKept, AreSettingsKept, IsKept, IsPinned, IsRootKept, has_written}
-use Rattle.core_world.specs.States.{State, core_in, memory_at, memory_of, node_of, nodes_in, reader_pin, with_memory}
+use Rattle.core_world.specs.Kept.{AreAtWork, AreCommitting, AreLayersKept, AreReading, AreSessionsKept, AreSettingsKept, IsKept, IsPinned, IsRootKept, has_written, AreObserving}
+use Rattle.core_world.specs.States.{State, core_in, memory_at, node_of, nodes_in, reader_pin}
 use Rattle.core_world.specs.Steps.{after_recover}
-use Rattle.core_world.proofs.Commits.{on_its_node}
 use Rattle.core_world.proofs.Finishing.{committed_edit, quiet_commits, unswept}
 use Rattle.core_world.proofs.Flights.{number_itself, work_quiet}
 use Rattle.core_world.proofs.Held.{IsMemoryStep, holding, memory_still, same_kept}
-use Rattle.core_world.proofs.Lives.{its_node, node_goes, reader_login, session_there}
+use Rattle.core_world.proofs.Lives.{its_node, node_goes, reader_login, session_there, observer_login}
 use Rattle.core_world.proofs.Memories.{at_memory, step_on}
 use Rattle.core_world.proofs.Readers.{live_is, pair_held, quiet_reads}
 use Rattle.core_world.proofs.Roots.{root_quiet}
 use Rattle.core_world.proofs.Setting.{settings_quiet}
 use Rattle.core_world.proofs.Undoing.{none_unwritten}
 use Rattle.core_world.proofs.Whole.{goes, layers_of}
+use Rattle.oak_changes.specs.declared.changes.ChangesReader.{ChangesReader}
+use Rattle.core_world.proofs.Letting.{is_bound, lets_calm}
+use Rattle.core_world.proofs.Observers.{event_observes, moves_pin_of}
 
 never : {A : Type 0} → false ≡ true → A
 never h = absurd (false≢true h)
@@ -188,12 +188,13 @@ ends_added : (rs : List Revision) (past : Past) → (added : Past) × (after_end
 ends_added [] past = ([], refl)
 ends_added (r ∷ rs) past = let rest = ends_added rs (event.End r ∷ past) in (rest.0 ++ event.End r ∷ [], rest.1 ∙ sym (append_assoc rest.0 (event.End r ∷ []) past))
 
-module _ (starts : Starts) (says : Says) (proper : StartsProper starts) (clusters : ℕ) (sessions : List ℕ) (nodes : AreNodes clusters sessions) (t : Table) (running : ℕ → Option Running) (formers : Formers) (reading : ℕ → Option Reader) where
+module _ (starts : Starts) (says : Says) (proper : StartsProper starts) (clusters : ℕ) (sessions : List ℕ) (nodes : AreNodes clusters sessions) (t : Table) (running : ℕ → Option Running) (formers : Formers) (reading : ℕ → Option Reader) (observing : ℕ → Option ChangesReader) where
   -- the committers and the readers over some past
   pub record AreWorking (past : Past) : Type 0 where
     pub committing : AreCommitting past t running
     pub working : AreAtWork sessions past running reading
     pub readers : AreReading past t formers reading
+    pub observers : AreObserving sessions past t formers observing
 
   -- an event without a change of documents that touches neither
   module _ (past : Past) (run : IsRunOf starts says clusters sessions None past) (are : AreWorking past) where
@@ -203,14 +204,18 @@ module _ (starts : Starts) (says : Says) (proper : StartsProper starts) (cluster
     held : (s : ℕ) (r : Reader) → reading s ≡ Some r → IsHeldPair past r.pin.base r.pin.sweep
     held s r h = pair_held past r.pin (held_in_use None past r.pin.base ((sound_run clusters sessions nodes None starts says past run).bases s r.pin.base (live_is past s r.pin.base (are.readers.at_base s r h)).base)) (are.readers.pairs s r h) (are.readers.above s r h)
 
-    one_ends : (k : ℕ) (r : Revision) → r.cluster ≡ k → is_stopped past k ≡ true → is_in_flight past r ≡ true → (is_committed past r ≡ false → IsCleared (nodes_in t) r) → AreWorking (event.End r ∷ past)
-    one_ends k r of stopped flies clean = record {
-      committing = subst (λ (x : Revision). AreCommitting (event.End x ∷ past) t running) same
-          (draw_ends past t running are.committing told_so d.0 (ap (draw_of past) same ∙ d.1) (subst (λ (x : Revision). is_in_flight past x ≡ true) (sym same) flies)
-          (subst (λ (x : Revision). is_stopped past x.cluster ≡ true) (sym same) (ap (is_stopped past) of ∙ stopped))
-          (subst (λ (x : Revision). is_committed past x ≡ false → IsCleared (nodes_in t) x) (sym same) clean));
+    -- readers of changes over such an event
+    observes_quiet : (e : Event) → IsRunOf starts says clusters sessions None (e ∷ past) → ((k : ℕ) → is_stop_of k e ≡ false) → ((q : Revision) → is_commit_of q e ≡ false) → is_bound e ≡ false → ((s : ℕ) → moves_pin_of s e ≡ false) → AreCommitting (e ∷ past) t running
+        → AreObserving sessions (e ∷ past) t formers observing
+    observes_quiet e later on calm unbound stays committing = event_observes starts says clusters sessions nodes proper past e later t t formers observing are.observers on (λ s r h. stays s) (λ q. has_written (committing.writers q)) committing.kept
+        (lets_calm t past (λ q. has_written (are.committing.writers q)) are.committing.kept e calm unbound)
+
+    one_ends : (k : ℕ) (r : Revision) → IsRunOf starts says clusters sessions None (event.End r ∷ past) → r.cluster ≡ k → is_stopped past k ≡ true → is_in_flight past r ≡ true → (is_committed past r ≡ false → IsCleared (nodes_in t) r) → AreWorking (event.End r ∷ past)
+    one_ends k r later of stopped flies clean = record {
+      committing = committing;
       working = work_quiet sessions past running reading are.working (event.End r) refl (λ q. refl) (λ j. refl);
       readers = quiet_reads past t formers reading are.readers held (λ q. has_written (are.committing.writers q)) are.committing.kept (event.End r) (λ q. refl) refl (λ s x h. refl);
+      observers = observes_quiet (event.End r) later (λ j. refl) (λ q. refl) refl (λ s. refl) committing;
     }
       where
         d : (f : Draw) × (draw_of past r ≡ Some f)
@@ -219,24 +224,31 @@ module _ (starts : Starts) (says : Says) (proper : StartsProper starts) (cluster
         same : d.0.revision ≡ r
         same = revision_is past r d.0 d.1
 
-    recover_quiet : (k : ℕ) → AreWorking (event.Recover k ∷ past)
-    recover_quiet k = record {
+        committing : AreCommitting (event.End r ∷ past) t running
+        committing = subst (λ (x : Revision). AreCommitting (event.End x ∷ past) t running) same
+            (draw_ends past t running are.committing told_so d.0 (ap (draw_of past) same ∙ d.1) (subst (λ (x : Revision). is_in_flight past x ≡ true) (sym same) flies)
+            (subst (λ (x : Revision). is_stopped past x.cluster ≡ true) (sym same) (ap (is_stopped past) of ∙ stopped))
+            (subst (λ (x : Revision). is_committed past x ≡ false → IsCleared (nodes_in t) x) (sym same) clean))
+
+    recover_quiet : (k : ℕ) → IsRunOf starts says clusters sessions None (event.Recover k ∷ past) → AreWorking (event.Recover k ∷ past)
+    recover_quiet k later = record {
       committing = quiet_commits past t running are.committing told_so (event.Recover k) refl (λ j. refl);
       working = work_quiet sessions past running reading are.working (event.Recover k) refl (λ q. refl) (λ j. refl);
       readers = quiet_reads past t formers reading are.readers held (λ q. has_written (are.committing.writers q)) are.committing.kept (event.Recover k) (λ q. refl) refl (λ s x h. refl);
+      observers = observes_quiet (event.Recover k) later (λ j. refl) (λ q. refl) refl (λ s. refl) (quiet_commits past t running are.committing told_so (event.Recover k) refl (λ j. refl));
     }
 
   all_end : (k : ℕ) (rs : List Revision) (past : Past) → IsRunOf starts says clusters sessions None (after_ends rs past) → is_stopped past k ≡ true
       → ((r : Revision) → IsIn r rs → (r.cluster ≡ k) × (is_committed past r ≡ false → IsCleared (nodes_in t) r)) → AreWorking past → AreWorking (after_ends rs past)
   all_end k [] past run stopped of are = are
   all_end k (r ∷ rs) past run stopped of are =
-      let before = ends_before starts says clusters sessions nodes rs (event.End r ∷ past) run in
+      let before = ends_before None starts says clusters sessions nodes rs (event.End r ∷ past) run in
       let first = of r (inl refl) in
-      all_end k rs (event.End r ∷ past) run stopped (λ q i. of q (inr i)) (one_ends past before.1 are k r first.0 stopped before.0 first.1)
+      all_end k rs (event.End r ∷ past) run stopped (λ q i. of q (inr i)) (one_ends past before.1 are k r before first.0 stopped before.0 first.1)
 
   recovered_work : (k : ℕ) (past : Past) → IsRunOf starts says clusters sessions None (after_recovery past k) → is_stopped past k ≡ true
       → ((r : Revision) → r.cluster ≡ k → is_in_flight past r ≡ true → is_committed past r ≡ false → IsCleared (nodes_in t) r) → AreWorking past → AreWorking (after_recovery past k)
-  recovered_work k past run stopped clean are = recover_quiet (after_ends (reverse (flying past k)) past) run.1 (all_end k (reverse (flying past k)) past run.1 stopped of are) k
+  recovered_work k past run stopped clean are = recover_quiet (after_ends (reverse (flying past k)) past) run.1 (all_end k (reverse (flying past k)) past run.1 stopped of are) k run
     where
       of : (r : Revision) → IsIn r (reverse (flying past k)) → (r.cluster ≡ k) × (is_committed past r ≡ false → IsCleared (nodes_in t) r)
       of r i =
@@ -254,11 +266,11 @@ module _ (starts : Starts) (says : Says) (proper : StartsProper starts) (w : Sta
 
   module _ (kept : AreSessionsKept starts says w) where
     runs : IsRunOf starts says w.clusters w.sessions None (after_recovery w.past k)
-    runs = (recovery_run starts says w.clusters w.sessions kept.nodes k node w.past (memory_at w.memories k) kept.run stopped (kept.memories.memory k node)).0
+    runs = (recovery_run None starts says w.clusters w.sessions kept.nodes k node w.past (memory_at w.memories k) kept.run stopped (kept.memories.memory k node)).0
 
-    works : AreWorking starts says proper w.clusters w.sessions kept.nodes w.table w.running w.formers w.reading (after_recovery w.past k)
-    works = recovered_work starts says proper w.clusters w.sessions kept.nodes w.table w.running w.formers w.reading k w.past runs stopped clean
-        (record { committing = kept.committing; working = kept.working; readers = kept.readers })
+    works : AreWorking starts says proper w.clusters w.sessions kept.nodes w.table w.running w.formers w.reading w.observing (after_recovery w.past k)
+    works = recovered_work starts says proper w.clusters w.sessions kept.nodes w.table w.running w.formers w.reading w.observing k w.past runs stopped clean
+        (record { committing = kept.committing; working = kept.working; readers = kept.readers; observers = kept.observers })
 
     turned : (j : ℕ) → (j == k) ≡ false → (k == j) ≡ false
     turned j h = grind (arith, Rattle.std.proofs.lemmas.Bool.Decides.nat_tests)
@@ -270,11 +282,12 @@ module _ (starts : Starts) (says : Says) (proper : StartsProper starts) (w : Sta
       committing = works.committing;
       working = works.working;
       memories = step_on starts says w.clusters w.sessions kept.nodes w.past w.memories kept.memories k node (with_recovery (memory_at w.memories k)) (after_recovery w.past k)
-          (recovery_run starts says w.clusters w.sessions kept.nodes k node w.past (memory_at w.memories k) kept.run stopped (kept.memories.memory k node)).1
+          (recovery_run None starts says w.clusters w.sessions kept.nodes k node w.past (memory_at w.memories k) kept.run stopped (kept.memories.memory k node)).1
           (recovered_pins w.sessions w.past k (memory_at w.memories k))
-          (λ j on h. recovery_apart starts says w.clusters w.sessions kept.nodes w.past k j (memory_at w.memories j) runs (turned j h) (kept.memories.memory j on))
+          (λ j on h. recovery_apart None starts says w.clusters w.sessions kept.nodes w.past k j (memory_at w.memories j) runs (turned j h) (kept.memories.memory j on))
           (λ j on h. recovered_pins_apart w.sessions w.past k j (memory_at w.memories j) (turned j h) (kept.memories.pins j on));
       readers = works.readers;
+      observers = works.observers;
     }
 
   module _ (kept : AreLayersKept starts says w) where
@@ -310,32 +323,31 @@ module _ (starts : Starts) (says : Says) (proper : StartsProper starts) (w : Sta
         (same_kept starts says proper w kept w.table refl)
 
     -- whoever reads is of another node
-    apart : (s : ℕ) (r : Reader) → w.reading s ≡ Some r → node_of w s ≡ k → ⊥
-    apart s r h e =
-        let there = session_there starts says proper w kept.sessions s (reader_login starts says proper w kept.sessions s r h) in
-        let on = node_goes starts says proper w kept.sessions s there (kept.sessions.working.reads s r h) in
-        false≢true (sym on ∙ (ap (is_stopped w.past) e ∙ stopped))
+    apart : (s : ℕ) → is_some (slice_get w.sessions s) ≡ true → is_stopped_under w.sessions w.past s ≡ false → node_of w s ≡ k → ⊥
+    apart s there goes e = false≢true (sym (node_goes starts says proper w kept.sessions s there goes) ∙ (ap (is_stopped w.past) e ∙ stopped))
+
+    other : (s : ℕ) → is_some (slice_get w.sessions s) ≡ true → is_stopped_under w.sessions w.past s ≡ false → pin_of (memory_at (after_recover w k).memories (node_of w s)) s ≡ pin_of (memory_at w.memories (node_of w s)) s
+    other s there goes = by (node_of w s == k) refl
+      where
+        by : (b : Bool) → (node_of w s == k) ≡ b → pin_of (memory_at (after_recover w k).memories (node_of w s)) s ≡ pin_of (memory_at w.memories (node_of w s)) s
+        by true e = absurd (apart s there goes (Rattle.core_world.proofs.Flights.same_number (node_of w s) k e))
+        by false e = at_memory (λ (i : ℕ) (x : NodeState). (i == k) ≡ false → pin_of x s ≡ pin_of (memory_at w.memories i) s) w.memories k (with_recovery (memory_at w.memories k)) (node_of w s) node.0 (subst (λ (n : ℕ). k ≤ n) (sym kept.sessions.memories.counted) node.1)
+            (its_node starts says proper w kept.sessions s there).0 (λ f. never (sym f ∙ number_itself k)) (λ f g. refl) e
 
     pub recover_pinned : IsPinned w → IsPinned (after_recover w k)
-    recover_pinned pinned s r h =
-        let on = its_node starts says proper w kept.sessions s (session_there starts says proper w kept.sessions s (reader_login starts says proper w kept.sessions s r h)) in
-        ap (λ b. cond b (reader_pin w.table s) (pin_of (memory_at (after_recover w k).memories (node_of w s)) s)) (ends_are (λ past. is_attached past s) (λ q past. refl) (reverse (flying w.past k)) w.past)
-        ∙ (ap (λ (o : Option Pin). cond (is_attached w.past s) (reader_pin w.table s) o) (other s r h on)
-        ∙ pinned s r h)
-      where
-        other : (s : ℕ) (r : Reader) → w.reading s ≡ Some r → IsNode w.clusters (node_of w s) → pin_of (memory_at (after_recover w k).memories (node_of w s)) s ≡ pin_of (memory_at w.memories (node_of w s)) s
-        other s r h on = by (node_of w s == k) refl
-          where
-            by : (b : Bool) → (node_of w s == k) ≡ b → pin_of (memory_at (after_recover w k).memories (node_of w s)) s ≡ pin_of (memory_at w.memories (node_of w s)) s
-            by true e = absurd (apart s r h (Rattle.core_world.proofs.Flights.same_number (node_of w s) k e))
-            by false e = at_memory (λ (i : ℕ) (x : NodeState). (i == k) ≡ false → pin_of x s ≡ pin_of (memory_at w.memories i) s) w.memories k (with_recovery (memory_at w.memories k)) (node_of w s) node.0 (subst (λ (n : ℕ). k ≤ n) (sym kept.sessions.memories.counted) node.1) on.0
-                (λ f. never (sym f ∙ number_itself k)) (λ f g. refl) e
+    recover_pinned pinned = record {
+      reads = λ s r h.
+          ap (λ b. cond b (reader_pin w.table s) (pin_of (memory_at (after_recover w k).memories (node_of w s)) s)) (ends_are (λ past. is_attached past s) (λ q past. refl) (reverse (flying w.past k)) w.past)
+          ∙ (ap (λ (o : Option Pin). cond (is_attached w.past s) (reader_pin w.table s) o) (other s (session_there starts says proper w kept.sessions s (reader_login starts says proper w kept.sessions s r h)) (kept.sessions.working.reads s r h))
+          ∙ pinned.reads s r h);
+      observes = λ s r h. other s (session_there starts says proper w kept.sessions s (observer_login starts says proper w kept.sessions s r h)) (kept.sessions.observers.goes s r h) ∙ pinned.observes s r h;
+    }
 
   -- the memory of a stopped node is recovered, once no document has anything of what it left
   pub recover_whole : IsKept starts says w → IsKept starts says (after_recover w k)
   recover_whole kept =
       let layers = layers_of starts says w kept in
-      goes starts says proper w kept (after_recover w k) (recover_layers layers)
+      goes starts says proper w kept (after_recover w k) refl (recover_layers layers)
       (λ q. ends_are (λ past. is_bounded past q) (λ r past. refl) (reverse (flying w.past k)) w.past)
       (λ q. ends_are (λ past. is_swept past q) (λ r past. refl) (reverse (flying w.past k)) w.past)
       (recover_rises layers) (recover_pinned layers kept.pinned)
@@ -345,7 +357,7 @@ module _ (starts : Starts) (says : Says) (proper : StartsProper starts) (w : Sta
 module _ (starts : Starts) (says : Says) (w : State) (kept : AreSessionsKept starts says w) (k : ℕ) (recovered_then : is_recovered w.past k ≡ true) (r : Revision) (of : r.cluster ≡ k) where
   -- nothing of a recovered node is in flight
   pub none_in_flight : is_in_flight w.past r ≡ false
-  none_in_flight = none_flies starts says w.clusters w.sessions kept.nodes w.past kept.run k recovered_then r of
+  none_in_flight = none_flies None starts says w.clusters w.sessions kept.nodes w.past kept.run k recovered_then r of
 
   pub has_ended : is_drawn w.past r ≡ true → is_ended w.past r ≡ true
   has_ended drawn = by (is_drawn w.past r) (is_ended w.past r) drawn none_in_flight

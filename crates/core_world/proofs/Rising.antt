@@ -8,7 +8,7 @@ use Rattle.core_watch.proofs.GoingOn.{on_event}
 use Rattle.core_watch.proofs.Lasting.{reading_lasts}
 use Rattle.core_watch.proofs.StayingOn.{formers_event}
 use Rattle.core_world.specs.Held.{MayTakeBound}
-use Rattle.core_world.specs.Kept.{has_written, IsAboveBounds}
+use Rattle.core_world.specs.Kept.{has_written, IsAboveBounds, IsBetweenPins}
 use Rattle.core_heads.proofs.Below.{below_seen}
 use Rattle.jr_rev.specs.Vectors.{sees}
 use Rattle.std.proofs.Common.{◌≡◌, ℕ, Bool, true, false, cond, Some, None, Option, Result, Ok, Err, List, [], ◌∷◌, ◌++◌, is_some, refl, ap, subst, ◌∙◌}
@@ -62,12 +62,12 @@ use Rattle.core_clash.specs.Collecting.{SeesBounded}
 use Rattle.core_world.specs.Held.{after_bound, holding_in}
 use Rattle.core_world.specs.States.{base_in}
 use Rattle.core_world.proofs.Bounded.{bound_commits, may_bound_core}
-use Rattle.core_world.proofs.Flights.{work_quiet, still_idle}
+use Rattle.core_world.proofs.Flights.{work_quiet}
 use Rattle.core_world.proofs.Lives.{told}
 use Rattle.core_world.proofs.Memories.{aside}
 use Rattle.core_world.specs.Kept.{AreLayersKept, WereOnRoot}
 use Rattle.core_world.specs.States.{State, history_in, memory_of, node_of, nodes_in}
-use Rattle.core_world.specs.Steps.{IsThrough, after_attach, after_back, after_checkpoint, after_detach, after_draw, after_finish, after_last, after_learn, after_learn_swept, after_leave, after_login, after_mark, after_notes, after_observe, after_out, after_pending, after_refresh, after_release, after_said, after_sweep, after_undoing, after_unfound, after_want, after_went, after_write, after_write_in_want, back_op, draw_in, lasted_by, marked_by, pinned, sweep_op, swept_to, with_reader, with_result}
+use Rattle.core_world.specs.Steps.{IsThrough, after_attach, after_back, after_checkpoint, after_detach, after_draw, after_finish, after_last, after_learn, after_learn_swept, after_leave, after_login, after_mark, after_notes, after_observe, after_out, after_pending, after_refresh, after_release, after_said, after_sweep, after_undoing, after_unfound, after_want, after_went, after_write, after_write_in_want, back_op, draw_in, lasted_by, marked_by, pinned, sweep_op, swept_to, with_reader, with_result, with_observer}
 use Rattle.core_world.proofs.Attaching.{attach_keeps, attach_unfound_keeps, detach_keeps, release_unfound_keeps}
 use Rattle.core_world.proofs.Backs.{back_keeps, learn_keeps, learn_swept_keeps, out_keeps, pending_keeps, sweep_keeps}
 use Rattle.core_world.proofs.Checkpoints.{checkpoint_keeps, release_keeps}
@@ -76,6 +76,9 @@ use Rattle.core_world.proofs.Lives.{its_node, session_there}
 use Rattle.core_world.proofs.Roots.{root_quiet}
 use Rattle.core_world.proofs.Setting.{settings_quiet, undo_apart, update_apart}
 use Rattle.core_world.proofs.Layers.{draw_whole, finish_whole, last_whole, leave_whole, login_whole, mark_whole, observe_whole, refresh_whole, said_whole, undo_whole, went_whole, write_in_want_whole, write_whole}
+use Rattle.oak_changes.specs.declared.changes.ChangesReader.{ChangesReader}
+use Rattle.core_world.proofs.Letting.{observes_on}
+use Rattle.core_world.proofs.Observers.{observers_last}
 
 -- a bound that is at most a pair leaves it above the bounds so far
 pub above_one : (past : Past) (m t : RevVec) (x : Pin) → IsPairBelow (record { base = m; sweep = t }) x → IsAboveBounds past x → IsAboveBounds (event.Bound m t ∷ past) x
@@ -103,16 +106,16 @@ module _ (starts : Starts) (says : Says) (proper : StartsProper starts) (w : Sta
     there : is_some (slice_get w.sessions s) ≡ true
     there = session_there starts says proper w kept.sessions s login
 
-    pub refresh_rises : is_stopped_under w.sessions w.past s ≡ false → has_left w.past s ≡ false → w.running s ≡ None → w.reading s ≡ None → Rises (after_refresh w s)
-    refresh_rises on stays none unread = on_memory s there (after_refresh w s) (refresh_whole starts says proper w kept s on login stays none unread) (event.Refresh s (memory_of w s).head ∷ []) refl refl refl
+    pub refresh_rises : is_stopped_under w.sessions w.past s ≡ false → has_left w.past s ≡ false → w.running s ≡ None → w.reading s ≡ None → w.observing s ≡ None → Rises (after_refresh w s)
+    refresh_rises on stays none unread unobserved = on_memory s there (after_refresh w s) (refresh_whole starts says proper w kept s on login stays none unread unobserved) (event.Refresh s (memory_of w s).head ∷ []) refl refl refl
         (on_session starts says proper w kept s there (pinned (memory_of w s) s) (pin_step (memory_of w s) s)) refl
 
-    pub leave_rises : is_stopped_under w.sessions w.past s ≡ false → slice_get w.sessions (cursor_owner s) ≡ None → has_left w.past s ≡ false → w.running s ≡ None → w.reading s ≡ None → Rises (after_leave w s)
-    leave_rises on few stays none unread = on_memory s there (after_leave w s) (leave_whole starts says proper w kept s on few login stays none unread) (event.Went s kind.End ∷ []) refl refl refl
+    pub leave_rises : is_stopped_under w.sessions w.past s ≡ false → slice_get w.sessions (cursor_owner s) ≡ None → has_left w.past s ≡ false → w.running s ≡ None → w.reading s ≡ None → w.observing s ≡ None → Rises (after_leave w s)
+    leave_rises on few stays none unread unobserved = on_memory s there (after_leave w s) (leave_whole starts says proper w kept s on few login stays none unread unobserved) (event.Went s kind.End ∷ []) refl refl refl
         (on_session starts says proper w kept s there (without_session (memory_of w s) s) (leave_step (memory_of w s) s)) refl
 
-    pub observe_rises : (pin : Pin) → slice_get w.sessions (cursor_owner s) ≡ None → has_left w.past s ≡ false → w.reading s ≡ None → pin_of (memory_of w s) s ≡ Some pin → Rises (after_observe w s pin)
-    observe_rises pin few stays unread has = on_memory s there (after_observe w s pin) (observe_whole starts says proper w kept s pin few login stays unread has) (event.Went s kind.Pin ∷ []) refl refl refl
+    pub observe_rises : (pin : Pin) → slice_get w.sessions (cursor_owner s) ≡ None → has_left w.past s ≡ false → w.reading s ≡ None → w.observing s ≡ None → pin_of (memory_of w s) s ≡ Some pin → Rises (after_observe w s pin)
+    observe_rises pin few stays unread unobserved has = on_memory s there (after_observe w s pin) (observe_whole starts says proper w kept s pin few login stays unread unobserved has) (event.Went s kind.Pin ∷ []) refl refl refl
         (on_session starts says proper w kept s there (with_pin (memory_of w s) (cursor_owner s) pin) (cursor_step (memory_of w s) s (cursor_owner s) pin has)) refl
 
     pub went_rises : (k : StepKind) → is_kind k kind.End ≡ false → is_kind k kind.Pin ≡ false → has_left w.past s ≡ false → Rises (after_went w s k)
@@ -123,6 +126,9 @@ module _ (starts : Starts) (says : Says) (proper : StartsProper starts) (w : Sta
 
   pub reader_rises : (s : ℕ) (r : Option Reader) → Rises (with_reader w s r)
   reader_rises s r = still_holding (holding_in w)
+
+  pub observer_rises : (s : ℕ) (r : Option ChangesReader) → Rises (with_observer w s r)
+  observer_rises s r = still_holding (holding_in w)
 
   -- ---- commits
 
@@ -246,7 +252,8 @@ module _ (starts : Starts) (says : Says) (proper : StartsProper starts) (w : Sta
 
   -- ---- a bound
 
-  module _ (m t : RevVec) (takes : MayTakeBound w m t) (reading : (s : ℕ) (r : Reader) → w.reading s ≡ Some r → IsPairBelow (record { base = m; sweep = t }) r.pin) where
+  module _ (m t : RevVec) (takes : MayTakeBound w m t) (reading : (s : ℕ) (r : Reader) → w.reading s ≡ Some r → IsPairBelow (record { base = m; sweep = t }) r.pin)
+      (observing : (s : ℕ) (r : ChangesReader) → w.observing s ≡ Some r → IsPairBelow (record { base = m; sweep = t }) r.pin × (is_below m r.from ≡ true)) where
     below_head : (k : ℕ) → IsNode w.clusters k → is_recovered w.past k ≡ false → is_below m (head_of w.clusters None w.past k) ≡ true
     below_head k node alive = subst (λ (v : RevVec). is_below m v ≡ true) (ap (λ (p : Pin). p.base) (head_is starts says proper w kept k node) ∙ (kept.sessions.memories.memory k node).head) (takes.below.head k (takes_part starts says proper w kept k node alive)).0
 
@@ -264,6 +271,19 @@ module _ (starts : Starts) (says : Says) (proper : StartsProper starts) (w : Sta
     core_may : MayBoundBases w.past m t
     core_may = may_bound_core starts says proper w kept m t takes.below takes.swept may_bound
 
+    -- what a reader of changes lies between is above the bound too
+    between_bound : (s : ℕ) (r : ChangesReader) → w.observing s ≡ Some r → IsBetweenPins (event.Bound m t ∷ w.past) s r
+    between_bound s r h =
+        let is = kept.sessions.observers.between s r h in
+        let low = observing s r h in
+        record {
+          cursor = is.cursor;
+          own = is.own;
+          pair = is.pair;
+          above = above_one w.past m t r.pin low.0 is.above;
+          above_cursor = λ o k. elim (or_cases (sees m o) (is_bounded w.past o) k) [ inl seen ↦ below_seen m r.from o low.1 seen | inr b ↦ is.above_cursor o b ];
+        }
+
     pub bound_keeps : AreLayersKept starts says (after_bound w m t)
     bound_keeps = record {
       sessions = record {
@@ -280,6 +300,10 @@ module _ (starts : Starts) (says : Says) (proper : StartsProper starts) (w : Sta
           at_base = kept.sessions.readers.at_base;
           pairs = kept.sessions.readers.pairs;
         };
+        observers = observers_last starts says w.clusters w.sessions kept.sessions.nodes proper w.past (event.Bound m t) (may_bound, kept.sessions.run) w.table w.table w.formers w.formers w.observing kept.sessions.observers (λ k. refl) between_bound
+            _ (bound_commits w.past w.table w.running kept.sessions.committing m t core_may (record { settled = core_may.settled; closed = takes.closed })).kept
+            (λ r can tells. observes_on w.formers w.formers (documents_in w.table.documents) w.table w.past (event.Bound m t ∷ w.past) (told starts says proper w kept.sessions) (λ p k f i. i) r (λ q seen. refl)
+            (λ pin held. on_event pin (documents_in w.table.documents) w.past (λ q. has_written (kept.sessions.committing.writers q)) kept.sessions.committing.kept (event.Bound m t) (λ q. refl)) can tells);
       };
       root = root_quiet w.clusters w.past w.table (event.Bound m t) refl kept.root;
       settings = settings_quiet w.sessions w.past w.table w.table (event.Bound m t) refl refl kept.settings;

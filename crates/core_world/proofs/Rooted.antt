@@ -23,10 +23,10 @@ use Rattle.core_world.specs.Kept.{IsRootKept}
 use Rattle.core_world.specs.Start.{start_root, start_table}
 use Rattle.core_world.specs.States.{State, memory_of, node_of, nodes_in}
 use Rattle.core_world.specs.Steps.{after_finish, after_last, after_mark, after_undoing, after_update, lasted_by, marked_by, with_result}
-use Rattle.core_world.proofs.Roots.{root_quiet, root_start, undo_root, update_root, write_leaves}
+use Rattle.core_world.proofs.Roots.{root_quiet, root_start, undo_root, update_root, write_leaves, starts_seen}
 
 pub start_rooted : (clusters sessions : ℕ) → clusters ≤ 8 → 1 ≤ clusters → IsRootKept clusters [] (start_table clusters sessions)
-start_rooted clusters sessions eight some = record { document = start_root clusters; there = refl; tells = root_start clusters eight some }
+start_rooted clusters sessions eight some = record { document = start_root clusters; there = refl; tells = root_start clusters eight some; begun = starts_seen clusters eight }
 
 -- of a state
 abbrev pub IsRooted : State → Type 0

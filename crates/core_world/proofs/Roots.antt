@@ -41,7 +41,7 @@ use Rattle.core_heads.proofs.Below.{raised_stands, start_stands}
 use Rattle.core_heads.proofs.Entries.{raised_length, raised_own, raised_sees, seen_raised, start_begun, start_sees}
 use Rattle.core_heads.proofs.Orders.{at_most_itself, fold_each, fold_first, fold_has, same_itself, same_number}
 use Rattle.core_nodes.specs.Nodes.{IsOnRoot}
-use Rattle.core_world.specs.Kept.{IsRootKept}
+use Rattle.core_world.specs.Kept.{IsRootKept, SeesStarts}
 use Rattle.core_world.specs.States.{nodes_in}
 use Rattle.core_world.specs.Steps.{after_update, with_result}
 use Rattle.core_world.proofs.Tables.{put_is, undo_at, undo_none, same_node}
@@ -62,7 +62,7 @@ quiet_published : (e : Event) (past : Past) (k : ℕ) → publishes e ≡ false 
 quiet_published e past k h = ap (λ (rs : List Revision). fold greater_of (start_of k) rs) (quiet_outs e past k h)
 
 -- leaves what the root told
-pub on_root_quiet : (clusters : ℕ) (past : Past) (e : Event) (last sweep : RevVec) → publishes e ≡ false → IsOnRoot clusters past last sweep → IsOnRoot clusters (e ∷ past) last sweep
+pub on_root_quiet : (clusters : ℕ) (past : Past) (e : Event) (last sweep : RevVec) → publishes e ≡ false → IsOnRoot None clusters past last sweep → IsOnRoot None clusters (e ∷ past) last sweep
 on_root_quiet clusters past e last sweep h root = record {
   vector = root.vector;
   public = λ x. (
@@ -73,10 +73,10 @@ on_root_quiet clusters past e last sweep h root = record {
 }
 
 pub root_quiet : (clusters : ℕ) (past : Past) (t : Table) (e : Event) → publishes e ≡ false → IsRootKept clusters past t → IsRootKept clusters (e ∷ past) t
-root_quiet clusters past t e h root = record { document = root.document; there = root.there; tells = on_root_quiet clusters past e root.document.last_rev root.document.sweep_rev h root.tells }
+root_quiet clusters past t e h root = record { document = root.document; there = root.there; tells = on_root_quiet clusters past e root.document.last_rev root.document.sweep_rev h root.tells; begun = root.begun }
 
 -- what the root tells at the start
-pub root_start : (clusters : ℕ) → clusters ≤ 8 → 1 ≤ clusters → IsOnRoot clusters [] (start clusters) (start clusters)
+pub root_start : (clusters : ℕ) → clusters ≤ 8 → 1 ≤ clusters → IsOnRoot None clusters [] (start clusters) (start clusters)
 root_start clusters eight some = record {
   vector = record { eight = refl; stands = start_stands clusters };
   public = λ x. (λ s. start_sees clusters x s, λ p. start_public clusters x eight p.0 p.1);
@@ -88,7 +88,7 @@ root_start clusters eight some = record {
 
 -- ---- what is published and swept
 
-module _ (clusters : ℕ) (eight : clusters ≤ 8) (past : Past) (last sweep : RevVec) (root : IsOnRoot clusters past last sweep) (k : ℕ) (node : IsNode clusters k) (r : Revision) (of : r.cluster ≡ k) where
+module _ (clusters : ℕ) (eight : clusters ≤ 8) (past : Past) (last sweep : RevVec) (root : IsOnRoot None clusters past last sweep) (k : ℕ) (node : IsNode clusters k) (r : Revision) (of : r.cluster ≡ k) where
   later : Past
   later = event.Out k r ∷ past
 
@@ -135,7 +135,7 @@ module _ (clusters : ℕ) (eight : clusters ≤ 8) (past : Past) (last sweep : R
           let same : x.cluster ≡ k = sym (same_number k x.cluster h) in
           from same (split x (subst (λ (y : Revision). is_at_most x y ≡ true) out_is (subst (λ (j : ℕ). is_at_most x (published None (event.Out k r ∷ past) j) ≡ true) same p.1)))
 
-  pub root_out : IsOnRoot clusters (event.Out k r ∷ past) (raised last r) sweep
+  pub root_out : IsOnRoot None clusters (event.Out k r ∷ past) (raised last r) sweep
   root_out = record {
     vector = record { eight = raised_length last r ∙ root.vector.eight; stands = raised_stands last r root.vector.stands };
     public = λ x. (to_public x, from_public x);
@@ -147,7 +147,7 @@ module _ (clusters : ℕ) (eight : clusters ≤ 8) (past : Past) (last sweep : R
   out_now = subst (λ (y : Revision). is_at_most r y ≡ true) (sym out_is) (fold_each (start_of k) (r ∷ outs_of past k) r (inl refl))
 
   -- r is public, and is swept now
-  pub root_swept : is_at_most r (published None past k) ≡ true → IsOnRoot clusters past last (raised sweep r)
+  pub root_swept : is_at_most r (published None past k) ≡ true → IsOnRoot None clusters past last (raised sweep r)
   root_swept low = record {
     vector = root.vector;
     public = root.public;
@@ -204,7 +204,7 @@ folded_vectors (c ∷ cs) d h = let b = both (leaves_vectors c) (list_all leaves
 
 module _ (clusters : ℕ) (past : Past) (t : Table) (root : IsRootKept clusters past t) where
   same_vectors : (u : Table) (d : Document) → nodes_in u [] ≡ Some d → vectors_of d ≡ vectors_of root.document → IsRootKept clusters past u
-  same_vectors u d there same = record { document = d; there = there; tells = subst (λ (p : RevVec × RevVec). IsOnRoot clusters past p.0 p.1) (sym same) root.tells }
+  same_vectors u d there same = record { document = d; there = there; tells = subst (λ (p : RevVec × RevVec). IsOnRoot None clusters past p.0 p.1) (sym same) root.tells; begun = subst (λ (p : RevVec × RevVec). SeesStarts clusters p.1) (sym same) root.begun }
 
   put_root : (p : Path) (d : Document) (n : ℕ) → ((e : Document) → nodes_in t p ≡ Some e → vectors_of d ≡ vectors_of e) → IsRootKept clusters past (with_document t (id.Node p) d n)
   put_root p d n same = by (eq_by_cmp path_cmp [] p) refl
@@ -289,3 +289,13 @@ write_leaves r ws ms p =
     marking Guard = refl
     marking Touch = refl
     marking (Prop n) = refl
+
+-- ---- starts
+
+-- the start sees each
+pub starts_seen : (clusters : ℕ) → clusters ≤ 8 → SeesStarts clusters (start clusters)
+starts_seen clusters eight k node = ap (λ o. option_map_or (is_at_most (start_of k)) o false) (Rattle.core_nodes.proofs.Events.start_entry clusters k eight node) ∙ at_most_itself (start_of k)
+
+-- a vector that is raised sees what it saw
+pub starts_raised : (clusters : ℕ) (v : RevVec) (r : Revision) → SeesStarts clusters v → SeesStarts clusters (raised v r)
+starts_raised clusters v r begun k node = raised_sees v r (start_of k) (begun k node)

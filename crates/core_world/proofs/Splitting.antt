@@ -278,11 +278,11 @@ module _ (starts : Starts) (says : Says) (proper : StartsProper starts) (w : Sta
 
       pub previous_keeps : AreLayersKept starts says (after_change w s step u)
       previous_keeps = changed_keeps starts says proper w kept s login stays step other apart u previous_sound previous_world formers (λ q j f h. h) previous_formers previous_on
-          (record { document = kept.root.document; there = change.node [] ∙ kept.root.there; tells = kept.root.tells }) set
+          (record { document = kept.root.document; there = change.node [] ∙ kept.root.there; tells = kept.root.tells; begun = kept.root.begun }) set
 
       pub previous_rises : IsHoldingStep (holding_in w) (holding_in (after_change w s step u))
       previous_rises = changed_rises starts says proper w kept s login stays step other apart u previous_sound previous_world formers (λ q j f h. h) previous_formers previous_on
-          (record { document = kept.root.document; there = change.node [] ∙ kept.root.there; tells = kept.root.tells }) set
+          (record { document = kept.root.document; there = change.node [] ∙ kept.root.there; tells = kept.root.tells; begun = kept.root.begun }) set
 
   module _ (p : Path) (k : ℕ) where
     put_previous : (x : Document) → IsPreviousAt (documents_in w.table.documents) (documents_in (with_document w.table (id.Prev k p) x n).documents) p k
@@ -489,7 +489,7 @@ module _ (starts : Starts) (says : Says) (proper : StartsProper starts) (w : Sta
     removed_on y held = on_removed y (documents_in w.table.documents) (documents_in left.documents) w.past done world held p old may.there elsewhere left_gone (λ k. left_previous k p) unwanted
 
     removed_root : Rattle.core_world.specs.Kept.IsRootKept w.clusters w.past left
-    removed_root = record { document = kept.root.document; there = left_nodes [] may.below ∙ kept.root.there; tells = kept.root.tells }
+    removed_root = record { document = kept.root.document; there = left_nodes [] may.below ∙ kept.root.there; tells = kept.root.tells; begun = kept.root.begun }
 
     pub removed_keeps : AreLayersKept starts says (after_removed w s (id.Node p))
     removed_keeps = changed_keeps starts says proper w kept s login stays kind.Collect refl refl left removed_sound removed_world formers (λ q j f h. h) removed_formers removed_on removed_root (left_other id.Settings (λ h. cc))

@@ -10,11 +10,10 @@ use Rattle.oak_machine.specs.declared.event.Event.TheVariants as event
 use Rattle.oak_machine.specs.History.{Past}
 use Rattle.oak_machine.specs.Laws.{Says, Starts, StartsProper}
 use Rattle.oak_machine.specs.Runs.{IsNode, IsRunOf}
-use Rattle.oak_machine.specs.Sessions.{has_left, is_attached, is_drawing, is_stopped, is_stopped_under}
+use Rattle.oak_machine.specs.Sessions.{has_left, is_attached, is_drawing, is_stopped, is_stopped_under, has_login}
 use Rattle.oak_node.specs.Memory.{NodeState}
 use Rattle.oak_node.specs.Pins.{pin_of}
 use Rattle.oak_node.specs.Stops.{with_stop}
-use Rattle.oak_read.specs.declared.reader.Reader.{Reader}
 use Rattle.oak_read.specs.Meaning.{documents_in}
 use Rattle.core_keep.proofs.Events.{kept_idle}
 use Rattle.core_keep.specs.Holding.{IsHoldingStep}
@@ -25,16 +24,18 @@ use Rattle.core_nodes.proofs.Events.{apart_run}
 use Rattle.core_nodes.proofs.Pins.{pins_kept}
 use Rattle.core_nodes.proofs.Recovering.{stop_kept}
 use Rattle.core_world.specs.Held.{holding_in}
-use Rattle.core_world.specs.Kept.{AreAtWork, AreCommitting, AreLayersKept, AreMemories, AreReading, AreSessionsKept, IsKept, IsPinned, has_written}
+use Rattle.core_world.specs.Kept.{AreAtWork, AreCommitting, AreLayersKept, AreMemories, AreReading, AreSessionsKept, IsKept, IsPinned, has_written, AreObserving}
 use Rattle.core_world.specs.States.{State, core_in, memory_at, node_of, reader_pin, with_memory}
 use Rattle.core_world.specs.Steps.{after_stop, without_node}
 use Rattle.core_world.proofs.Commits.{on_its_node}
 use Rattle.core_world.proofs.Held.{IsMemoryStep, holding, memory_still, same_kept}
-use Rattle.core_world.proofs.Lives.{its_node, reader_login, reads_calm, session_there}
+use Rattle.core_world.proofs.Lives.{its_node, reader_login, reads_calm, session_there, observer_login}
 use Rattle.core_world.proofs.Memories.{at_memory, step_on}
 use Rattle.core_world.proofs.Roots.{root_quiet}
 use Rattle.core_world.proofs.Setting.{settings_quiet}
 use Rattle.core_world.proofs.Whole.{goes, layers_of}
+use Rattle.core_world.proofs.Letting.{lets_calm}
+use Rattle.core_world.proofs.Observers.{between_on, still_tells}
 
 never : {A : Type 0} → false ≡ true → A
 never h = absurd (false≢true h)
@@ -120,9 +121,9 @@ module _ (starts : Starts) (says : Says) (proper : StartsProper starts) (w : Sta
 
     memories : AreMemories w.clusters w.sessions (event.Stop k ∷ w.past) (with_memory w.memories k (with_stop (memory_at w.memories k)))
     memories = step_on starts says w.clusters w.sessions kept.nodes w.past w.memories kept.memories k node (with_stop (memory_at w.memories k)) (event.Stop k ∷ w.past)
-        (stop_kept w.clusters w.past k (memory_at w.memories k) (kept.memories.memory k node))
+        (stop_kept None w.clusters w.past k (memory_at w.memories k) (kept.memories.memory k node))
         (let has = kept.memories.pins k node in record { bases = has.bases; pairs = has.pairs })
-        (λ j on h. apart_run starts says w.clusters w.sessions kept.nodes (event.Stop k) w.past j (memory_at w.memories j) run (ap not (turned k j h)) (kept.memories.memory j on))
+        (λ j on h. apart_run None starts says w.clusters w.sessions kept.nodes (event.Stop k) w.past j (memory_at w.memories j) run (ap not (turned k j h)) (kept.memories.memory j on))
         (λ j on h. pins_kept w.sessions w.past j (memory_at w.memories j) (kept.memories.pins j on) (event.Stop k) refl)
 
     readers : AreReading (event.Stop k ∷ w.past) w.table w.formers (without_node w.sessions k w.reading)
@@ -136,8 +137,18 @@ module _ (starts : Starts) (says : Says) (proper : StartsProper starts) (w : Sta
           pairs = λ s r h. all.pairs s r (left_over w.sessions k w.reading s r h).1;
         }
 
+    observers : AreObserving w.sessions (event.Stop k ∷ w.past) w.table w.formers (without_node w.sessions k w.observing)
+    observers = record {
+      goes = λ s r h. let l = left_over w.sessions k w.observing s r h in goes_on w.sessions w.past k s l.0 (kept.observers.goes s r l.1);
+      apart = λ s r h. kept.observers.apart s r (left_over w.sessions k w.observing s r h).1;
+      between = λ s r h. between_on starts says w.clusters w.sessions kept.nodes w.past (event.Stop k) s r refl (λ o. refl) (λ o. refl) (kept.observers.between s r (left_over w.sessions k w.observing s r h).1);
+      tells = λ s r h. let here = (left_over w.sessions k w.observing s r h).1 in still_tells starts says w.clusters w.sessions kept.nodes proper w.past (event.Stop k) run w.table w.table w.formers w.formers w.observing kept.observers
+          (λ q y i. between_on starts says w.clusters w.sessions kept.nodes w.past (event.Stop k) q y refl (λ o. refl) (λ o. refl) (kept.observers.between q y i))
+          (λ q. has_written (committing.writers q)) committing.kept ((lets_calm w.table w.past (λ q. has_written (kept.committing.writers q)) kept.committing.kept (event.Stop k) (λ q. refl) refl).observes w.formers) s r here;
+    }
+
     pub stop_sessions : AreSessionsKept starts says (after_stop w k)
-    stop_sessions = record { nodes = kept.nodes; run = run; committing = committing; working = working; memories = memories; readers = readers }
+    stop_sessions = record { nodes = kept.nodes; run = run; committing = committing; working = working; memories = memories; readers = readers; observers = observers }
 
   module _ (kept : AreLayersKept starts says w) where
     pub stop_layers : AreLayersKept starts says (after_stop w k)
@@ -156,13 +167,18 @@ module _ (starts : Starts) (says : Says) (proper : StartsProper starts) (w : Sta
         (same_kept starts says proper w kept w.table refl)
 
     pub stop_pinned : IsPinned w → IsPinned (after_stop w k)
-    stop_pinned pinned s r h =
-        let here = (left_over w.sessions k w.reading s r h).1 in
-        let on = its_node starts says proper w kept.sessions s (session_there starts says proper w kept.sessions s (reader_login starts says proper w kept.sessions s r here)) in
-        ap (λ (o : Option Pin). cond (is_attached w.past s) (reader_pin w.table s) o) (within (λ a b. pin_of b s ≡ pin_of a s) (node_of w s) on refl refl) ∙ pinned s r here
+    stop_pinned pinned = record {
+      reads = λ s r h.
+          let here = (left_over w.sessions k w.reading s r h).1 in
+          ap (λ (o : Option Pin). cond (is_attached w.past s) (reader_pin w.table s) o) (own s (reader_login starts says proper w kept.sessions s r here)) ∙ pinned.reads s r here;
+      observes = λ s r h. let here = (left_over w.sessions k w.observing s r h).1 in own s (observer_login starts says proper w kept.sessions s r here) ∙ pinned.observes s r here;
+    }
+      where
+        own : (s : ℕ) → has_login w.past s ≡ true → pin_of (memory_at (after_stop w k).memories (node_of w s)) s ≡ pin_of (memory_at w.memories (node_of w s)) s
+        own s login = within (λ a b. pin_of b s ≡ pin_of a s) (node_of w s) (its_node starts says proper w kept.sessions s (session_there starts says proper w kept.sessions s login)) refl refl
 
   -- a stop keeps the world
   pub stop_whole : IsKept starts says w → IsKept starts says (after_stop w k)
   stop_whole kept =
       let layers = layers_of starts says w kept in
-      goes starts says proper w kept (after_stop w k) (stop_layers layers) (λ r. refl) (λ r. refl) (stop_rises layers) (stop_pinned layers kept.pinned)
+      goes starts says proper w kept (after_stop w k) refl (stop_layers layers) (λ r. refl) (λ r. refl) (stop_rises layers) (stop_pinned layers kept.pinned)

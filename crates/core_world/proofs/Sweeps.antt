@@ -1,8 +1,8 @@
 -- What a sweep reads of the root it may tell at any later moment.
-use Rattle.std.proofs.Common.{arith, ◌≡◌, ◌+◌, ◌-◌, ℕ, ◌≤◌, zero, suc, Bool, true, false, cond, inl, inr, Option, Some, None, List, [], ◌∷◌, is_some, length, refl, sym, ap, ◌∙◌, subst}
+use Rattle.std.proofs.Common.{arith, ◌≡◌, ◌+◌, ◌-◌, ℕ, ◌≤◌, zero, suc, Bool, true, false, cond, inr, Option, Some, None, [], ◌∷◌, is_some, length, refl, sym, ap, ◌∙◌, subst}
 use Rattle.std.specs.Prelude.{◌==◌, slice_get, slice_set}
 use Rattle.std.specs.List.{AllByRecursion, fold}
-use Rattle.std.specs.Option.{option_flatten, option_map_or, unwrap_or}
+use Rattle.std.specs.Option.{option_map_or, unwrap_or}
 use mathlib.Core.Bool.{false≢true}
 use Rattle.jr_rev.specs.declared.revision.Revision.{Revision}
 use Rattle.jr_rev.specs.Revisions.{is_at_most}
@@ -54,7 +54,7 @@ published_later e past k r low = at_most_trans r (published None past k) (publis
 
 -- ---- the root
 
-target_at : (clusters : ℕ) (past : Past) (root : Document) → IsOnRoot clusters past root.last_rev root.sweep_rev → (k : ℕ) (o : Option Revision) → entry root.last_rev k ≡ o → ((unwrap_or o (start_of k)).cluster ≡ k) × (is_at_most (unwrap_or o (start_of k)) (published None past k) ≡ true)
+target_at : (clusters : ℕ) (past : Past) (root : Document) → IsOnRoot None clusters past root.last_rev root.sweep_rev → (k : ℕ) (o : Option Revision) → entry root.last_rev k ≡ o → ((unwrap_or o (start_of k)).cluster ≡ k) × (is_at_most (unwrap_or o (start_of k)) (published None past k) ≡ true)
 target_at clusters past root on k None is = (refl, fold_first (start_of k) (outs_of past k))
 target_at clusters past root on k (Some e) is =
     let of = entry_of_node root.last_rev k e on.vector.stands is in
@@ -109,7 +109,7 @@ module _ (starts : Starts) (says : Says) (w : State) (kept : AreLayersKept start
   pub sweep_learned : (k : ℕ) → IsNode w.clusters k → (v : RevVec) → learned (memory_at w.memories k) no_entries v ≡ record (memory_at w.memories k) { sweep = greatest (memory_at w.memories k).sweep v }
   sweep_learned k node v = learned_alone (memory_at w.memories k) v eight is.memory
     where
-      is : IsMemoryOf w.clusters w.past k (memory_at w.memories k)
+      is : IsMemoryOf None w.clusters w.past k (memory_at w.memories k)
       is = kept.sessions.memories.memory k node
 
       eight : length (memory_at w.memories k).head ≡ 8

@@ -24,7 +24,7 @@ use Rattle.core_keep.specs.Steps.{IsMainAt}
 use Rattle.core_keep.proofs.World.{kept_mark_op, kept_settings}
 use Rattle.core_watch.proofs.GoingOn.{on_mark, on_others}
 use Rattle.core_watch.proofs.StayingOn.{formers_mark, formers_others}
-use Rattle.core_world.proofs.Letting.{LetsRead, lets_on}
+use Rattle.core_world.proofs.Letting.{LetsRead, lets_change}
 use Rattle.core_clash.specs.Core.{Core, Docs, root_of}
 use Rattle.core_clash.specs.Sessions.{Running}
 use Rattle.std.specs.List.{list_any}
@@ -148,8 +148,8 @@ module _ (past : Past) (t u : Table) (running : ℕ → Option Running) (a : Are
 
   -- readers read on
   pub nodes_let : LetsRead t u past past
-  nodes_let = lets_on t u past past (λ pin held. on_others pin (documents_in t.documents) (documents_in u.documents) past _ (world_of past t running a told) held same previous)
-      (λ formers l. formers_others (documents_in t.documents) (documents_in u.documents) past _ (world_of past t running a told) same previous formers l) (λ r. refl) (λ r. refl)
+  nodes_let = lets_change t u past told (λ pin held. on_others pin (documents_in t.documents) (documents_in u.documents) past _ (world_of past t running a told) held same previous)
+      (λ formers l. formers_others (documents_in t.documents) (documents_in u.documents) past _ (world_of past t running a told) same previous formers l)
 
   pub nodes_commit : AreCommitting past u running
   nodes_commit = record {
@@ -198,5 +198,5 @@ module _ (past : Past) (t : Table) (running : ℕ → Option Running) (a : AreCo
 
   -- readers read on
   pub vectors_let : LetsRead t (with_document t (id.Node p) (revectored d l v (next_number t)) (next_number t)) past past
-  vectors_let = lets_on t after past past (λ pin held. on_mark pin (documents_in t.documents) (documents_in after.documents) past _ (world_of past t running a told) held p op n at all main)
-      (λ formers k. formers_mark (documents_in t.documents) (documents_in after.documents) past _ (world_of past t running a told) p op n at all main formers k) (λ r. refl) (λ r. refl)
+  vectors_let = lets_change t after past told (λ pin held. on_mark pin (documents_in t.documents) (documents_in after.documents) past _ (world_of past t running a told) held p op n at all main)
+      (λ formers k. formers_mark (documents_in t.documents) (documents_in after.documents) past _ (world_of past t running a told) p op n at all main formers k)

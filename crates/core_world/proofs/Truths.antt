@@ -8,7 +8,7 @@ use Rattle.core_world.specs.States.{moved_in}
 use Rattle.core_keep.proofs.Journal.{edit_is, reading}
 use Rattle.core_world.specs.Kept.{IsAboveBounds}
 use Rattle.core_world.proofs.Readers.{pair_held}
-use Rattle.std.proofs.Common.{◌≡◌, ◌⊎◌, inl, inr, ℕ, ◌≤◌, Bool, true, false, not, ◌&&◌, cond, Some, None, Option, List, [], ◌∷◌, length, is_some, refl, sym, ap, subst, ◌∙◌, arith}
+use Rattle.std.proofs.Common.{◌≡◌, ◌⊎◌, inl, inr, ℕ, ◌+◌, ◌≤◌, Bool, true, false, not, ◌&&◌, cond, Some, None, Option, List, [], ◌∷◌, length, is_some, refl, sym, ap, subst, ◌∙◌, arith}
 use Rattle.std.specs.Prelude.{slice_get}
 use Rattle.std.specs.Option.{option_map_or, unwrap_or}
 use mathlib.Core.Bool.{false≢true}
@@ -55,7 +55,7 @@ use Rattle.core_world.specs.Kept.{IsFreeOf, AreSessionsKept}
 use Rattle.core_world.specs.States.{State, base_in, core_in, memory_at, memory_of, node_of, nodes_in}
 use Rattle.core_world.proofs.Commits.{on_its_node}
 use Rattle.core_world.proofs.Draws.{base_is, its_base, its_pair, some_pin}
-use Rattle.core_world.proofs.Lives.{its_node, node_alive, session_there, told}
+use Rattle.core_world.proofs.Lives.{its_node, node_alive, session_there}
 use Rattle.core_world.proofs.Readers.{HasBase, based_is, pinned_held}
 
 -- the commit root of a drawn revision stays, whatever follows
@@ -120,7 +120,7 @@ module _ (starts : Starts) (says : Says) (proper : StartsProper starts) (w : Sta
         let node : IsNode w.clusters k = kept.nodes.node s k on in
         let flying = in_flight w.past x.draw.revision x.draw mine.draw mine.unended in
         subst (λ (j : ℕ). IsInFlight (memory_at w.memories j) x.draw.revision) (sym (ap (λ o. unwrap_or o 0) on))
-        ((flying_is w.clusters w.sessions kept.nodes w.past (sound_run w.clusters w.sessions kept.nodes None starts says w.past kept.run) k node (memory_at w.memories k) (kept.memories.memory k node) x.draw.revision).1 (refl, flying))
+        ((flying_is None w.clusters w.sessions kept.nodes w.past (sound_run w.clusters w.sessions kept.nodes None starts says w.past kept.run) k node (memory_at w.memories k) (kept.memories.memory k node) x.draw.revision).1 (refl, flying))
 
     -- what it is to mark was drawn
     pub due_drawn : (f : Met) → In f x.writer.due → is_drawn w.past f.other ≡ true
@@ -212,4 +212,7 @@ module _ (starts : Starts) (says : Says) (proper : StartsProper starts) (w : Sta
   -- ---- times
 
   pub time_known : (k : ℕ) → IsNode w.clusters k → known_time (memory_at w.memories k) ≤ length w.past
-  time_known k node = known_events w.clusters w.sessions kept.nodes starts says w.past kept.run k (memory_at w.memories k) node (kept.memories.memory k node)
+  time_known k node =
+      let most : known_time (memory_at w.memories k) ≤ 0 + length w.past =
+      known_events None w.clusters w.sessions kept.nodes starts says w.past kept.run k (memory_at w.memories k) node (kept.memories.memory k node) in
+      omega arith

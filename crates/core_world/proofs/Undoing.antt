@@ -12,7 +12,6 @@ use Rattle.jr_tree.specs.declared.edit.Write.{Write}
 use Rattle.oak_clash.specs.Clashes.{commit_root}
 use Rattle.oak_commit.specs.Clashing.{Writer, undo_op}
 use Rattle.oak_doc.specs.declared.document.Document.{Document}
-use Rattle.oak_doc.specs.Updates.{undone}
 use Rattle.oak_machine.specs.Sessions.{is_stopped}
 use Rattle.oak_machine.specs.declared.event.Draw.{Draw}
 use Rattle.oak_machine.specs.declared.event.Event.TheVariants as event
@@ -24,14 +23,12 @@ use Rattle.oak_store.specs.Tables.{Table, after_undo, next_number}
 use Rattle.core_read.specs.Committing.{IsPartly, IsUnwritten}
 use Rattle.core_read.specs.Holds.{edit_of}
 use Rattle.core_read.specs.Told.{IsTold}
-use Rattle.core_keep.specs.Journal.{course_of, with_progress, IsKeptWorld}
+use Rattle.core_keep.specs.Journal.{with_progress, IsKeptWorld}
 use Rattle.core_keep.proofs.Events.{kept_idle}
 use Rattle.core_keep.proofs.World.{kept_undo_op}
-use Rattle.core_keep.specs.Formers.{AreFormers}
-use Rattle.core_watch.specs.Reading.{IsReading}
 use Rattle.core_watch.proofs.GoingOn.{on_undo}
 use Rattle.core_watch.proofs.StayingOn.{formers_undo}
-use Rattle.core_world.proofs.Letting.{LetsRead, lets_event, lets_on, lets_then}
+use Rattle.core_world.proofs.Letting.{LetsRead, lets_event, lets_then, lets_change, lets_same}
 use Rattle.core_clash.specs.Core.{IsDead, MayUndo, cleared, with_writer, without_path}
 use Rattle.core_clash.specs.Sessions.{IsTheirs, Running}
 use Rattle.core_clash.specs.Views.{AreOrdered, In, Once}
@@ -105,19 +102,14 @@ module _ (past : Past) (t : Table) (running : ℕ → Option Running) (a : AreCo
   undone_lets = by (nodes_in t p) refl
     where
       by : (o : Option Document) → nodes_in t p ≡ o → LetsRead t now past past
-      by None is = record {
-        reads = λ formers y held reading. subst (λ (es : List (DocId × Document)). IsReading (documents_in es) past formers y) (sym (undo_none t p r is)) reading;
-        tells = λ formers l. subst (λ (es : List (DocId × Document)). AreFormers (documents_in es) (course_of past) formers) (sym (undo_none t p r is)) l;
-        bounds = λ q. refl;
-        sweeps = λ q. refl;
-      }
+      by None is = lets_same t now past (undo_none t p r is)
       by (Some f) is =
-          lets_on t now past past (λ pin held. on_undo pin (documents_in t.documents) (documents_in now.documents) past _ (world_of past t running a told) held r d drawn flying open_ p f (undo_op r p) n is (sorted_at f is).1 refl (undo_main t p r f is))
-          (λ formers l. formers_undo (documents_in t.documents) (documents_in now.documents) past _ (world_of past t running a told) r d drawn flying open_ p f (undo_op r p) n is (sorted_at f is).1 refl (undo_main t p r f is) formers l) (λ q. refl) (λ q. refl)
+          lets_change t now past told (λ pin held. on_undo pin (documents_in t.documents) (documents_in now.documents) past _ (world_of past t running a told) held r d drawn flying open_ p f (undo_op r p) n is (sorted_at f is).1 refl (undo_main t p r f is))
+          (λ formers l. formers_undo (documents_in t.documents) (documents_in now.documents) past _ (world_of past t running a told) r d drawn flying open_ p f (undo_op r p) n is (sorted_at f is).1 refl (undo_main t p r f is) formers l)
 
   -- whichever session's event it is
   pub lets_undone : (s : ℕ) → LetsRead t now past (event.Went s kind.Undo ∷ past)
-  lets_undone s = lets_then t now now past past (event.Went s kind.Undo ∷ past) (λ pin held. held) undone_lets (lets_event now past _ undone_world (event.Went s kind.Undo) (λ q. refl) (λ q. refl) (λ q. refl))
+  lets_undone s = lets_then t now now past (event.Went s kind.Undo ∷ past) _ undone_world undone_lets (lets_event now past _ undone_world (event.Went s kind.Undo) (λ q. refl) (λ q. refl) (λ q. refl))
 
   pub world_undone : (s : ℕ) → IsKeptWorld (documents_in now.documents) (event.Went s kind.Undo ∷ past) (with_progress (λ q. is_among (a.writers q).written) r less_at)
   world_undone s = kept_idle (documents_in now.documents) past _ (event.Went s kind.Undo) refl undone_world

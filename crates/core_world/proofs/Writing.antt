@@ -42,7 +42,7 @@ use Rattle.core_clash.proofs.Updates.{writes, write_is}
 use Rattle.core_clash.proofs.Written.{write_keeps}
 use Rattle.core_watch.proofs.GoingOn.{on_write}
 use Rattle.core_watch.proofs.StayingOn.{formers_write}
-use Rattle.core_world.proofs.Letting.{LetsRead, lets_event, lets_on, lets_then}
+use Rattle.core_world.proofs.Letting.{LetsRead, lets_event, lets_then, lets_change}
 use Rattle.core_world.specs.States.{core_in, moved_in, nodes_in, with_session}
 use Rattle.core_world.specs.Steps.{after_update, paths_to_write, with_result}
 use Rattle.core_world.specs.Kept.{AreCommitting}
@@ -142,9 +142,9 @@ module _ (past : Past) (t : Table) (running : ℕ → Option Running) (a : AreCo
   -- readers read on
   pub write_lets : LetsRead t (after_update t op) past later
   write_lets = subst (λ (u : Table). LetsRead t u past later) (sym made)
-      (lets_then t now now past past later (λ pin held. held)
-      (lets_on t now past past (λ pin held. on_write pin (documents_in t.documents) (documents_in now.documents) past _ (world_of past t running a told) held r x.draw may.going.draw (flies past t running a told s x here) (pending past t running a told s x here uncommitted) p (markings_at r p x.draw.marks) op n wop new (put_main t p doc n))
-      (λ formers l. formers_write (documents_in t.documents) (documents_in now.documents) past _ (world_of past t running a told) r x.draw may.going.draw (flies past t running a told s x here) (pending past t running a told s x here uncommitted) p (markings_at r p x.draw.marks) op n wop new (put_main t p doc n) formers l) (λ q. refl) (λ q. refl))
+      (lets_then t now now past later _ written_world
+      (lets_change t now past told (λ pin held. on_write pin (documents_in t.documents) (documents_in now.documents) past _ (world_of past t running a told) held r x.draw may.going.draw (flies past t running a told s x here) (pending past t running a told s x here uncommitted) p (markings_at r p x.draw.marks) op n wop new (put_main t p doc n))
+      (λ formers l. formers_write (documents_in t.documents) (documents_in now.documents) past _ (world_of past t running a told) r x.draw may.going.draw (flies past t running a told s x here) (pending past t running a told s x here uncommitted) p (markings_at r p x.draw.marks) op n wop new (put_main t p doc n) formers l))
       (lets_event now past _ written_world (event.Went x.draw.session kind.Write) (λ q. refl) (λ q. refl) (λ q. refl)))
 
   readable : IsKeptWorld (documents_in now.documents) later (with_progress (λ q. is_among (a.writers q).written) r (λ q. eq_by_cmp path_cmp q p || is_among (a.writers r).written q))

@@ -1,4 +1,5 @@
--- Splits and collections in a world, step by step: what a split writes and lists, what a collection drops and removes.
+-- Splits and collections in a world, step by step: what a split writes and lists, what a collection
+-- drops and removes.
 use Rattle.std.specs.Ordering.{eq_by_cmp}
 use Rattle.jr_path.specs.Names.{path_cmp}
 use Rattle.std.specs.Prelude.{◌≡◌, [], ◌∷◌, ◌&&◌, ℕ, List, Some, None, is_some, IsTrue, IsFalse}
@@ -45,29 +46,45 @@ after_change w s k u = record w { past = event.Went s k ∷ w.past; table = u }
 
 -- a split writes a previous document
 abbrev pub after_copied : State → ℕ → Path → ℕ → Document → State
-after_copied w s p k x = after_change w s kind.Split (with_document w.table (id.Prev k p) x (next_number w.table))
+after_copied w s p k x =
+    after_change w s kind.Split (with_document w.table (id.Prev k p) x (next_number w.table))
 
 -- and takes what moved from the document, which lists the previous one now and becomes a former one
 abbrev pub split_now : State → Documents → Pin → Document → PrevEntry → Document
-split_now w read pin old e = after_changes (Some old) (main_write read pin old e) (next_number w.table)
+split_now w read pin old e =
+    after_changes (Some old) (main_write read pin old e) (next_number w.table)
 
 abbrev pub after_split : State → ℕ → Documents → Pin → Path → Document → PrevEntry → State
-after_split w s read pin p old e = record (after_change w s kind.Split (with_document w.table (id.Node p) (split_now w read pin old e) (next_number w.table))) { formers = with_former w.formers p e.number (former_now (course_of w.past) old) }
+after_split w s read pin p old e =
+    let t = with_document w.table (id.Node p) (split_now w read pin old e) (next_number w.table) in
+    record (after_change w s kind.Split t) {
+      formers = with_former w.formers p e.number (former_now (course_of w.past) old);
+    }
 
--- a document has the number that the split has read, and what counts in the documents that it has read is committed; the previous document is as it wrote it
-pub record MaySplit (w : State) (read : Documents) (pin : Pin) (p : Path) (old : Document) (e : PrevEntry) : Type 0 where
+-- a document has the number that the split has read, and what counts in the documents that it has
+-- read is committed; the previous document is as it wrote it
+pub record MaySplit (w : State) (read : Documents) (pin : Pin) (p : Path) (old : Document)
+    (e : PrevEntry) : Type 0 where
   pub there : documents_in w.table.documents (id.Node p) ≡ Some old
   pub order : IsInOrder old
   pub number : e.number ≡ old.mod_count
-  pub counted : (n : Name) (r : Revision) → IsTrue (is_some (of_revision (values_of_property old.props n) r)) → IsTrue (sees pin.base r && is_committed read pin.sweep old r) → IsTrue (is_some (edit_of w.past r))
+  pub counted : (n : Name) (r : Revision)
+      → IsTrue (is_some (of_revision (values_of_property old.props n) r))
+      → IsTrue (sees pin.base r && is_committed read pin.sweep old r)
+      → IsTrue (is_some (edit_of w.past r))
   pub first : ℕ
-  pub copied : documents_in w.table.documents (id.Prev e.number p) ≡ Some (after_changes None (previous_write read pin old) first)
+  pub copied : documents_in w.table.documents (id.Prev e.number p)
+      ≡ Some (after_changes None (previous_write read pin old) first)
 
 -- a collection drops garbage of a bound from a document, and unlists previous ones
 abbrev pub after_pruned : State → ℕ → Path → Document → UpdateOp → State
-after_pruned w s p old op = after_change w s kind.Collect (with_document w.table (id.Node p) (after_changes (Some old) op (next_number w.table)) (next_number w.table))
+after_pruned w s p old op =
+    after_change w s kind.Collect
+    (with_document w.table (id.Node p) (after_changes (Some old) op (next_number w.table))
+    (next_number w.table))
 
-pub record MayPrune (w : State) (m t : RevVec) (p : Path) (old : Document) (op : UpdateOp) : Type 0 where
+pub record MayPrune (w : State) (m t : RevVec) (p : Path) (old : Document) (op : UpdateOp)
+    : Type 0 where
   pub bound : IsBoundOf w.past m t
   pub there : documents_in w.table.documents (id.Node p) ≡ Some old
   pub order : IsOrderedDocument old
@@ -75,7 +92,8 @@ pub record MayPrune (w : State) (m t : RevVec) (p : Path) (old : Document) (op :
   pub numbers : List ℕ
   pub garbage : DropsGarbage (documents_in w.table.documents) m t p old op keys numbers
 
--- a document goes: a previous one that isn't listed, or that of an absent node, where it is garbage of a bound
+-- a document goes: a previous one that isn't listed, or that of an absent node, where it is garbage
+-- of a bound
 abbrev pub after_removed : State → ℕ → DocId → State
 after_removed w s i = after_change w s kind.Collect (without w.table i)
 

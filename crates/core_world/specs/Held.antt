@@ -30,7 +30,8 @@ is_node_in clusters k = nat_le 1 k && nat_le k clusters
 abbrev pub no_pin : Pin
 no_pin = record { base = no_entries; sweep = no_entries }
 
--- what is held now: the head of each cluster node with its sweep vector, the pins of its sessions and their cursors, and what the settings keep
+-- what is held now: the head of each cluster node with its sweep vector, the pins of its sessions
+-- and their cursors, and what the settings keep
 abbrev pub holding_in : State → Holding
 holding_in w = record {
   heads = λ k. cond (is_node_in w.clusters k) (pin_now (memory_at w.memories k)) no_pin;
@@ -43,7 +44,8 @@ holding_in w = record {
 abbrev pub after_bound : State → RevVec → RevVec → State
 after_bound w m t = record w { past = event.Bound m t ∷ w.past }
 
--- such a bound may be taken: it is at most what is held, and with an edit it sees all that the edit's base saw
+-- such a bound may be taken: it is at most what is held, and with an edit it sees all that the
+-- edit's base saw
 pub record MayTakeBound (w : State) (m t : RevVec) : Type 0 where
   pub below : IsBelowAll (record { base = m; sweep = t }) (holding_in w)
   pub swept : IsTrue (is_below t m)

@@ -23,11 +23,17 @@ start_document p type number = record (document_of None (id.Node p)) {
 
 -- the root also says what is published and what is swept
 abbrev pub start_root : ℕ → Document
-start_root clusters = record (start_document [] (codes "nt:unstructured") 1) { last_rev = start clusters; sweep_rev = start clusters }
+start_root clusters = record (start_document [] (codes "nt:unstructured") 1) {
+  last_rev = start clusters;
+  sweep_rev = start clusters;
+}
 
 -- the settings count the sessions
 abbrev pub start_settings : ℕ → Document
-start_settings sessions = record (document_of None id.Settings) { mod_count = 4; sessions = sessions }
+start_settings sessions = record (document_of None id.Settings) {
+  mod_count = 4;
+  sessions = sessions;
+}
 
 abbrev pub system_path : Path
 system_path = codes "jcr:system" ∷ []
@@ -46,7 +52,10 @@ start_documents clusters sessions =
 
 -- the documents of the start have the numbers 1 to 4
 abbrev pub start_table : ℕ → ℕ → Table
-start_table clusters sessions = record { documents = by_id (start_documents clusters sessions); number = 4 }
+start_table clusters sessions = record {
+  documents = by_id (start_documents clusters sessions);
+  number = 4;
+}
 
 -- the world of these cluster nodes and sessions before any step
 abbrev pub start_state : ℕ → List ℕ → State
@@ -58,5 +67,6 @@ start_state clusters sessions = record {
   memories = map (λ k. begun k (start clusters)) (range_with_len 1 clusters);
   running = λ s. None;
   reading = λ s. None;
+  observing = λ s. None;
   formers = λ p k. None;
 }

@@ -12,6 +12,7 @@ use Rattle.jr_path.specs.declared.path.DocId.TheVariants as id
 use Rattle.jr_rev.specs.declared.revision.Revision.{Revision}
 use Rattle.jr_rev.specs.declared.vector.RevVec.{RevVec}
 use Rattle.jr_rev.specs.Vectors.{no_entries}
+use Rattle.oak_changes.specs.declared.changes.ChangesReader.{ChangesReader}
 use Rattle.oak_commit.specs.Clashing.{Writer}
 use Rattle.oak_doc.specs.declared.document.Document.{Document}
 use Rattle.oak_doc.specs.declared.document.PrevEntry.{PrevEntry}
@@ -25,16 +26,22 @@ use Rattle.core_keep.specs.Formers.{Formers}
 use Rattle.core_clash.specs.Core.{Core}
 use Rattle.core_clash.specs.Sessions.{Running}
 
--- the number of cluster nodes, and the cluster node of each session; the events so far, the newest first; the documents; the memories of the cluster nodes 1, 2 and so on;
--- of each session the committer at work, from its draw to the end, and the reader of its load or list; and the former documents of the previous documents that were listed so far
 pub record State : Type 0 where
+  -- the number of cluster nodes, and the cluster node of each session
   pub clusters : ℕ
   pub sessions : List ℕ
+  -- the events so far, the newest first
   pub past : Past
   pub table : Table
+  -- the memories of the cluster nodes 1, 2 and so on
   pub memories : List NodeState
+  -- of each session the committer at work, from its draw to the end
   pub running : ℕ → Option Running
+  -- the reader of its load or list
   pub reading : ℕ → Option Reader
+  -- and the reader of what commits changed since its cursor
+  pub observing : ℕ → Option ChangesReader
+  -- the former documents of the previous documents that were listed so far
   pub formers : Formers
 
 -- what the journal of a state tells
@@ -57,11 +64,20 @@ listed_at t p = option_map_or (λ d. d.prev) (nodes_in t p) []
 
 -- of each node the previous documents that its document lists and that are there
 abbrev pub moved_in : Table → Path → List Document
-moved_in t p = option_map_or (λ d. filter_map (λ e. documents_in t.documents (id.Prev e.number p)) d.prev) (nodes_in t p) []
+moved_in t p =
+    option_map_or (λ d. filter_map (λ e. documents_in t.documents (id.Prev e.number p)) d.prev)
+    (nodes_in t p) []
 
--- the core of many committers: the documents with the previous ones that they list, the events so far, and the writer of each draw
+-- the core of many committers: the documents with the previous ones that they list, the events so
+-- far, and the writer of each draw
 abbrev pub core_in : Past → Table → (Revision → Writer) → Core
-core_in past t writers = record { number = t.number; docs = nodes_in t; moved = moved_in t; past = past; writers = writers }
+core_in past t writers = record {
+  number = t.number;
+  docs = nodes_in t;
+  moved = moved_in t;
+  past = past;
+  writers = writers;
+}
 
 -- ---- memories
 
@@ -87,8 +103,11 @@ base_in w s = option_map_or (λ pin. pin.base) (pin_of (memory_of w s) s) (memor
 
 -- the pair that the settings keep for session s, where they have it as a reader
 abbrev pub reader_pin : Table → ℕ → Option Pin
-reader_pin t s = option_and_then (λ d. lookup (is_at (nat_cmp s)) d.readers) (documents_in t.documents id.Settings)
+reader_pin t s =
+    option_and_then (λ d. lookup (is_at (nat_cmp s)) d.readers)
+    (documents_in t.documents id.Settings)
 
--- the pin at which session s reads: while it is attached that of the settings, else that of its node's memory
+-- the pin at which session s reads: while it is attached that of the settings, else that of its
+-- node's memory
 abbrev pub actor_pin : State → ℕ → Option Pin
 actor_pin w s = cond (is_attached w.past s) (reader_pin w.table s) (pin_of (memory_of w s) s)

@@ -5,6 +5,7 @@ use Rattle.jr_rev.specs.declared.revision.Revision.{Revision}
 use Rattle.jr_rev.specs.Vectors.{entry, start_of}
 use Rattle.oak_doc.specs.declared.document.Document.{Document}
 
--- how far cluster node k has published, by the root's document; its start where that has no entry of it
+-- how far cluster node k has published, by the root's document; its start where that has no entry
+-- of it
 abbrev pub target_of : Document → ℕ → Revision
 target_of root k = unwrap_or (entry root.last_rev k) (start_of k)

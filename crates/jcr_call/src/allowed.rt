@@ -18,14 +18,10 @@ fn is_built(command: &Command) -> bool
 {
     !matches!(
         command,
-        Command::BackWrite
-            | Command::BackRead
-            | Command::Split(_)
+        Command::Split(_)
             | Command::Sweep
             | Command::Collect
-            | Command::Checkpoint
             | Command::Attach(_)
-            | Command::Release(_)
             | Command::Detach
             | Command::Observe(_, _, _)
             | Command::Events

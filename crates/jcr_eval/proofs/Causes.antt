@@ -62,8 +62,8 @@ module _ (law : JcrLaw) (h : History) (s : ℕ) where
   said_by_cause _ _ (barred m unmoved) = inr (unmoved, refl)
   said_by_cause _ _ (stopped a k p at is) =
       of_any a (no_text (stopped_at p)) (inl (rw (at, is) refl))
-  said_by_cause _ _ (memory a idle none unmoved) =
-      of_any a (no_text out_of_memory) (inr (rw (unmoved, idle, none) refl))
+  said_by_cause _ _ (memory a idle none unmoved unpinned) =
+      of_any a (no_text out_of_memory) (inr (rw (unmoved, unpinned, idle, none) refl))
   said_by_cause _ _ (half_detached v idle moved none) =
       inr (inl (inr (inr (rw (idle, moved, none) refl))))
   said_by_cause _ _ (viewed m c is call unmoved) =
@@ -133,9 +133,10 @@ module _ (law : JcrLaw) (h : History) (s : ℕ) where
   any_says a text (inr is) =
       let t = some_tested (may_want_memory h s) (Some (no_text out_of_memory)) text is in
       let p = and_parts _ _ t.0 in
+      let still = and_parts _ _ p.0 in
       let q = and_parts _ _ p.1 in
       says_as a (no_text out_of_memory) text (same_Some _ _ t.1)
-      (memory a (not-true _ q.0) (not-true _ q.1) p.0)
+      (memory a (not-true _ q.0) (not-true _ q.1) still.0 still.1)
 
   committed_says : (m : Command) (text : List ℕ) → committed_reply law h s m ≡ Some text
       → MaySay law h s (Allowed m) text

@@ -2,7 +2,6 @@
 -- does.
 use Rattle.std.proofs.Common.{◌≡◌, ℕ, zero, suc, Bool, true, false, not, cond, ◌&&◌, ◌||◌, ◌⊎◌, inl, inr, List, [], ◌∷◌, refl, sym, ap, subst, ◌∙◌, arith}
 use Rattle.std.specs.Prelude.{Contains}
-use Rattle.std.specs.List.{list_any}
 use Rattle.std.proofs.lemmas.Bool.{true≢false}
 use Rattle.std.proofs.lemmas.List.Elements.{Contains-append_cases, Contains-append_right}
 use Rattle.oak_machine.specs.declared.event.Event.{Event}
@@ -115,15 +114,3 @@ contains_came s (x ∷ past) e h = by (is_beginning s x) refl h (contains_came s
       | inl one ↦ (past, (is, inl (refl, of_one x e one)))
       | inr more ↦ let q = rest more in (q.0, (is, inr q.1))
     ]
-
--- the events since that pass a test of the event alone
-pub came_any : (s : ℕ) (test : Event → Bool) (past : Past)
-    → came s (λ earlier e. test e) past ≡ list_any test (since past s)
-came_any s test [] = refl
-came_any s test (x ∷ past) = by (is_beginning s x) (came_any s test past)
-  where
-    by : (b : Bool) → came s (λ earlier e. test e) past ≡ list_any test (since past s)
-        → (not b && (test x || came s (λ earlier e. test e) past))
-        ≡ list_any test (cond b [] (x ∷ since past s))
-    by true rest = refl
-    by false rest = ap (λ (r : Bool). test x || r) rest

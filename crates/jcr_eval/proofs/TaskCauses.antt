@@ -29,7 +29,8 @@ use Rattle.jcr_law.specs.Queries.{events_reply, events_since}
 use Rattle.jcr_law.specs.Since.{before_turn, came, is_pinning}
 use Rattle.jcr_law.specs.State.{call_of, next_id}
 use Rattle.jcr_law.specs.Tasks.{finds_stopped, is_out, is_recovering, is_sweep, misses, split_refusal}
-use Rattle.jcr_eval.proofs.Passing.{and_parts, and_whole, came_any, came_contains, came_some, contains_came, false_of, or_left, or_parts, or_right, some_came}
+use Rattle.jcr_past.proofs.Coming.{came_any}
+use Rattle.jcr_eval.proofs.Passing.{and_parts, and_whole, came_contains, came_some, contains_came, false_of, or_left, or_parts, or_right, some_came}
 use Rattle.jcr_eval.proofs.Showing.{collection_is, collection_shown, in_is, in_shown, is_shown, keep_is, keep_passes, out_is, out_shown, recovery_is, recovery_shown, release_is, release_passes, shown_is, split_is, split_shown, sweep_is, sweep_shown}
 use Rattle.jcr_eval.proofs.Options.{some_passed}
 use Rattle.jcr_eval.specs.Said.{has_in, has_out, has_sweep, is_own, refuses_checkpoint, refuses_id, refuses_split, says_checkpoint, says_collect, says_events, says_in, says_observe, says_out, says_recover, says_release, says_split, says_stop, says_sweep, shows_checkpoint, shows_events}

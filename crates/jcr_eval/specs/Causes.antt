@@ -17,7 +17,7 @@ use Rattle.jcr_law.specs.declared.law.JcrLaw.{JcrLaw}
 use Rattle.jcr_law.specs.Built.{Asked, Allowed, Unsupported}
 use Rattle.jcr_law.specs.Commits.{committed_answer, edit_due}
 use Rattle.jcr_law.specs.Law.{IsUnmoved, no_support, no_text}
-use Rattle.jcr_law.specs.Since.{before_turn, draw_since, is_unmoved, stop_position}
+use Rattle.jcr_law.specs.Since.{before_turn, draw_since, is_unmoved, is_unpinned, stop_position}
 use Rattle.jcr_law.specs.State.{Call, call_of}
 use Rattle.jcr_law.specs.Tasks.{stopped_at}
 use Rattle.jcr_call.specs.Comings.{reply_to_due}
@@ -30,16 +30,21 @@ abbrev pub stopped_reply : History → ℕ → Option (List ℕ)
 stopped_reply h s = option_map (λ at. no_text (stopped_at at))
     (option_and_then (stop_position h.past) (slice_get h.sessions s))
 
--- the base of s hasn't moved, nothing of s is in flight, and nothing was committed for its command
+-- nothing of s is in flight, and nothing was committed for its command
+abbrev pub has_committed_nothing : History → ℕ → Bool
+has_committed_nothing h s = not (is_drawing h.past s)
+    && not (option_map_or (is_committed h.past) (drawn_since h.past s) false)
+
+-- neither the base of s nor its cursor has moved, and nothing was committed for its command
 abbrev pub may_want_memory : History → ℕ → Bool
-may_want_memory h s = is_unmoved h.past s && (not (is_drawing h.past s)
-    && not (option_map_or (is_committed h.past) (drawn_since h.past s) false))
+may_want_memory h s =
+    (is_unmoved h.past s && is_unpinned h.past s) && has_committed_nothing h s
 
 -- the reply where memory was wanted
 abbrev pub memory_reply : History → ℕ → Option (List ℕ)
 memory_reply h s = cond (may_want_memory h s) (Some (no_text out_of_memory)) None
 
--- the cluster node of s was stopped, or memory was wanted before the base moved
+-- the cluster node of s was stopped, or memory was wanted before the base or the cursor moved
 abbrev pub AnyCause : History → ℕ → List ℕ → Type 0
 AnyCause h s text = (stopped_reply h s ≡ Some text) ⊎ (memory_reply h s ≡ Some text)
 

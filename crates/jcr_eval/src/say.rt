@@ -7,7 +7,7 @@ ghost use Rattle.jcr_law.specs.Built.{Allowed, Unsupported};
 ghost use Rattle.jcr_law.specs.Law.{IsUnmoved, MaySay, SaysBy, asked_by, no_support, no_text};
 ghost use Rattle.jcr_law.specs.Since.{before_turn, stop_position};
 ghost use Rattle.jcr_law.specs.Tasks.{stopped_at};
-ghost use Rattle.jcr_eval.specs.Causes.{AllowedCause, AnyCause, MovedCause, OwnCause, StillCause, may_want_memory, memory_reply, stopped_reply, ViewCause};
+ghost use Rattle.jcr_eval.specs.Causes.{AllowedCause, AnyCause, MovedCause, OwnCause, StillCause, has_committed_nothing, may_want_memory, memory_reply, stopped_reply, ViewCause};
 
 use crate::commits::{committed_says, uncommitted_says};
 use crate::moves::{move_says, vector_says};
@@ -16,7 +16,7 @@ use crate::tasks::task_says;
 use crate::view::view_says;
 use jcr_call::is_allowed;
 use jcr_law::JcrLaw;
-use jcr_past::{before_turn, command_at, is_unmoved, stop_position};
+use jcr_past::{before_turn, command_at, is_unmoved, is_unpinned, stop_position};
 use jcr_trans::Command;
 use jcr_view::is_viewed;
 use jr_items::unsupported;
@@ -148,8 +148,8 @@ fn memory_reply(
     }
 }
 
-// Whether the base of a session hasn't moved, nothing of it is in flight, and nothing was committed
-// for its command.
+// Whether neither the base of a session nor its cursor has moved, and nothing was committed for its
+// command.
 fn may_want_memory(journal: &Journal, session: u32) -> bool
     ensures { result ≡ may_want_memory (history_of journal.now) session }
 {
@@ -157,6 +157,17 @@ fn may_want_memory(journal: &Journal, session: u32) -> bool
     if !is_unmoved(events, session) {
         return false;
     }
+    if !is_unpinned(events, session) {
+        return false;
+    }
+    has_committed_nothing(journal, session)
+}
+
+// Whether nothing of a session is in flight, and nothing was committed for its command.
+fn has_committed_nothing(journal: &Journal, session: u32) -> bool
+    ensures { result ≡ has_committed_nothing (history_of journal.now) session }
+{
+    let events = journal.events.as_slice();
     if is_drawing(events, session) {
         return false;
     }

@@ -3,6 +3,7 @@
 //! Saving; 17.5 Lock Token).
 #![tactic(auto)]
 
+mod checkpoints;
 mod committing;
 mod held;
 mod held_part;
@@ -12,6 +13,7 @@ mod looking;
 mod references;
 mod seeing;
 
+pub use checkpoints::NextCheckpoint;
 pub use committing::commits;
 pub use held::Held;
 pub use laws::replies_without_commit_keep_tokens;

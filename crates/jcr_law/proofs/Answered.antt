@@ -149,7 +149,7 @@ module _ (law : JcrLaw) (h : History) (s : ℕ) (m : Command) (d : Draw) (draw :
   answers : (a : Asked) (text : List ℕ) → a ≡ Allowed m → MaySay law h s a text → AfterDraw law h s m d text
   answers _ _ e (barred n unmoved) = absurd (false≢true (ap (λ (a : Asked). is_some (run_by a)) e))
   answers _ _ e (stopped a k p at is) = stop_told k p at is
-  answers _ _ e (memory a idle none unmoved) = unmade (ap (λ (o : Option Revision). option_map_or (is_committed h.past) o false) (sym drawn) ∙ none)
+  answers _ _ e (memory a idle none unmoved unpinned) = unmade (ap (λ (o : Option Revision). option_map_or (is_committed h.past) o false) (sym drawn) ∙ none)
   answers _ _ e (half_detached v idle moved none) = other command.Detach e refl
   answers _ _ e (viewed n x is call unmoved) = absurd (false≢true (sym (due_unviewed c n (Ok ws) (ap (edit_due c) (same_command n e) ∙ due)) ∙ is))
   answers _ _ e (head v is unmoved) = other command.Head e refl

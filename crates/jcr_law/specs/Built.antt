@@ -5,14 +5,10 @@ use Rattle.jcr_trans.specs.declared.command.Command.TheVariants as command
 
 -- the command is built; each other one is refused with 12
 abbrev pub is_built : Command → Bool
-is_built command.BackWrite = false
-is_built command.BackRead = false
 is_built (command.Split p) = false
 is_built command.Sweep = false
 is_built command.Collect = false
-is_built command.Checkpoint = false
 is_built (command.Attach id) = false
-is_built (command.Release id) = false
 is_built command.Detach = false
 is_built (command.Observe p deep mask) = false
 is_built command.Events = false

@@ -33,7 +33,7 @@ use Rattle.jcr_law.specs.Built.{Asked, Allowed, asked}
 use Rattle.jcr_law.specs.Commits.{committed_answer, edit_due}
 use Rattle.jcr_law.specs.Law.{MayStart, MaySay, IsNext, asked_by, barred, stopped, memory, half_detached, viewed, head, queried, refreshed, refused_edit, unwritten, committed, clashed, observing, unobserved, uncursored, observed, told, learned, swept, kept, uncounted, attached, released, unattached, unreleased, detached, split, unsplit, collected, stopping, unstopped, restopped, recovered, unrecovered}
 use Rattle.jcr_law.specs.Queries.{QueryAnswers, events_reply, events_since}
-use Rattle.jcr_law.specs.Since.{before_turn, came, detached_among, draw_since, is_pinning, is_unmoved, stop_position}
+use Rattle.jcr_law.specs.Since.{before_turn, came, detached_among, draw_since, is_pinning, is_unmoved, is_unpinned, stop_position}
 use Rattle.jcr_law.specs.declared.state.Cursor.{Cursor}
 use Rattle.jcr_law.specs.declared.state.State.{State}
 use Rattle.jcr_law.specs.State.{Call, call_at, call_of, command_at, state_of}
@@ -53,6 +53,7 @@ pub record HasAllOf (law : JcrLaw) (begin : Begin) (s : ℕ) (old new : Past) : 
   pub state : state_of law begin new s ≡ state_of law begin old s
   pub before : before_turn new s ≡ before_turn old s
   pub still : is_unmoved new s ≡ is_unmoved old s
+  pub unpinned : is_unpinned new s ≡ is_unpinned old s
   pub detached : detached_among (since new s) s ≡ detached_among (since old s) s
   pub edits : (v : RevVec) → base_of old s ≡ Some v → seen_edits new v ≡ seen_edits old v
   pub draw_edits : (d : Draw) → draw_since old s ≡ Some d → seen_edits new d.base ≡ seen_edits old d.base
@@ -160,8 +161,8 @@ module _ (law : JcrLaw) (clusters : ℕ) (sessions : List ℕ) (begin : Begin) (
   pub says_grow : (a : Asked) (text : List ℕ) → MaySay law at_old s a text → MaySay law at_new s a text
   says_grow _ _ (barred m unmoved) = barred m (grows.still ∙ unmoved)
   says_grow _ _ (stopped a k p at is) = stopped a k p at (grows.position k p is)
-  says_grow _ _ (memory a idle none unmoved) = memory a (grows.idle idle)
-      (ap (λ (o : Option Revision). option_map_or (is_committed new) o false) grows.drawn ∙ grows.uncommitted idle none) (grows.still ∙ unmoved)
+  says_grow _ _ (memory a idle none unmoved unpinned) = memory a (grows.idle idle)
+      (ap (λ (o : Option Revision). option_map_or (is_committed new) o false) grows.drawn ∙ grows.uncommitted idle none) (grows.still ∙ unmoved) (grows.unpinned ∙ unpinned)
   says_grow _ _ (half_detached v idle moved none) = half_detached v (grows.idle idle) (grows.refreshed ∙ moved) (grows.detached ∙ none)
   says_grow _ _ (viewed m c is call unmoved) = viewed m c is (call_same ∙ call) (grows.still ∙ unmoved)
   says_grow _ _ (head v is unmoved) = head v (grows.base ∙ is) (grows.still ∙ unmoved)

@@ -29,7 +29,7 @@ use Rattle.jcr_law.specs.Law.{MayStart, SaysBy}
 use Rattle.jcr_law.specs.Since.{draw_among, draw_since, is_beginning, is_pinning}
 use Rattle.jcr_law.specs.Tasks.{finds_stopped, is_out, is_recovering, is_sweep, misses}
 use Rattle.jcr_law.specs.Growing.{HasAllOf, said_at, seen_edits, starts_grow}
-use Rattle.jcr_law.specs.Passing.{before_stays, came_stays, contains_stays, detached_stays, draw_stays, position_stays, state_stays, stopped_stays, unmoved_stays}
+use Rattle.jcr_law.specs.Passing.{before_stays, came_stays, contains_stays, detached_stays, draw_stays, position_stays, state_stays, stopped_stays, unmoved_stays, unpinned_stays}
 
 module _ (law : JcrLaw) (starts : Starts) (says : Says) (clusters : ℕ) (sessions : List ℕ) (begin : Begin) (s : ℕ) (added past : Past)
     (later : IsRunOf starts says clusters sessions begin (added ++ past))
@@ -51,6 +51,7 @@ module _ (law : JcrLaw) (starts : Starts) (says : Says) (clusters : ℕ) (sessio
     state = state_stays law begin (added ++ past) added past s others;
     before = before_stays (added ++ past) added past s others;
     still = unmoved_stays (added ++ past) added past s others;
+    unpinned = unpinned_stays (added ++ past) added past s others;
     detached = detached_stays (added ++ past) added past s others;
     edits = base_edits;
     draw_edits = draw_edits;
@@ -89,6 +90,7 @@ module _ (law : JcrLaw) (begin : Begin) (s : ℕ) (past now : Past) (grows : Has
     state = grows.state;
     before = grows.before;
     still = grows.still;
+    unpinned = grows.unpinned;
     detached = grows.detached;
     edits = grows.edits;
     draw_edits = grows.draw_edits;
@@ -116,6 +118,7 @@ module _ (law : JcrLaw) (begin : Begin) (s : ℕ) (past now : Past) (grows : Has
     state = grows.state;
     before = grows.before;
     still = grows.still;
+    unpinned = grows.unpinned;
     detached = grows.detached;
     edits = grows.edits;
     draw_edits = grows.draw_edits;

@@ -36,7 +36,7 @@ use Rattle.jcr_law.specs.declared.law.JcrLaw.{JcrLaw}
 use Rattle.jcr_law.specs.Built.{Asked, Allowed, Unsupported, asked}
 use Rattle.jcr_law.specs.Commits.{committed_answer, edit_due, refusal_of_due, unwritten_answer}
 use Rattle.jcr_law.specs.Queries.{QueryAnswers, events_reply, events_since}
-use Rattle.jcr_law.specs.Since.{before_turn, came, detached_among, draw_since, is_pinning, is_unmoved, stop_position}
+use Rattle.jcr_law.specs.Since.{before_turn, came, detached_among, draw_since, is_pinning, is_unmoved, is_unpinned, stop_position}
 use Rattle.jcr_law.specs.State.{Call, call_of, command_at, next_id, state_of}
 use Rattle.jcr_law.specs.Tasks.{collected_data, finds_stopped, is_out, is_recovering, is_sweep, knows_published, misses, split_data, split_refusal, stopped_at}
 
@@ -52,6 +52,10 @@ asked_by h s m = asked (is_attached (before_turn h.past s) s) m
 -- the base of s hasn't moved since its next command began
 abbrev pub IsUnmoved : History → ℕ → Type 0
 IsUnmoved h s = IsTrue (is_unmoved h.past s)
+
+-- nor has its cursor
+abbrev pub IsUnpinned : History → ℕ → Type 0
+IsUnpinned h s = IsTrue (is_unpinned h.past s)
 
 -- the edit is due for the next command of s, which it may run; nothing was drawn for it yet, and
 -- the base hasn't moved; the edit has a write, and is a plan on the tree at the base for the tokens
@@ -84,10 +88,11 @@ pub data MaySay (law : JcrLaw) (h : History) (s : ℕ) : Asked → List ℕ → 
   -- the cluster node of s was stopped at that position of the journal
   stopped : (a : Asked) (k position : ℕ) → slice_get h.sessions s ≡ Some k
       → stop_position h.past k ≡ Some position → MaySay law h s a (no_text (stopped_at position))
-  -- want of memory, where nothing was committed for the command and nothing of s is in flight
+  -- want of memory, where nothing was committed for the command, nothing of s is in flight, and its
+  -- cursor hasn't moved
   memory : (a : Asked) → IsFalse (is_drawing h.past s)
       → IsFalse (option_map_or (is_committed h.past) (drawn_since h.past s) false)
-      → IsUnmoved h s → MaySay law h s a (no_text out_of_memory)
+      → IsUnmoved h s → IsUnpinned h s → MaySay law h s a (no_text out_of_memory)
   -- want of memory of a `detach`, behind the move of its base
   half_detached : (v : RevVec) → IsFalse (is_drawing h.past s)
       → refreshed_since h.past s ≡ Some v → detached_among (since h.past s) s ≡ None

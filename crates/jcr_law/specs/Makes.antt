@@ -9,6 +9,7 @@ use Rattle.oak_machine.specs.Laws.{Asks}
 use Rattle.jcr_trans.specs.declared.command.Command.{Command}
 use Rattle.jcr_trans.specs.declared.command.Command.TheVariants as command
 use Rattle.jcr_law.specs.declared.law.JcrLaw.{JcrLaw}
+use Rattle.jcr_law.specs.Built.{is_built}
 use Rattle.jcr_law.specs.State.{command_at}
 
 -- the command commits: what is pending, or an edit of locks or versions
@@ -62,12 +63,13 @@ Makes (command.Recover (Some k)) (event.Out m r) = m ≡ k
 Makes (command.Recover (Some k)) (event.Sweep m r) = m ≡ k
 Makes m e = IsTrue (cond (commits m) (is_of_commit e) false)
 
--- the command of that index of session s asks for such an event; a session logs in before its first
--- command, and leaves behind its last one
+-- the command of that index of session s, which is built, asks for such an event; a session logs in
+-- before its first command, and leaves behind its last one
 abbrev pub IsAskedAt : JcrLaw → ℕ → ℕ → Event → Type 0
 IsAskedAt law s i (event.Login t v) = i ≡ 0
 IsAskedAt law s i (event.Went t kind.End) = command_at law s i ≡ None
-IsAskedAt law s i e = (m : Command) × (command_at law s i ≡ Some m) × Makes m e
+IsAskedAt law s i e =
+    (m : Command) × (command_at law s i ≡ Some m) × IsTrue (is_built m) × Makes m e
 
 abbrev pub asks_of : JcrLaw → Asks
 asks_of law = λ s i e. IsAskedAt law s i e

@@ -11,6 +11,7 @@ use Rattle.jr_rev.specs.declared.vector.RevVec.{RevVec}
 use Rattle.oak_machine.specs.declared.event.Draw.{Draw}
 use Rattle.oak_machine.specs.declared.event.Event.{Event}
 use Rattle.oak_machine.specs.declared.event.Event.TheVariants as event
+use Rattle.oak_machine.specs.declared.event.StepKind.TheVariants as kind
 use Rattle.oak_machine.specs.History.{Begin, Past}
 use Rattle.oak_machine.specs.Laws.{Starts, Says, is_event_of}
 use Rattle.oak_machine.specs.Runs.{IsRunOf}
@@ -18,7 +19,7 @@ use Rattle.oak_machine.specs.Sessions.{is_stop_of, is_stopped, since}
 use Rattle.oak_machine.proofs.Induction.{neither, other}
 use Rattle.oak_machine.proofs.Stays.{any_later}
 use Rattle.jcr_law.specs.declared.law.JcrLaw.{JcrLaw}
-use Rattle.jcr_law.specs.Since.{before_turn, came, detached_among, draw_among, draw_since, is_beginning, is_move_of, is_unmoved, stop_position}
+use Rattle.jcr_law.specs.Since.{before_turn, came, detached_among, draw_among, draw_since, is_beginning, is_move_of, is_pinning, is_unmoved, is_unpinned, stop_position}
 use Rattle.jcr_law.specs.declared.state.State.{State}
 use Rattle.jcr_law.specs.State.{state_of}
 
@@ -67,6 +68,22 @@ pub unmoved_stays : (whole added past : Past) (s : ℕ) → list_any (is_event_o
 unmoved_stays whole added past s h =
     ap (λ (p : Past). not (list_any (is_move_of s) p)) (since_stays whole added past s h)
     ∙ ap not (no_move whole added (since past s) s h)
+
+-- another session's event moves no cursor of s
+not_pinning : (whole : Past) (s : ℕ) (e : Event) → is_event_of whole s e ≡ false → is_pinning s e ≡ false
+not_pinning whole s (event.Went t kind.Pin) h = h
+not_pinning whole s e h = refl
+
+no_pinning : (whole added past : Past) (s : ℕ) → list_any (is_event_of whole s) added ≡ false → list_any (is_pinning s) (added ++ past) ≡ list_any (is_pinning s) past
+no_pinning whole [] past s h = refl
+no_pinning whole (e ∷ added) past s h =
+    let n = neither (is_event_of whole s e) _ h in
+    ap (λ (b : Bool). b || list_any (is_pinning s) (added ++ past)) (not_pinning whole s e n.0) ∙ no_pinning whole added past s n.1
+
+pub unpinned_stays : (whole added past : Past) (s : ℕ) → list_any (is_event_of whole s) added ≡ false → is_unpinned (added ++ past) s ≡ is_unpinned past s
+unpinned_stays whole added past s h =
+    ap (λ (p : Past). not (list_any (is_pinning s) p)) (since_stays whole added past s h)
+    ∙ ap not (no_pinning whole added (since past s) s h)
 
 -- what came since comes still
 pub came_stays : (test : Past → Event → Bool) (whole added past : Past) (s : ℕ) → list_any (is_event_of whole s) added ≡ false → came s test past ≡ true → came s test (added ++ past) ≡ true

@@ -49,6 +49,10 @@ abbrev pub is_pinning : ℕ → Event → Bool
 is_pinning s (event.Went t kind.Pin) = t == s
 is_pinning s _ = false
 
+-- the cursor of s hasn't moved since its command began that it has not answered yet
+abbrev pub is_unpinned : Past → ℕ → Bool
+is_unpinned past s = not (list_any (is_pinning s) (since past s))
+
 -- s made a step on the settings that changed nothing
 abbrev pub is_setting : ℕ → Event → Bool
 is_setting s (event.Went t kind.Settings) = t == s

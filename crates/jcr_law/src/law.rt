@@ -34,4 +34,6 @@ impl Law for JcrLaw {
     ghost says_last_behind = { λ law. says_last_behind law };
 
     ghost proper = { λ law. proper_starts law };
+
+    ghost writes = { λ law h s edit marks may. may.some };
 }

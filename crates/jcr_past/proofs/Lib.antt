@@ -1,3 +1,4 @@
+pub mod Coming
 mod States
 pub mod Known
 pub mod NoFloat

@@ -16,6 +16,6 @@ pub use came::{
     has_out, has_pin, has_recovery, has_released, has_split, has_stop, has_sweep,
 };
 pub use shown::{is_done, is_refusal, is_text, is_vector};
-pub use since::{draw_since, is_unmoved, stop_position};
+pub use since::{draw_since, is_unmoved, is_unpinned, stop_position};
 pub use state::command_at;
 pub use turn::before_turn;

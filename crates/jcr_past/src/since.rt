@@ -1,9 +1,10 @@
-// What the events of a journal say of the draw of a command, of the move of a base, and of the stop
-// of a cluster node.
+// What the events of a journal say of the draw of a command, of the moves of a base and a cursor, and
+// of the stop of a cluster node.
 ghost use Rattle.std.specs.Prelude.{◌≡◌, reverse};
 ghost use Rattle.std.specs.Option.{option_copied};
-ghost use Rattle.jcr_law.specs.Since.{draw_since, is_unmoved, stop_position};
+ghost use Rattle.jcr_law.specs.Since.{draw_since, is_unmoved, is_unpinned, stop_position};
 
+use crate::came::has_pin;
 use oak_machine::{Draw, Event};
 
 /// The draw that a session made for the command that it has not answered yet (Oak, Commits).
@@ -52,6 +53,13 @@ pub fn is_unmoved(events: &[Event], session: u32) -> bool
         }
     }
     !moved
+}
+
+/// Whether the cursor of the session hasn't moved since its last reply (JSR 283, 12 Observation).
+pub fn is_unpinned(events: &[Event], session: u32) -> bool
+    ensures { result ≡ is_unpinned (reverse events.now) session }
+{
+    !has_pin(events, session)
 }
 
 /// The position in the journal, from 0 on, at which a cluster node was stopped.

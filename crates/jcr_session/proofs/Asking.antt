@@ -18,6 +18,7 @@ use Rattle.jcr_plan.specs.declared.plans.Plan.{Plan}
 use Rattle.jcr_trans.specs.declared.command.Command.{Command}
 use Rattle.jcr_trans.specs.declared.command.Command.TheVariants as command
 use Rattle.jcr_law.specs.declared.law.JcrLaw.{JcrLaw}
+use Rattle.jcr_law.specs.Built.{is_built}
 use Rattle.jcr_law.specs.Makes.{IsAskedAt, Makes, commits}
 use Rattle.jcr_law.specs.State.{command_at}
 use Rattle.jcr_session.specs.declared.next.Due.TheVariants as due
@@ -69,7 +70,7 @@ module _ (law : JcrLaw) (p : Shown) (run : SessionRun) (stands : Stands law p ru
           (k.0, next_is law p run stands ∙ (m.1 ∙ ap (λ (x : Command). Some x) k.1))
 
       by : (e : Event) → Appends task.Refresh e → IsAskedAt law p.session (next_index p.history.past p.session) e
-      by (event.Refresh t v) m = (command.Refresh at.0, at.1, tt)
+      by (event.Refresh t v) m = (command.Refresh at.0, at.1, refl, tt)
       by e m = absurd m
 
 -- the events of a commit, for a command that commits
@@ -84,10 +85,22 @@ commit_makes (command.Unlabel p label) e h is = is
 commit_makes (command.Restore p version) e h is = is
 commit_makes m e h is = absurd (false≢true h)
 
+-- which is built
+commit_built : (m : Command) → commits m ≡ true → is_built m ≡ true
+commit_built command.Save h = refl
+commit_built (command.Lock p deep) h = refl
+commit_built (command.Unlock p) h = refl
+commit_built (command.Checkin p) h = refl
+commit_built (command.Checkout p) h = refl
+commit_built (command.Label p version label take) h = refl
+commit_built (command.Unlabel p label) h = refl
+commit_built (command.Restore p version) h = refl
+commit_built m h = absurd (false≢true h)
+
 asked_commit : (law : JcrLaw) (s i : ℕ) (m : Command) → command_at law s i ≡ Some m → commits m ≡ true → (e : Event) → is_of_commit e ≡ true → IsAskedAt law s i e
 asked_commit law s i m at h (event.Login t v) is = absurd (false≢true is)
 asked_commit law s i m at h (event.Went t kind.End) is = absurd (false≢true is)
-asked_commit law s i m at h e is = (m, at, commit_makes m e h is)
+asked_commit law s i m at h e is = (m, at, commit_built m h, commit_makes m e h is)
 
 pub commit_asked : (law : JcrLaw) (p : Shown) (run : SessionRun) (plan : Plan) → MayDrawFor law p run plan → IsAskedOf (asks_of law) p.history p.session (task.Commit plan.edit plan.marks)
 commit_asked law p run plan may e appends =

@@ -101,6 +101,8 @@ commits_by phase.Between h = absurd (false≢true h)
 commits_by (phase.Refreshed v) h = absurd (false≢true h)
 commits_by (phase.Committing a) h = (a, refl)
 commits_by (phase.Committed e a) h = absurd (false≢true h)
+commits_by (phase.Working e) h = absurd (false≢true h)
+commits_by (phase.Told t) h = absurd (false≢true h)
 commits_by phase.Over h = absurd (false≢true h)
 
 module _ (law : JcrLaw) (p : Shown) (run : SessionRun) (a : Pledge) (stands : Stands law p run) (commits : run.phase ≡ phase.Committing a) where

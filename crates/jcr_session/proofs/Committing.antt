@@ -1,6 +1,7 @@
 -- What each step of a commit makes of what the history tells of it.
 use Rattle.std.proofs.Common.{◌≡◌, ◌⊎◌, inl, inr, ℕ, Bool, true, false, cond, not, ◌||◌, ◌&&◌, Some, [], ◌∷◌, ◌++◌, refl, sym, ap, ◌∙◌, subst, arith}
 use Rattle.std.specs.Prelude.{◌==◌}
+use Rattle.std.specs.List.{list_any}
 use Rattle.std.specs.Option.{option_map_or}
 use Rattle.std.specs.Ordering.{is_eq}
 use Rattle.std.specs.Cmp.{tied_itself}
@@ -16,12 +17,12 @@ use Rattle.oak_machine.specs.declared.event.StepKind.{StepKind}
 use Rattle.oak_machine.specs.declared.event.StepKind.TheVariants as kind
 use Rattle.oak_machine.specs.History.{Past}
 use Rattle.oak_machine.specs.Commits.{is_committed, is_ended, refusal_of}
-use Rattle.oak_machine.specs.Sessions.{base_of, is_drawing, is_drawing_among, drawn_since}
+use Rattle.oak_machine.specs.Sessions.{base_of, is_drawing, is_drawing_among, drawn_since, since}
 use Rattle.oak_port.specs.Ports.{Awaiting, Deciding, IsFinish, Undoing, Work, Writing, WritesOn}
 use Rattle.oak_commit.specs.declared.outcome.CommitEnd.{CommitEnd}
 use Rattle.oak_commit.specs.declared.outcome.CommitEnd.TheVariants as commit
 use Rattle.core_heads.proofs.Passing.{among_same}
-use Rattle.jcr_law.specs.Since.{draw_since, is_unmoved}
+use Rattle.jcr_law.specs.Since.{draw_since, is_pinning, is_unmoved, is_unpinned}
 use Rattle.jcr_session.specs.Standing.{HasDrawn, IsClash, IsCommitting, IsFresh, IsToldEnd, IsUnmade}
 use Rattle.jcr_session.proofs.Others.{among_more, last_stays}
 
@@ -33,12 +34,15 @@ own s = grind (arith, nat_tests)
 
 module _ (past : Past) (s : ℕ) (r : Revision) where
   -- events by which nothing is drawn, and the base stays
-  more : (e : Past) → (is_unmoved (e ++ past) s ≡ is_unmoved past s) → (draw_since (e ++ past) s ≡ draw_since past s) → (drawn_since (e ++ past) s ≡ drawn_since past s) → (base_of (e ++ past) s ≡ base_of past s)
+  more : (e : Past) → (is_unmoved (e ++ past) s ≡ is_unmoved past s) → (is_unpinned (e ++ past) s ≡ is_unpinned past s) →
+      (draw_since (e ++ past) s ≡ draw_since past s) → (drawn_since (e ++ past) s ≡ drawn_since past s) →
+      (base_of (e ++ past) s ≡ base_of past s)
       → (Rattle.oak_machine.specs.Laws.is_revision_of (e ++ past) s r ≡ Rattle.oak_machine.specs.Laws.is_revision_of past s r)
       → (is_drawing (event.End r ∷ past) s ≡ false → is_drawing (event.End r ∷ (e ++ past)) s ≡ false)
       → HasDrawn past s r → HasDrawn (e ++ past) s r
-  more e unmoved draw drawn base theirs last has = record {
+  more e unmoved unpinned draw drawn base theirs last has = record {
     unmoved = unmoved ∙ has.unmoved;
+    unpinned = unpinned ∙ has.unpinned;
     made = has.made;
     revision = has.revision;
     draw = draw ∙ has.draw;
@@ -49,19 +53,21 @@ module _ (past : Past) (s : ℕ) (r : Revision) where
   }
 
   -- a step that has no event of its own
-  drawn_went : (k : StepKind) → HasDrawn past s r → HasDrawn (event.Went s k ∷ past) s r
-  drawn_went k has = more (event.Went s k ∷ []) refl refl refl refl refl (last_stays r (event.Went s k ∷ []) past s refl) has
+  drawn_went : (k : StepKind) → is_pinning s (event.Went s k) ≡ false → HasDrawn past s r → HasDrawn (event.Went s k ∷ past) s r
+  drawn_went k still has = more (event.Went s k ∷ []) refl (ap (λ (b : Bool). not (b || list_any (is_pinning s) (since past s))) still)
+      refl refl refl refl (last_stays r (event.Went s k ∷ []) past s refl) has
 
   -- its commit point
   drawn_commit : HasDrawn past s r → HasDrawn (event.Commit r ∷ past) s r
-  drawn_commit has = more (event.Commit r ∷ []) refl refl refl refl refl (last_stays r (event.Commit r ∷ []) past s refl) has
+  drawn_commit has = more (event.Commit r ∷ []) refl refl refl refl refl refl (last_stays r (event.Commit r ∷ []) past s refl) has
 
   made : is_committed (event.Commit r ∷ past) r ≡ true
   made = ap (λ b. b || is_committed past r) (same_itself r)
 
   -- it is refused
   drawn_refuse : (item : Item) (o : Revision) → HasDrawn past s r → HasDrawn (event.Refuse r item o ∷ past) s r
-  drawn_refuse item o has = more (event.Refuse r item o ∷ []) refl refl refl refl refl (last_stays r (event.Refuse r item o ∷ []) past s refl) has
+  drawn_refuse item o has = more (event.Refuse r item o ∷ []) refl refl refl refl refl refl
+      (last_stays r (event.Refuse r item o ∷ []) past s refl) has
 
   refused : (item : Item) (o : Revision) → refusal_of (event.Refuse r item o ∷ past) r ≡ Some (item, o)
   refused item o = ap (λ b. cond b (Some (item, o)) (refusal_of past r)) (same_itself r)
@@ -79,9 +85,11 @@ module _ (past : Past) (s : ℕ) (r : Revision) where
   ended_end e (inr (k, v, same)) = subst (λ (p : Past). is_ended (p ++ past) r ≡ true) (sym same) ended
 
   drawn_end : (e : Past) → IsFinish r e → HasDrawn past s r → HasDrawn (e ++ past) s r
-  drawn_end e (inl same) has = subst (λ (p : Past). HasDrawn (p ++ past) s r) (sym same) (more (event.End r ∷ []) refl refl refl refl refl (last_stays r (event.End r ∷ []) past s refl) has)
+  drawn_end e (inl same) has = subst (λ (p : Past). HasDrawn (p ++ past) s r) (sym same)
+      (more (event.End r ∷ []) refl refl refl refl refl refl (last_stays r (event.End r ∷ []) past s refl) has)
   drawn_end e (inr (k, v, same)) has = subst (λ (p : Past). HasDrawn (p ++ past) s r) (sym same)
-      (more (event.Head k v ∷ event.End r ∷ []) refl refl refl refl refl (last_stays r (event.Head k v ∷ event.End r ∷ []) past s refl) has)
+      (more (event.Head k v ∷ event.End r ∷ []) refl refl refl refl refl refl
+      (last_stays r (event.Head k v ∷ event.End r ∷ []) past s refl) has)
 
   same_end : (e : Past) → IsFinish r e → is_committed (e ++ past) r ≡ is_committed past r
   same_end e (inl same) = subst (λ (p : Past). is_committed (p ++ past) r ≡ is_committed past r) (sym same) refl
@@ -110,10 +118,11 @@ module _ (past : Past) (s : ℕ) (r : Revision) where
       wrote w is work = subst (λ (w : Work). IsCommitting (e ++ past) s w) (sym work) (subst (λ (p : Past). IsCommitting (p ++ past) s w) (sym same) is)
 
       by : (now ≡ Writing r) ⊎ (now ≡ Undoing r commit.Memory) → IsCommitting (e ++ past) s now
-      by (inl work) = wrote (Writing r) (drawn_went kind.Write has, unmade) work
-      by (inr work) = wrote (Undoing r commit.Memory) (drawn_went kind.Write has, unmade, tt) work
+      by (inl work) = wrote (Writing r) (drawn_went kind.Write refl has, unmade) work
+      by (inr work) = wrote (Undoing r commit.Memory) (drawn_went kind.Write refl has, unmade, tt) work
   committing_write k e now (has, unmade) (inr (inl (a, same, work))) =
-      subst (λ (w : Work). IsCommitting (e ++ past) s w) (sym work) (subst (λ (p : Past). IsCommitting (p ++ past) s (Writing r)) (sym same) (drawn_went kind.Mark has, unmade))
+      subst (λ (w : Work). IsCommitting (e ++ past) s w) (sym work)
+      (subst (λ (p : Past). IsCommitting (p ++ past) s (Writing r)) (sym same) (drawn_went kind.Mark refl has, unmade))
   committing_write k e now (has, unmade) (inr (inr (inl (a, same, work)))) =
       subst (λ (w : Work). IsCommitting (e ++ past) s w) (sym work) (subst (λ (p : Past). IsCommitting (p ++ past) s (Deciding r)) (sym same) (drawn_commit has, made))
   committing_write k e now (has, unmade) (inr (inr (inr (item, o, same, work)))) =
@@ -121,7 +130,8 @@ module _ (past : Past) (s : ℕ) (r : Revision) where
 
   pub committing_undo : (f : CommitEnd) (e : Past) (now : Work) → IsCommitting past s (Undoing r f) → (e ≡ event.Went s kind.Undo ∷ []) → now ≡ Undoing r f → IsCommitting (e ++ past) s now
   committing_undo f e now (has, unmade, told) same work =
-      subst (λ (w : Work). IsCommitting (e ++ past) s w) (sym work) (subst (λ (p : Past). IsCommitting (p ++ past) s (Undoing r f)) (sym same) (drawn_went kind.Undo has, unmade, told_went f told))
+      subst (λ (w : Work). IsCommitting (e ++ past) s w) (sym work)
+      (subst (λ (p : Past). IsCommitting (p ++ past) s (Undoing r f)) (sym same) (drawn_went kind.Undo refl has, unmade, told_went f told))
     where
       told_went : (f : CommitEnd) → IsToldEnd past r f → IsToldEnd (event.Went s kind.Undo ∷ past) r f
       told_went (commit.Clash item o) h = h
@@ -136,6 +146,7 @@ module _ (past : Past) (s : ℕ) (r : Revision) where
   pub unmade_end : (e : Past) → IsFinish r e → HasDrawn past s r → is_committed past r ≡ false → IsUnmade (e ++ past) s r
   unmade_end e finish has unmade = record {
     unmoved = (drawn_end e finish has).unmoved;
+    unpinned = (drawn_end e finish has).unpinned;
     drawn = (drawn_end e finish has).drawn;
     unmade = same_end e finish ∙ unmade;
     idle = still_end e finish has;
@@ -146,10 +157,12 @@ module _ (past : Past) (s : ℕ) (r : Revision) where
 
   -- ---- its draw
 
-  pub committing_drawn : (d : Draw) → d.session ≡ s → d.revision ≡ r → IsFresh past s → is_unmoved past s ≡ true → base_of past s ≡ Some d.base → is_committed past r ≡ false → IsCommitting (event.Draw d ∷ past) s (Writing r)
-  committing_drawn d session revision fresh unmoved base unmade = (
+  pub committing_drawn : (d : Draw) → d.session ≡ s → d.revision ≡ r → IsFresh past s → is_unmoved past s ≡ true → is_unpinned past s ≡
+      true → base_of past s ≡ Some d.base → is_committed past r ≡ false → IsCommitting (event.Draw d ∷ past) s (Writing r)
+  committing_drawn d session revision fresh unmoved unpinned base unmade = (
     record {
       unmoved = unmoved;
+      unpinned = unpinned;
       made = d;
       revision = revision;
       draw = ap (λ b. cond b (Some d) (draw_since past s)) mine;

@@ -31,7 +31,7 @@ use Rattle.jcr_trans.specs.declared.command.Command.{Command}
 use Rattle.jcr_law.specs.declared.law.JcrLaw.{JcrLaw}
 use Rattle.jcr_law.specs.Lasting.{says_of, starts_of}
 use Rattle.jcr_law.specs.Law.{MayStart}
-use Rattle.jcr_law.specs.Since.{before_turn, draw_since, is_unmoved}
+use Rattle.jcr_law.specs.Since.{before_turn, draw_since, is_unmoved, is_unpinned}
 use Rattle.jcr_law.specs.Makes.{commits as does_commit}
 use Rattle.jcr_law.specs.Starting.{call_has_base}
 use Rattle.jcr_law.specs.State.{Call, call_of, command_at}
@@ -53,7 +53,7 @@ use Rattle.jcr_session.proofs.Stages.{commit_order, next_later}
 use Rattle.jcr_session.proofs.Starting.{some_is}
 use Rattle.jcr_session.proofs.Saying.{asked_like, asked_waits, drawn_waits, get_within}
 use Rattle.jcr_session.proofs.Turning.{is_awaiting, not_ended, plain_step, started, turned_later}
-use Rattle.jcr_session.proofs.Waiting.{by_waits, called_beside, in_beside, next_beside, unmoved_beside}
+use Rattle.jcr_session.proofs.Waiting.{by_waits, called_beside, in_beside, next_beside, unmoved_beside, unpinned_beside}
 
 -- a command for which a commit is due may be run
 pub commit_allowed : (run : SessionRun) (m : Command) → slice_get run.commands run.index ≡ Some m → due_for run ≡ due.Commit → is_allowed m ≡ true
@@ -84,6 +84,7 @@ module _ (law : JcrLaw) (p : Shown) (run : SessionRun) (stands : Stands law p ru
     call = c;
     asked = asked_planned;
     unmoved = here.unmoved;
+    unpinned = here.unpinned;
     drew_is = ap is_some here.fresh.first;
     uncommitted = ap (λ (o : Option Revision). option_map_or (is_committed p.history.past) o false) here.fresh.first;
     holds = here.holds;
@@ -99,6 +100,7 @@ module _ (law : JcrLaw) (p : Shown) (run : SessionRun) (stands : Stands law p ru
         asked = asked_waits law m.0 c p mid planned_run asked_planned beside idle;
         first = drawn_waits law m.0 c p mid planned_run asked_planned beside ∙ here.fresh.first;
         unmoved = unmoved_beside law p mid beside asked_planned.inside.nodes here.unmoved;
+        unpinned = unpinned_beside law p mid beside asked_planned.inside.nodes here.unpinned;
         commits = commits;
         holds = here.holds;
         settled = (ready.ready m.0 m.1).settled;
@@ -145,6 +147,7 @@ module _ (law : JcrLaw) (mid : Shown) (run : SessionRun) (plan : Plan) (may : Ma
     call = may.call;
     asked = may.asked;
     unmoved = may.unmoved;
+    unpinned = may.unpinned;
     drew_is = ap is_some may.first;
     uncommitted = ap (λ (o : Option Revision). option_map_or (is_committed mid.history.past) o false) may.first;
     holds = may.holds;
@@ -196,6 +199,10 @@ module _ (law : JcrLaw) (mid : Shown) (run : SessionRun) (plan : Plan) (may : Ma
 
     unmoved_behind : is_unmoved behind s ≡ true
     unmoved_behind = unmoved_beside law begun waiting waited in_begun.nodes (unmoved_beside law mid begun first_beside may.asked.inside.nodes may.unmoved)
+
+    unpinned_behind : is_unpinned behind s ≡ true
+    unpinned_behind = unpinned_beside law begun waiting waited in_begun.nodes
+        (unpinned_beside law mid begun first_beside may.asked.inside.nodes may.unpinned)
 
     called_behind : call_of law begun.history.begin behind s ≡ Some may.call
     called_behind = called_beside law begun waiting waited in_begun.nodes may.call (called_beside law mid begun first_beside may.asked.inside.nodes may.call may.asked.call)
@@ -278,7 +285,8 @@ module _ (law : JcrLaw) (mid : Shown) (run : SessionRun) (plan : Plan) (may : Ma
           };
           commits = subst (λ (w : Work). IsCommitting new.history.past new.session w) (sym made.4)
               (moved (λ h n. IsCommitting h.past n (Writing made.0.revision))
-              (committing_drawn behind s made.0.revision made.0 made.1.session refl fresh_behind unmoved_behind (subst (λ (n : ℕ). base_of behind n ≡ Some made.0.base) made.1.session run_drawn.0.base) unmade));
+              (committing_drawn behind s made.0.revision made.0 made.1.session refl fresh_behind unmoved_behind unpinned_behind
+              (subst (λ (n : ℕ). base_of behind n ≡ Some made.0.base) made.1.session run_drawn.0.base) unmade));
         },
       );
     }

@@ -86,6 +86,7 @@ unmade_forgoes law p run m c r asked is holds = record {
   call = c;
   asked = asked;
   unmoved = is.unmoved;
+  unpinned = is.unpinned;
   drew_is = ap is_some is.drawn;
   uncommitted = ap (λ (o : Option Revision). option_map_or (is_committed p.history.past) o false) is.drawn ∙ is.unmade;
   holds = holds;
@@ -149,6 +150,10 @@ moved_tokens c v t (command.Restore p version) h = refl
 moved_tokens c v t command.Head h = apart due.ShowBase due.Commit refl h
 moved_tokens c v t (command.Refresh keep) h = apart due.Refresh due.Commit refl h
 moved_tokens c v t (command.Query text vars) h = apart due.Query due.Commit refl h
+moved_tokens c v t command.BackWrite h = apart due.Errand due.Commit refl h
+moved_tokens c v t command.BackRead h = apart due.Errand due.Commit refl h
+moved_tokens c v t command.Checkpoint h = apart due.Errand due.Commit refl h
+moved_tokens c v t (command.Release id) h = apart due.Errand due.Commit refl h
 moved_tokens c v t m h = apart due.See due.Commit refl h
 
 -- and it is no refusal

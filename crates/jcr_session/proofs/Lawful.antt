@@ -27,7 +27,8 @@ use Rattle.jcr_read.specs.Reading.{refused}
 use Rattle.jcr_law.specs.declared.law.JcrLaw.{JcrLaw}
 use Rattle.jcr_law.specs.Built.{Allowed, Asked, Unsupported, asked}
 use Rattle.jcr_law.specs.Commits.{edit_due, refusal_of_due, refusal_of_plan, unwritten_answer}
-use Rattle.jcr_law.specs.Law.{IsUnmoved, MaySay, SaysBy, asked_by, barred, head, memory, no_support, no_text, queried, refreshed, refused_edit, unwritten, viewed}
+use Rattle.jcr_law.specs.Law.{IsUnmoved, IsUnpinned, MaySay, SaysBy, asked_by, barred, head, memory, no_support, no_text, queried}
+use Rattle.jcr_law.specs.Law.{refreshed, refused_edit, unwritten, viewed}
 use Rattle.jcr_law.specs.Since.{before_turn}
 use Rattle.jr_types.specs.Rules.{TypesOk}
 use Rattle.jcr_law.specs.Starting.{call_based, call_has_base}
@@ -76,8 +77,9 @@ module _ (law : JcrLaw) (p : Shown) (run : SessionRun) (m : Command) (c : Call) 
   says_barred : is_allowed m ≡ false → IsUnmoved p.history p.session → SaysBy law p.history p.session run.index (no_support m)
   says_barred allowed unmoved = (m, command_is, subst (λ (a : Asked). MaySay law p.history p.session a (no_support m)) (sym (asked_unsupported p.history p.session m is.inside.unattached allowed)) (barred m unmoved))
 
-  says_memory : option_map_or (is_committed p.history.past) (Rattle.oak_machine.specs.Sessions.drawn_since p.history.past p.session) false ≡ false → IsUnmoved p.history p.session → SaysBy law p.history p.session run.index memory_text
-  says_memory none unmoved = (m, command_is, memory (asked_by p.history p.session m) is.still none unmoved)
+  says_memory : option_map_or (is_committed p.history.past) (Rattle.oak_machine.specs.Sessions.drawn_since p.history.past p.session) false
+      ≡ false → IsUnmoved p.history p.session → IsUnpinned p.history p.session → SaysBy law p.history p.session run.index memory_text
+  says_memory none unmoved unpinned = (m, command_is, memory (asked_by p.history p.session m) is.still none unmoved unpinned)
 
 -- ---- once what is held is brought up to the reply
 
@@ -101,7 +103,8 @@ module _ (law : JcrLaw) (p : Shown) (run now : SessionRun) where
     command = may.command;
     call = may.call;
     asked = settled_asked false drew None settles may.command may.call may.asked;
-    says = settled_says false drew None settles memory_text (says_memory law p run may.command may.call may.asked may.uncommitted may.unmoved);
+    says = settled_says false drew None settles memory_text
+        (says_memory law p run may.command may.call may.asked may.uncommitted may.unmoved may.unpinned);
     leaves = settled_leaves false drew None settles may.command may.call memory_text may.asked.next may.holds (λ ok. absurd (false≢true ok)) (answer_accepts (Refused 16 [])) may.drew_is;
   }
 
@@ -158,6 +161,7 @@ module _ (law : JcrLaw) (p : Shown) (run : SessionRun) (stands : Stands law p ru
       call = at_between.1.call;
       asked = between_asked;
       unmoved = at_between.1.unmoved;
+      unpinned = at_between.1.unpinned;
       drew_is = ap is_some at_between.1.fresh.first;
       uncommitted = ap (λ (o : Option Revision). option_map_or (is_committed p.history.past) o false) at_between.1.fresh.first;
       holds = at_between.1.holds;
@@ -274,6 +278,7 @@ module _ (law : JcrLaw) (p : Shown) (run : SessionRun) (stands : Stands law p ru
       call = at_between.1.call;
       asked = asked_like law m at_between.1.call p run now (ap (λ (r : SessionRun). r.session) same) (ap (λ (r : SessionRun). r.commands) same) (ap (λ (r : SessionRun). r.index) same) (ap (λ (r : SessionRun). r.fetch) same) between_asked;
       unmoved = at_between.1.unmoved;
+      unpinned = at_between.1.unpinned;
       drew_is = ap is_some at_between.1.fresh.first;
       uncommitted = ap (λ (o : Option Revision). option_map_or (is_committed p.history.past) o false) at_between.1.fresh.first;
       holds = holds;

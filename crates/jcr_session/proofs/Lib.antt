@@ -1,9 +1,11 @@
 pub mod Asking
+pub mod Begun
 pub mod Calling
 pub mod Coming
 pub mod Committing
 pub mod Drawing
 pub mod Ending
+pub mod Errands
 pub mod Lawful
 pub mod Lengths
 pub mod Living
@@ -14,7 +16,9 @@ pub mod Nearer
 pub mod Nearing
 pub mod Nexts
 pub mod Others
+pub mod Plain
 pub mod Reading
+pub mod Rising
 pub mod Saying
 pub mod Showing
 pub mod Stages
@@ -24,3 +28,4 @@ pub mod Stepping
 pub mod Turning
 pub mod Undrawn
 pub mod Waiting
+pub mod Works

@@ -23,7 +23,7 @@ use Rattle.oak_port.specs.declared.task.TaskEnd.TheVariants as end
 use Rattle.core_heads.proofs.Passing.{among_same, idle_stays, next_stays}
 use Rattle.jcr_law.specs.declared.law.JcrLaw.{JcrLaw}
 use Rattle.jcr_law.specs.Lasting.{says_of, starts_of}
-use Rattle.jcr_law.specs.Since.{before_turn, is_move_of, is_unmoved}
+use Rattle.jcr_law.specs.Since.{before_turn, is_move_of, is_pinning, is_unmoved, is_unpinned}
 use Rattle.jcr_law.specs.State.{Call, call_at, call_of}
 use Rattle.jcr_held.specs.Begins.{IsFirstCall, IsNewHeld}
 use Rattle.jcr_held.specs.Holds.{Holds}
@@ -160,6 +160,10 @@ module _ (law : JcrLaw) (old mid new : Shown) (run : SessionRun) (stands : Stand
   unmoved_now : is_unmoved logged.past s ≡ true
   unmoved_now = ap (λ b. not (list_any (is_move_of s) (cond b [] (event.Login s pin.base ∷ Rattle.oak_machine.specs.Sessions.since q s)))) (own s)
 
+  unpinned_now : is_unpinned logged.past s ≡ true
+  unpinned_now = ap (λ b. not (list_any (is_pinning s) (cond b [] (event.Login s pin.base ∷ Rattle.oak_machine.specs.Sessions.since q s))))
+      (own s)
+
   -- what its first command is run with
   abbrev first : Call
   first = call_at law mid.history.begin q s pin.base (state_at_login mid.history.begin (tree_at mid.history.begin q pin.base))
@@ -196,6 +200,7 @@ module _ (law : JcrLaw) (old mid new : Shown) (run : SessionRun) (stands : Stand
       is = called_now;
       holds = holds first is_out.holds.nothing first_call;
       unmoved = moved (λ h n. is_unmoved h.past n ≡ true) unmoved_now;
+      unpinned = moved (λ h n. is_unpinned h.past n ≡ true) unpinned_now;
       fresh = moved (λ h n. IsFresh h.past n) fresh_now;
       reads = subst (λ (o : Option Need). IsReading new.work o) (sym is_out.unread) made.1;
       due = λ some. absurd (false≢true (sym (ap is_some is_out.unread) ∙ some));

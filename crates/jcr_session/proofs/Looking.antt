@@ -25,6 +25,7 @@ use Rattle.jcr_session.proofs.Reading.{beside_both, nobody}
 use Rattle.jcr_session.proofs.Saying.{turned_like}
 use Rattle.jcr_session.proofs.Turning.{Link, free, has_turned_later, is_awaiting, never_ends}
 use Rattle.jcr_session.proofs.Waiting.{called_beside, fresh_beside, in_beside, next_beside, nodes_beside, shown_beside, unmoved_beside}
+use Rattle.jcr_session.proofs.Waiting.{unpinned_beside}
 
 -- ---- a session before a command for which it reads
 
@@ -52,6 +53,7 @@ module _ (law : JcrLaw) (old new : Shown) (run : SessionRun) (stands : Stands la
           is = called_beside law old new beside stands.nodes here.1.call here.1.is;
           holds = holds here.1.call here.1.holds here.1.is;
           unmoved = unmoved_beside law old new beside stands.nodes here.1.unmoved;
+          unpinned = unpinned_beside law old new beside stands.nodes here.1.unpinned;
           fresh = fresh_beside law old new beside stands.nodes here.1.fresh;
           reads = work;
           due = λ some. reads_due now (same_reads run now same.phase same.commands same.index ∙ reads);

@@ -3,7 +3,7 @@ use Rattle.std.proofs.Common.{◌≡◌, inl, inr, ℕ, true, false, Some, refl,
 use mathlib.Core.Bool.{false≢true}
 use Rattle.oak_machine.specs.History.{Past}
 use Rattle.oak_machine.specs.Sessions.{has_left, has_login}
-use Rattle.oak_port.specs.Ports.{Awaiting, Deciding, Idle, Learning, Publishing, Shown, Starting, Undoing, Work, Writing}
+use Rattle.oak_port.specs.Ports.{Awaiting, Deciding, Detaching, Idle, Learning, Publishing, Shown, Starting, Undoing, Work, Writing}
 use Rattle.oak_commit.specs.declared.outcome.CommitEnd.{CommitEnd}
 use Rattle.oak_commit.specs.declared.outcome.CommitEnd.TheVariants as commit
 use Rattle.jcr_trans.specs.declared.command.Command.{Command}
@@ -28,6 +28,7 @@ still_there past s Idle h = absurd h
 still_there past s (Starting t) h = absurd h
 still_there past s (Publishing r) h = absurd h
 still_there past s (Learning u) h = absurd h
+still_there past s (Detaching v) h = absurd h
 
 module _ (law : JcrLaw) (p : Shown) (run : SessionRun) (stands : Stands law p run) (login : has_login p.history.past p.session ≡ true) (stays : has_left p.history.past p.session ≡ false) (moved : is_unmoved p.history.past p.session ≡ false) where
   never : {A : Type 0} → is_unmoved p.history.past p.session ≡ true → A
@@ -47,6 +48,8 @@ module _ (law : JcrLaw) (p : Shown) (run : SessionRun) (stands : Stands law p ru
       inl (k.0, next_is law p run stands ∙ (m.1 ∙ ap (λ (x : Command). Some x) k.1))
   by_phase (phase.Committing a) h = never (still_there p.history.past p.session p.work h.1.commits)
   by_phase (phase.Committed e a) h = by_commit h.1.call e h.1.ended
+  by_phase (phase.Working e) h = never h.1.for.unmoved
+  by_phase (phase.Told t) h = never h.1.for.unmoved
   by_phase phase.Over h = absurd (false≢true (sym stays ∙ h.left))
 
   pub base_moves : MovesBase law p.history p.session

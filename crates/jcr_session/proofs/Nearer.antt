@@ -1,5 +1,6 @@
 -- Turns bring a session nearer to its end.
-use Rattle.std.proofs.Common.{◌≡◌, ◌⊎◌, inl, inr, ℕ, ◌<◌, ◌≤◌, ◌-◌, ◌+◌, ◌*◌, true, is_some, List, ◌∷◌, ◌++◌, length, refl, sym, ap, ◌∙◌, subst, arith}
+use Rattle.std.proofs.Common.{◌≡◌, ◌⊎◌, inl, inr, ℕ, ◌<◌, ◌≤◌, ◌-◌, ◌+◌, ◌*◌, Bool, true, false, ◌||◌, is_some, List, ◌∷◌, ◌++◌, length}
+use Rattle.std.proofs.Common.{refl, sym, ap, ◌∙◌, subst, arith}
 use mathlib.Core.Bool.{false≢true}
 use Rattle.oak_machine.specs.declared.event.Event.TheVariants as event
 use Rattle.oak_machine.specs.declared.event.StepKind.{StepKind}
@@ -20,9 +21,15 @@ use Rattle.jcr_session.specs.declared.run.Phase.TheVariants as phase
 use Rattle.jcr_session.specs.declared.run.SessionRun.{SessionRun}
 use Rattle.jcr_session.specs.declared.turn.Turn.{Turn}
 use Rattle.jcr_session.specs.declared.turn.Turn.TheVariants as turn
-use Rattle.jcr_session.specs.Answered.{phase_by, turn_by}
-use Rattle.jcr_session.specs.Nearing.{ComesNearer, CommitsSooner, EndsSooner, IsReply, ReadsOn, StaysBehindStep, StepsOn, turns_left, stages_left}
-use Rattle.jcr_session.specs.Standing.{HasCounted, HasTurned, IsSame, Stands, is_committing}
+use Rattle.jcr_session.specs.declared.errand.Came.{Came}
+use Rattle.jcr_session.specs.declared.errand.Came.TheVariants as came
+use Rattle.jcr_session.specs.declared.errand.Errand.{Errand}
+use Rattle.jcr_session.specs.declared.errand.Told.{Told}
+use Rattle.jcr_session.specs.declared.errand.Told.TheVariants as told
+use Rattle.jcr_session.specs.Answered.{IsErrandAnswer, phase_by, phase_came, told_by, turn_by, turn_came}
+use Rattle.jcr_session.specs.Nearing.{ComesNearer, EndsOrStays, EndsSooner, IsReply, ReadsOn, StaysBehindStep, StepsOn, WorksSooner}
+use Rattle.jcr_session.specs.Nearing.{turns_left, stages_left}
+use Rattle.jcr_session.specs.Standing.{HasCounted, HasTurned, IsSame, Stands, is_committing, is_on_errand, is_working}
 use Rattle.jcr_session.proofs.Nearing.{memory_sooner, sooner_by}
 
 -- ---- what is left
@@ -40,6 +47,8 @@ few_stages phase.Outside = let lt : 4 < 5 = omega arith in lt
 few_stages phase.Between = let lt : 3 < 5 = omega arith in lt
 few_stages (phase.Committing a) = let lt : 2 < 5 = omega arith in lt
 few_stages (phase.Committed e a) = let lt : 1 < 5 = omega arith in lt
+few_stages (phase.Working e) = let lt : 2 < 5 = omega arith in lt
+few_stages (phase.Told t) = let lt : 1 < 5 = omega arith in lt
 few_stages (phase.Refreshed v) = let lt : 1 < 5 = omega arith in lt
 few_stages phase.Over = let lt : 0 < 5 = omega arith in lt
 
@@ -81,6 +90,8 @@ committing_less phase.Outside h = absurd (false≢true h)
 committing_less phase.Between h = absurd (false≢true h)
 committing_less (phase.Refreshed x) h = absurd (false≢true h)
 committing_less (phase.Committed e a) h = absurd (false≢true h)
+committing_less (phase.Working e) h = absurd (false≢true h)
+committing_less (phase.Told t) h = absurd (false≢true h)
 committing_less phase.Over h = absurd (false≢true h)
 
 pub pledged_steps : (run mid now : SessionRun) (t : Turn) → run.phase ≡ phase.Between → mid.commands ≡ run.commands → mid.index ≡ run.index → is_committing mid.phase ≡ true → StaysBehindStep mid now t → StepsOn ⊥ (turns_left run) (turns_left now) t
@@ -96,6 +107,81 @@ pub reply_stays : (old new : SessionRun) (t : Turn) → IsReply t → StaysBehin
 reply_stays old new (turn.Said i) h = tt
 reply_stays old new turn.Memory h = tt
 reply_stays old new t h = absurd h
+
+-- ---- a step of a task of the cluster node or of the settings
+
+module _ (run : SessionRun) (e : Errand) where
+  abbrev working : SessionRun
+  working = record run { phase = phase.Working e }
+
+  told_less : (t : Told) → turns_left (record run { phase = phase.Told t }) < turns_left working
+  told_less t = nearer_by (length run.commands - run.index) (length run.commands - run.index) 1 2 refl (let lt : 1 < 2 = omega arith in lt)
+
+  -- it goes on in its phase, or ends
+  pub errand_nears : (sooner : Type 0) (x : Came) → sooner → EndsOrStays sooner working (record run { phase = phase_came x e })
+      (turn_came x)
+  errand_nears sooner (came.Going k) soon = inr (refl, soon)
+  errand_nears sooner (came.Published r) soon = inl (told_less (told.Published r))
+  errand_nears sooner (came.Learnt v) soon = inl (told_less (told.Learnt v))
+  errand_nears sooner came.Set soon = inl (told_less (told_by came.Set e))
+  errand_nears sooner came.Missed soon = inl (told_less (told_by came.Missed e))
+  errand_nears sooner came.Refused soon = inl (told_less (told_by came.Refused e))
+
+  pub nears_by : (sooner : Type 0) (x : Came) (now : SessionRun) (t : Turn) → now ≡ record run { phase = phase_came x e } → t ≡ turn_came x
+      → sooner → EndsOrStays sooner working now t
+  nears_by sooner x now t is turns soon =
+      subst (λ (y : Turn). EndsOrStays sooner working now y) (sym turns)
+      (subst (λ (y : SessionRun). EndsOrStays sooner working y (turn_came x)) (sym is) (errand_nears sooner x soon))
+
+  -- behind its begin
+  pub begun_steps : (sooner : Type 0) (now : SessionRun) (t : Turn) → run.phase ≡ phase.Between → EndsOrStays sooner working now t →
+      StepsOn ⊥ (turns_left run) (turns_left now) t
+  begun_steps sooner now (turn.Stepped k) between (inl less) = inl
+      (less_both (turns_left now) (turns_left working) (turns_left run) less begun_less)
+    where
+      less_both : (a b c : ℕ) → a < b → b < c → a < c
+      less_both a b c h k = omega arith
+
+      begun_less : turns_left working < turns_left run
+      begun_less = subst (λ (f : Phase). turns_left working < 5 * (length run.commands - run.index) + stages_left f) (sym between)
+          (nearer_by (length run.commands - run.index) (length run.commands - run.index) 2 3 refl (let lt : 2 < 3 = omega arith in lt))
+  begun_steps sooner now (turn.Stepped k) between (inr same) = inl
+      (subst (λ (x : SessionRun). turns_left x < turns_left run) (sym same.0)
+      (subst (λ (f : Phase). turns_left working < 5 * (length run.commands - run.index) + stages_left f) (sym between)
+      (nearer_by (length run.commands - run.index) (length run.commands - run.index) 2 3 refl (let lt : 2 < 3 = omega arith in lt))))
+  begun_steps sooner now (turn.Said i) between h = tt
+  begun_steps sooner now (turn.Waiting q) between h = tt
+  begun_steps sooner now turn.Read between h = tt
+  begun_steps sooner now turn.Ended between h = tt
+  begun_steps sooner now turn.Memory between h = tt
+
+-- a reply ends it
+pub reply_ends : (sooner : Type 0) (old new : SessionRun) (t : Turn) → IsReply t → EndsOrStays sooner old new t
+reply_ends sooner old new (turn.Said i) h = tt
+reply_ends sooner old new turn.Memory h = tt
+reply_ends sooner old new t h = absurd h
+
+-- a task under way
+pub worked_steps : (before later : ℕ) (p : Shown) (run now : SessionRun) (t : Turn) → is_on_errand run.phase ≡ true → EndsOrStays
+    (EndsSooner before later p) run now t → StepsOn (WorksSooner before later p run) (turns_left run) (turns_left now) t
+worked_steps before later p run now (turn.Stepped k) works (inl less) = inl less
+worked_steps before later p run now (turn.Stepped k) works (inr same) = inr
+    (ap turns_left same.0, (both (is_committing run.phase) works, same.1))
+  where
+    both : (a : Bool) {b : Bool} → b ≡ true → (a || b) ≡ true
+    both true h = refl
+    both false h = h
+worked_steps before later p run now (turn.Said i) works h = tt
+worked_steps before later p run now (turn.Waiting q) works h = tt
+worked_steps before later p run now turn.Read works h = tt
+worked_steps before later p run now turn.Ended works h = tt
+worked_steps before later p run now turn.Memory works h = tt
+
+-- a step of a task doesn't wait
+pub unwaiting : (answer : StepOut) (A : Type 0) → IsErrandAnswer answer → IsWait answer ⊎ A → A
+unwaiting answer A is (inr soon) = soon
+unwaiting (out.Wait q) A is (inl wait) = absurd is
+unwaiting x A is (inl wait) = absurd wait
 
 -- ---- a step of a commit
 
@@ -120,28 +206,36 @@ module _ (old new : Shown) (run now : SessionRun) (a : Pledge) (commits : run.ph
   same_run = ap (λ (f : Phase). record run { phase = f }) (sym commits)
 
   -- told of what the turn tells
-  told : (sooner : Type 0) (answer : StepOut) (t : Turn) → now ≡ record run { phase = phase_by answer run.phase } → t ≡ turn_by answer → IsWait answer ⊎ sooner → StepsOn sooner (turns_left run) (turns_left now) t
-  told sooner answer t is turns soon =
+  told_so : (sooner : Type 0) (answer : StepOut) (t : Turn) → now ≡ record run { phase = phase_by answer run.phase } → t ≡ turn_by answer →
+      IsWait answer ⊎ sooner → StepsOn sooner (turns_left run) (turns_left now) t
+  told_so sooner answer t is turns soon =
       subst (λ (x : Turn). StepsOn sooner (turns_left run) (turns_left now) x) (sym turns)
       (subst (λ (x : SessionRun). StepsOn sooner (turns_left run) (turns_left x) (turn_by answer)) (sym (is ∙ ap (λ (f : Phase). record run { phase = phase_by answer f }) commits))
       (subst (λ (x : SessionRun). StepsOn sooner (turns_left x) (turns_left (record run { phase = phase_by answer (phase.Committing a) })) (turn_by answer)) same_run (goes run a sooner answer soon)))
 
   -- it commits
-  by_commit : (before later : ℕ) (answer : StepOut) → IsWait answer ⊎ EndsSooner before later old → IsWait answer ⊎ CommitsSooner before later old run
+  by_commit : (before later : ℕ) (answer : StepOut) → IsWait answer ⊎ EndsSooner before later old → IsWait answer ⊎ WorksSooner before
+      later old run
   by_commit before later answer (inl wait) = inl wait
-  by_commit before later answer (inr soon) = inr (ap is_committing commits, soon)
+  by_commit before later answer (inr soon) = inr (ap is_working commits, soon)
 
   module _ (starts : Starts) (says : Says) where
     -- one step
-    pub once_nearer : (before later : ℕ) (answer : StepOut) (t : Turn) → Steps starts says old new answer → LastsLess before later old new answer → now ≡ record run { phase = phase_by answer run.phase } → t ≡ turn_by answer → StepsOn (CommitsSooner before later old run) (turns_left run) (turns_left now) t
+    pub once_nearer : (before later : ℕ) (answer : StepOut) (t : Turn) → Steps starts says old new answer → LastsLess before later old new
+        answer → now ≡ record run { phase = phase_by answer run.phase } → t ≡ turn_by answer → StepsOn (WorksSooner before later old run)
+        (turns_left run) (turns_left now) t
     once_nearer before later answer t steps lowers is turns =
-        told (CommitsSooner before later old run) answer t is turns (by_commit before later answer (sooner_by starts says old new answer steps before later lowers))
+        told_so (WorksSooner before later old run) answer t is turns
+        (by_commit before later answer (sooner_by starts says old new answer steps before later lowers))
 
     -- a step for which memory was refused, and one more
     pub twice_nearer : (starts_later : Starts) (says_later : Says) (before between later : ℕ) (mid : Shown) (first answer : StepOut) (t : Turn) → first ≡ out.Memory → Steps starts says old mid first → LastsLess before between old mid first
-        → Steps starts_later says_later mid new answer → LastsLess between later mid new answer → now ≡ record run { phase = phase_by answer run.phase } → t ≡ turn_by answer → StepsOn (CommitsSooner before later old run) (turns_left run) (turns_left now) t
+        → Steps starts_later says_later mid new answer → LastsLess between later mid new answer → now ≡ record run
+        { phase = phase_by answer run.phase } → t ≡ turn_by answer → StepsOn (WorksSooner before later old run) (turns_left run)
+        (turns_left now) t
     twice_nearer starts_later says_later before between later mid first answer t memory once lowers twice lowers_later is turns =
-        told (CommitsSooner before later old run) answer t is turns (by_commit before later answer (both (sooner_by starts_later says_later mid new answer twice between later lowers_later)))
+        told_so (WorksSooner before later old run) answer t is turns
+        (by_commit before later answer (both (sooner_by starts_later says_later mid new answer twice between later lowers_later)))
       where
         then : (z y x : ℕ) → y < x → z < y → z < x
         then z y x h k = omega arith

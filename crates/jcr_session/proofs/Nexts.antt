@@ -19,7 +19,8 @@ use Rattle.jcr_session.specs.declared.next.Due.TheVariants as due
 use Rattle.jcr_session.specs.declared.run.Phase.{Phase}
 use Rattle.jcr_session.specs.declared.run.Phase.TheVariants as phase
 use Rattle.jcr_session.specs.declared.run.SessionRun.{SessionRun}
-use Rattle.jcr_session.specs.Standing.{IsWantedNext, due_by, due_for, due_of, due_to, has_moved, is_allowed, is_between, is_saving, may_read, reads_for}
+use Rattle.jcr_session.specs.Standing.{IsWantedNext, due_by, due_for, due_of, due_to, has_begun, has_moved, is_allowed, is_between}
+use Rattle.jcr_session.specs.Standing.{is_saving, may_read, reads_for}
 
 abbrev pub due_number : Due → ℕ
 due_number due.Leave = 0
@@ -29,6 +30,7 @@ due_number due.Refresh = 3
 due_number due.Query = 4
 due_number due.Commit = 5
 due_number due.See = 6
+due_number due.Errand = 7
 
 -- of different things to be done
 pub apart : {A : Type 0} (x y : Due) → nat_eq (due_number x) (due_number y) ≡ false → x ≡ y → A
@@ -50,6 +52,10 @@ not_barred (command.Checkout p) = refl
 not_barred (command.Label p version label take) = refl
 not_barred (command.Unlabel p label) = refl
 not_barred (command.Restore p version) = refl
+not_barred command.BackWrite = refl
+not_barred command.BackRead = refl
+not_barred command.Checkpoint = refl
+not_barred (command.Release id) = refl
 not_barred m = refl
 
 -- nor is it a leave
@@ -65,6 +71,10 @@ not_left (command.Checkout p) = refl
 not_left (command.Label p version label take) = refl
 not_left (command.Unlabel p label) = refl
 not_left (command.Restore p version) = refl
+not_left command.BackWrite = refl
+not_left command.BackRead = refl
+not_left command.Checkpoint = refl
+not_left (command.Release id) = refl
 not_left m = refl
 
 -- what is due for a command that the session may run
@@ -96,6 +106,10 @@ only_head (command.Checkout p) h = apart due.Commit due.ShowBase refl h
 only_head (command.Label p version label take) h = apart due.Commit due.ShowBase refl h
 only_head (command.Unlabel p label) h = apart due.Commit due.ShowBase refl h
 only_head (command.Restore p version) h = apart due.Commit due.ShowBase refl h
+only_head command.BackWrite h = apart due.Errand due.ShowBase refl h
+only_head command.BackRead h = apart due.Errand due.ShowBase refl h
+only_head command.Checkpoint h = apart due.Errand due.ShowBase refl h
+only_head (command.Release id) h = apart due.Errand due.ShowBase refl h
 only_head m h = apart due.See due.ShowBase refl h
 
 pub only_refresh : (m : Command) → due_by m ≡ due.Refresh → (keep : Bool) × (m ≡ command.Refresh keep)
@@ -110,6 +124,10 @@ only_refresh (command.Checkout p) h = apart due.Commit due.Refresh refl h
 only_refresh (command.Label p version label take) h = apart due.Commit due.Refresh refl h
 only_refresh (command.Unlabel p label) h = apart due.Commit due.Refresh refl h
 only_refresh (command.Restore p version) h = apart due.Commit due.Refresh refl h
+only_refresh command.BackWrite h = apart due.Errand due.Refresh refl h
+only_refresh command.BackRead h = apart due.Errand due.Refresh refl h
+only_refresh command.Checkpoint h = apart due.Errand due.Refresh refl h
+only_refresh (command.Release id) h = apart due.Errand due.Refresh refl h
 only_refresh m h = apart due.See due.Refresh refl h
 
 pub only_query : (m : Command) → due_by m ≡ due.Query → (text : Text) × (vars : List (Name × Value)) × (m ≡ command.Query text vars)
@@ -124,6 +142,10 @@ only_query (command.Checkout p) h = apart due.Commit due.Query refl h
 only_query (command.Label p version label take) h = apart due.Commit due.Query refl h
 only_query (command.Unlabel p label) h = apart due.Commit due.Query refl h
 only_query (command.Restore p version) h = apart due.Commit due.Query refl h
+only_query command.BackWrite h = apart due.Errand due.Query refl h
+only_query command.BackRead h = apart due.Errand due.Query refl h
+only_query command.Checkpoint h = apart due.Errand due.Query refl h
+only_query (command.Release id) h = apart due.Errand due.Query refl h
 only_query m h = apart due.See due.Query refl h
 
 -- a command for which a commit is due commits
@@ -139,6 +161,10 @@ commits_due (command.Checkout p) h = refl
 commits_due (command.Label p version label take) h = refl
 commits_due (command.Unlabel p label) h = refl
 commits_due (command.Restore p version) h = refl
+commits_due command.BackWrite h = apart due.Errand due.Commit refl h
+commits_due command.BackRead h = apart due.Errand due.Commit refl h
+commits_due command.Checkpoint h = apart due.Errand due.Commit refl h
+commits_due (command.Release id) h = apart due.Errand due.Commit refl h
 commits_due m h = apart due.See due.Commit refl h
 
 -- the view answers the others that the session may run
@@ -154,20 +180,45 @@ seen_viewed (command.Checkout p) a h = apart due.Commit due.See refl h
 seen_viewed (command.Label p version label take) a h = apart due.Commit due.See refl h
 seen_viewed (command.Unlabel p label) a h = apart due.Commit due.See refl h
 seen_viewed (command.Restore p version) a h = apart due.Commit due.See refl h
-seen_viewed command.BackWrite a h = absurd (false≢true a)
-seen_viewed command.BackRead a h = absurd (false≢true a)
+seen_viewed command.BackWrite a h = apart due.Errand due.See refl h
+seen_viewed command.BackRead a h = apart due.Errand due.See refl h
 seen_viewed (command.Split p) a h = absurd (false≢true a)
 seen_viewed command.Sweep a h = absurd (false≢true a)
 seen_viewed command.Collect a h = absurd (false≢true a)
-seen_viewed command.Checkpoint a h = absurd (false≢true a)
+seen_viewed command.Checkpoint a h = apart due.Errand due.See refl h
 seen_viewed (command.Attach id) a h = absurd (false≢true a)
-seen_viewed (command.Release id) a h = absurd (false≢true a)
+seen_viewed (command.Release id) a h = apart due.Errand due.See refl h
 seen_viewed command.Detach a h = absurd (false≢true a)
 seen_viewed (command.Observe p deep mask) a h = absurd (false≢true a)
 seen_viewed command.Events a h = absurd (false≢true a)
 seen_viewed (command.Stop k) a h = absurd (false≢true a)
 seen_viewed (command.Recover k) a h = absurd (false≢true a)
 seen_viewed m a h = refl
+
+-- the commands of the cluster node and of the settings that the session may run
+pub data IsErrand : Command → Type 0 where
+  errand_write : IsErrand command.BackWrite
+  errand_read : IsErrand command.BackRead
+  errand_checkpoint : IsErrand command.Checkpoint
+  errand_release : (id : Text) → IsErrand (command.Release id)
+
+pub only_errand : (m : Command) → due_by m ≡ due.Errand → IsErrand m
+only_errand command.BackWrite h = errand_write
+only_errand command.BackRead h = errand_read
+only_errand command.Checkpoint h = errand_checkpoint
+only_errand (command.Release id) h = errand_release id
+only_errand command.Head h = apart due.ShowBase due.Errand refl h
+only_errand (command.Refresh keep) h = apart due.Refresh due.Errand refl h
+only_errand (command.Query text vars) h = apart due.Query due.Errand refl h
+only_errand command.Save h = apart due.Commit due.Errand refl h
+only_errand (command.Lock p deep) h = apart due.Commit due.Errand refl h
+only_errand (command.Unlock p) h = apart due.Commit due.Errand refl h
+only_errand (command.Checkin p) h = apart due.Commit due.Errand refl h
+only_errand (command.Checkout p) h = apart due.Commit due.Errand refl h
+only_errand (command.Label p version label take) h = apart due.Commit due.Errand refl h
+only_errand (command.Unlabel p label) h = apart due.Commit due.Errand refl h
+only_errand (command.Restore p version) h = apart due.Commit due.Errand refl h
+only_errand m h = apart due.See due.Errand refl h
 
 -- and no other
 pub unviewed_due : (m : Command) → nat_eq (due_number (due_to m)) 6 ≡ false → is_viewed m ≡ false
@@ -219,6 +270,8 @@ between_is phase.Outside b h = absurd (false≢true h)
 between_is (phase.Refreshed v) b h = absurd (false≢true h)
 between_is (phase.Committing a) b h = absurd (false≢true h)
 between_is (phase.Committed e a) b h = absurd (false≢true h)
+between_is (phase.Working e) b h = absurd (false≢true h)
+between_is (phase.Told t) b h = absurd (false≢true h)
 between_is phase.Over b h = absurd (false≢true h)
 
 -- before a command that reads
@@ -289,6 +342,10 @@ some_there commands i is = by (slice_get commands i) refl is
 pub reads_unsaving : {A : Type 0} (run : SessionRun) → may_read run ≡ true → is_saving run.phase ≡ true → A
 reads_unsaving run reads saving = absurd (false≢true (sym (ap is_saving (reads_between run reads)) ∙ saving))
 
+-- nor has a task begun
+pub reads_unbegun : {A : Type 0} (run : SessionRun) → may_read run ≡ true → has_begun run.phase ≡ true → A
+reads_unbegun run reads begun = absurd (false≢true (sym (ap has_begun (reads_between run reads)) ∙ begun))
+
 -- nor has its base moved
 pub reads_unmoved : {A : Type 0} (run : SessionRun) → may_read run ≡ true → has_moved run.phase ≡ true → A
 reads_unmoved run reads moved = absurd (false≢true (sym (ap has_moved (reads_between run reads)) ∙ moved))
@@ -296,3 +353,7 @@ reads_unmoved run reads moved = absurd (false≢true (sym (ap has_moved (reads_b
 -- nothing is being read, so nothing that isn't wanted
 pub unwanted : (c : Call) (run : SessionRun) → run.fetch ≡ None → IsWantedNext c run
 unwanted c run none m next = subst (λ (o : Option Need). IfSome o (IsWanted c run.held m)) (sym none) tt
+
+pub errand_there : (run : SessionRun) (x : Command) → due_for run ≡ due.Errand → slice_get run.commands run.index ≡ Some x →
+    (is_allowed x ≡ true) × (due_by x ≡ due.Errand)
+errand_there run x is next = allowed_due x due.Errand (sym (due_at run x next) ∙ is) refl

@@ -20,7 +20,7 @@ use Rattle.core_heads.proofs.Passing.{among_same, next_more, next_stays}
 use Rattle.jcr_law.specs.declared.law.JcrLaw.{JcrLaw}
 use Rattle.jcr_law.specs.Lasting.{says_last, says_of, starts_of}
 use Rattle.jcr_law.specs.Law.{SaysBy}
-use Rattle.jcr_law.specs.Since.{before_turn, is_move_of, is_unmoved}
+use Rattle.jcr_law.specs.Since.{before_turn, is_move_of, is_pinning, is_unmoved, is_unpinned}
 use Rattle.jcr_law.specs.State.{Call, call_of, command_at, is_ok_text}
 use Rattle.jcr_law.specs.Calls.{call_after}
 use Rattle.jcr_held.specs.Holds.{Holds}
@@ -39,6 +39,7 @@ use Rattle.jcr_session.proofs.Nexts.{unwanted}
 use Rattle.jcr_session.proofs.Stages.{order_like}
 use Rattle.jcr_session.proofs.Turning.{has_turned_later, is_awaiting, kept, never_ends, started}
 use Rattle.jcr_session.proofs.Waiting.{all_beside, by_waits, called_beside, in_beside, next_beside, shown_beside, unmoved_beside}
+use Rattle.jcr_session.proofs.Waiting.{unpinned_beside}
 
 -- ---- before a reply
 
@@ -203,6 +204,12 @@ module _ (law : JcrLaw) (old new : Shown) (run : SessionRun) (text : Text) (may 
       unmoved_said : is_unmoved said old.session ≡ true
       unmoved_said = ap (λ (b : Bool). not (list_any (is_move_of old.session) (cond (b || false) [] (event.Said old.session run.index text ∷ since q old.session)))) (own old.session)
 
+      unpinned_said : is_unpinned said old.session ≡ true
+      unpinned_said = ap
+          (λ (b : Bool). not
+          (list_any (is_pinning old.session) (cond (b || false) [] (event.Said old.session run.index text ∷ since q old.session))))
+          (own old.session)
+
       between_now : IsBetween law new then_run
       between_now = record {
         call = call_after (is_ok_text text) (has_drawn old) may.call may.command;
@@ -210,6 +217,7 @@ module _ (law : JcrLaw) (old new : Shown) (run : SessionRun) (text : Text) (may 
             (called_said ∙ ap (λ (o : Option Revision). Some (call_after (is_ok_text text) (is_some o) may.call may.command)) drawn_same);
         holds = may.leaves;
         unmoved = moved (λ h s. is_unmoved h.past s ≡ true) unmoved_said;
+        unpinned = moved (λ h s. is_unpinned h.past s ≡ true) unpinned_said;
         fresh = moved (λ h s. IsFresh h.past s) fresh_said;
         reads = subst (λ (o : Option Need). IsReading new.work o) (sym may.asked.unread) done.work;
         due = λ some. absurd (false≢true (sym (ap is_some may.asked.unread) ∙ some));
@@ -223,6 +231,7 @@ forgo_waits law old new run drew beside idle may = record {
   call = may.call;
   asked = asked_waits law may.command may.call old new run may.asked beside idle;
   unmoved = unmoved_beside law old new beside may.asked.inside.nodes may.unmoved;
+  unpinned = unpinned_beside law old new beside may.asked.inside.nodes may.unpinned;
   drew_is = ap is_some (drawn_waits law may.command may.call old new run may.asked beside) ∙ may.drew_is;
   uncommitted = shown_beside law old new beside (λ h n. option_map_or (is_committed h.past) (drawn_since h.past n) false ≡ false)
       (ap (λ (o : Option Revision). option_map_or (is_committed (beside.others ++ old.history.past)) o false) (all_beside law old new beside may.asked.inside.nodes).drawn

@@ -2,7 +2,7 @@
 use Rattle.std.proofs.Common.{◌≡◌, ℕ, ◌≤◌, true, false, Some, Option, List, [], ◌∷◌, ◌++◌, length, refl, sym, ap, ◌∙◌, subst, arith}
 use Rattle.std.specs.Prelude.{slice_get}
 use Rattle.std.specs.List.{list_any}
-use Rattle.oak_machine.specs.History.{Past}
+use Rattle.oak_machine.specs.History.{History, Past}
 use Rattle.oak_machine.specs.Laws.{is_event_of}
 use Rattle.oak_machine.specs.Runs.{AreNodes, IsRun}
 use Rattle.oak_machine.specs.Sessions.{has_left, has_login, is_drawing, is_end_of_session, next_index, refreshed_since}
@@ -11,7 +11,8 @@ use Rattle.oak_port.specs.Ports.{HasRoom, Idle, Shown, OthersAlone, Work}
 use Rattle.jcr_trans.specs.declared.command.Command.{Command}
 use Rattle.core_heads.proofs.Passing.{idle_stays, next_stays}
 use Rattle.jcr_law.specs.declared.law.JcrLaw.{JcrLaw}
-use Rattle.jcr_law.specs.Lasting.{says_of, starts_of}
+use Rattle.jcr_law.specs.Lasting.{says_last, says_of, starts_of}
+use Rattle.jcr_law.specs.Law.{SaysBy}
 use Rattle.jcr_law.specs.Since.{draw_since}
 use Rattle.jcr_law.specs.State.{Call, command_at}
 use Rattle.core_calls.specs.Seeing.{SeesTrees, SeesTyped}
@@ -20,8 +21,11 @@ use Rattle.jcr_session.specs.declared.commit.Pledge.{Pledge}
 use Rattle.jcr_session.specs.declared.run.Phase.{Phase}
 use Rattle.jcr_session.specs.declared.run.Phase.TheVariants as phase
 use Rattle.jcr_session.specs.declared.run.SessionRun.{SessionRun}
-use Rattle.jcr_session.specs.Standing.{IsBeside, IsCommitting, IsFor, IsIn, IsNew, IsOutside, IsPlace, IsReading, Stands, StandsAt}
-use Rattle.jcr_session.proofs.Waiting.{all_beside, by_waits, called_beside, committed_beside, committing_beside, fresh_beside, in_beside, login_stays, next_beside, nodes_beside, shown_beside, unmoved_beside}
+use Rattle.jcr_session.specs.Standing.{HasPlace, IsBeside, IsCommitting, IsFor, IsIn, IsNew, IsOutside, IsPlace, IsReading, IsWorkFor}
+use Rattle.jcr_session.specs.Standing.{Stands, StandsAt, kept_for, kept_of, reply_of}
+use Rattle.jcr_session.proofs.Waiting.{all_beside, by_waits, called_beside, committed_beside, committing_beside, errand_beside}
+use Rattle.jcr_session.proofs.Waiting.{fresh_beside, in_beside, login_stays, next_beside, nodes_beside, shown_beside, unmoved_beside}
+use Rattle.jcr_session.proofs.Waiting.{unpinned_beside, work_beside}
 
 module _ (law : JcrLaw) (p q : Shown) (run : SessionRun) (stands : Stands law p run) (beside : IsBeside law p q) (work : q.work ≡ p.work) (room : q.room ≡ p.room) where
   abbrev added : Past
@@ -60,6 +64,7 @@ module _ (law : JcrLaw) (p q : Shown) (run : SessionRun) (stands : Stands law p 
       is = called_beside law p q beside stands.nodes h.1.call h.1.is;
       holds = h.1.holds;
       unmoved = unmoved_beside law p q beside stands.nodes h.1.unmoved;
+      unpinned = unpinned_beside law p q beside stands.nodes h.1.unpinned;
       fresh = fresh_beside law p q beside stands.nodes h.1.fresh;
       reads = subst (λ (w : Work). IsReading w run.fetch) (sym work) h.1.reads;
       due = h.1.due;
@@ -99,6 +104,33 @@ module _ (law : JcrLaw) (p q : Shown) (run : SessionRun) (stands : Stands law p 
       call = h.1.call;
       for = for_now h.1.call a h.1.for;
       ended = committed_beside law p q beside stands.nodes h.1.call e h.1.ended;
+    },
+  )
+  at_now (phase.Working e) h = (
+    in_now h.0,
+    record {
+      command = h.1.command;
+      call = h.1.call;
+      for = errand_beside law p q beside stands.nodes run h.1.command h.1.call h.1.for;
+      works = subst (λ (w : Work). IsWorkFor q.history q.session h.1.call h.1.command w) (sym work)
+          (work_beside law p q beside stands.nodes h.1.call h.1.command p.work h.1.works);
+      kept = h.1.kept;
+      place = subst (λ (x : Option ℕ). HasPlace x (kept_for e)) (sym room) h.1.place;
+    },
+  )
+  at_now (phase.Told t) h = (
+    in_now h.0,
+    record {
+      idle = work ∙ h.1.idle;
+      command = h.1.command;
+      call = h.1.call;
+      for = errand_beside law p q beside stands.nodes run h.1.command h.1.call h.1.for;
+      says = shown_beside law p q beside (λ h n. SaysBy law h n run.index (reply_of t))
+          (says_last law p.history beside.others p.session run.index (reply_of t) stands.nodes stands.run_is
+          (subst (λ (h : History). IsRun (starts_of law) (says_of law) h) beside.grows.grown beside.grows.run) beside.grows.theirs
+          h.1.says);
+      place = subst (λ (x : Option ℕ). HasPlace x (kept_of t)) (sym room) h.1.place;
+      eight = h.1.eight;
     },
   )
   at_now phase.Over h = record {
@@ -145,6 +177,7 @@ stands_between law p q run stands beside work between = record {
         is = called_beside law p q beside stands.nodes h.1.call h.1.is;
         holds = h.1.holds;
         unmoved = unmoved_beside law p q beside stands.nodes h.1.unmoved;
+        unpinned = unpinned_beside law p q beside stands.nodes h.1.unpinned;
         fresh = fresh_beside law p q beside stands.nodes h.1.fresh;
         reads = subst (λ (w : Work). IsReading w run.fetch) (sym work) h.1.reads;
         due = h.1.due;

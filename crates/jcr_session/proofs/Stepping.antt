@@ -16,7 +16,8 @@ use Rattle.oak_machine.specs.Runs.{AreNodes, IsRun}
 use Rattle.oak_machine.specs.Sessions.{base_of, has_left, has_login, is_attached, is_login_of, next_index, refreshed_since}
 use Rattle.oak_machine.specs.Steps.{is_appended_by, is_kind}
 use Rattle.oak_machine.proofs.Stays.{any_later}
-use Rattle.oak_port.specs.Ports.{AreOfStep, Awaiting, Deciding, Grows, Idle, IsFinish, Learning, Makes, Publishing, Shown, Starting, Steps, Undoing, Work, Writing, WritesOn, is_by_due}
+use Rattle.oak_port.specs.Ports.{AreOfStep, Awaiting, Deciding, Detaching, Grows, Idle, IsFinish, Learning, Makes, Publishing, Shown}
+use Rattle.oak_port.specs.Ports.{Starting, Steps, Undoing, Work, Writing, WritesOn, is_by_due}
 use Rattle.oak_commit.specs.declared.outcome.CommitEnd.{CommitEnd}
 use Rattle.oak_commit.specs.declared.outcome.CommitEnd.TheVariants as commit
 use Rattle.oak_port.specs.declared.task.StepOut.{StepOut}
@@ -51,27 +52,27 @@ module _ (law : JcrLaw) (old new : Shown) (answer : StepOut) (run : SessionRun) 
   abbrev moment : History
   moment = after steps.others old.history
 
-  run_new : IsRun (starts_of law) (says_of law) (after steps.own moment)
+  pub run_new : IsRun (starts_of law) (says_of law) (after steps.own moment)
   run_new = subst (λ (h : History). IsRun (starts_of law) (says_of law) h) steps.grows.grown steps.grows.run
 
-  run_moment : IsRun (starts_of law) (says_of law) moment
+  pub run_moment : IsRun (starts_of law) (says_of law) moment
   run_moment = dropped steps.own moment run_new
     where
       dropped : (own : Past) (h : History) → IsRun (starts_of law) (says_of law) (after own h) → IsRun (starts_of law) (says_of law) h
       dropped [] h run = run
       dropped (e ∷ own) h run = dropped own h run.1
 
-  inside_moment : IsIn law (record old { history = moment })
+  pub inside_moment : IsIn law (record old { history = moment })
   inside_moment = in_beside law old (record old { history = moment }) (record { others = steps.others; grows = record { grown = refl; theirs = steps.grows.theirs; run = run_moment }; session = refl; beside = refl; alone = steps.alone }) inside.nodes inside
 
   -- what holds of the history after the step holds of what is shown
-  moved : (F : History → ℕ → Type 0) → F (after steps.own moment) old.session → F new.history new.session
+  pub moved : (F : History → ℕ → Type 0) → F (after steps.own moment) old.session → F new.history new.session
   moved F x = subst (λ (h : History). F h new.session) (sym steps.grows.grown) (subst (λ (s : ℕ). F (after steps.own moment) s) (sym steps.session) x)
 
   login_then : has_login (steps.own ++ moment.past) old.session ≡ true
   login_then = any_later (is_login_of old.session) steps.own moment.past inside_moment.login
 
-  inside_quiet : IsQuiet old.session steps.own → IsIn law new
+  pub inside_quiet : IsQuiet old.session steps.own → IsIn law new
   inside_quiet quiet = record {
     nodes = moved (λ h s. AreNodes h.clusters h.sessions) inside.nodes;
     trees = moved (λ h s. SeesTrees law h.clusters h.sessions h.begin) inside.trees;
@@ -99,7 +100,9 @@ module _ (law : JcrLaw) (old new : Shown) (answer : StepOut) (run : SessionRun) 
     at = at;
   }
 
-  turned_quiet : (f : Phase) (t : Turn) → Tells moment old.session run.index t steps.own → IsMade moment old new (record run { phase = f }) steps.own t → IsInOrder law old new run (record run { phase = f }) t → next_index (steps.own ++ moment.past) old.session ≡ next_index moment.past old.session → StandsAt law new (record run { phase = f }) f
+  pub turned_quiet : (f : Phase) (t : Turn) → Tells moment old.session run.index t steps.own → IsMade moment old new
+      (record run { phase = f }) steps.own t → IsInOrder law old new run (record run { phase = f }) t → next_index
+      (steps.own ++ moment.past) old.session ≡ next_index moment.past old.session → StandsAt law new (record run { phase = f }) f
       → IsTurned law old new run (record run { phase = f }) t
   turned_quiet f t tells made order next at = record { others = steps.others; own = steps.own; grows = steps.grows; beside = steps.beside; alone = steps.alone; tells = tells; made = made; in_order = order; same = (refl, refl); stands = stands_quiet f next at }
 
@@ -316,6 +319,7 @@ module _ (law : JcrLaw) (old new : Shown) (answer : StepOut) (run : SessionRun) 
     step_by (Starting t) x at committing m told = absurd committing
     step_by (Publishing r) x at committing m told = absurd committing
     step_by (Learning u) x at committing m told = absurd committing
+    step_by (Detaching v) x at committing m told = absurd committing
 
     -- a step of a commit is a turn
     pub commit_turns : Turned answer
@@ -358,6 +362,7 @@ module _ (law : JcrLaw) (old new : Shown) (answer : StepOut) (run : SessionRun) 
     refused_by (Starting t) committing m = absurd committing
     refused_by (Publishing r) committing m = absurd committing
     refused_by (Learning u) committing m = absurd committing
+    refused_by (Detaching v) committing m = absurd committing
 
     refused : answer ≡ out.Memory → IsRefusedStep old.work
     refused memory = refused_by old.work at_commit.commits (subst (λ (x : StepOut). Makes moment old.session old.work x steps.own new.work) memory steps.makes)

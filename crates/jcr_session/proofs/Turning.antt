@@ -12,7 +12,8 @@ use Rattle.oak_machine.specs.Commits.{is_committed}
 use Rattle.oak_machine.specs.Laws.{AreOthers, after}
 use Rattle.oak_machine.specs.Runs.{AreNodes, IsRun}
 use Rattle.oak_machine.specs.Sessions.{has_left, is_attached, next_index}
-use Rattle.oak_port.specs.Ports.{Awaiting, Beside, Deciding, Idle, IsFinish, Learning, Publishing, Seat, Shown, Starting, Undoing, Work, Writing, WritesOn, is_by_due}
+use Rattle.oak_port.specs.Ports.{Awaiting, Beside, Deciding, Detaching, Idle, IsFinish, Learning, Publishing, Seat, Shown, Starting}
+use Rattle.oak_port.specs.Ports.{Undoing, Work, Writing, WritesOn, is_by_due}
 use Rattle.jcr_law.specs.declared.law.JcrLaw.{JcrLaw}
 use Rattle.jcr_law.specs.Lasting.{says_of, starts_of}
 use Rattle.jcr_law.specs.Since.{before_turn, draw_since}
@@ -20,7 +21,9 @@ use Rattle.core_calls.specs.Events.{is_calling}
 use Rattle.jcr_session.specs.declared.run.SessionRun.{SessionRun}
 use Rattle.jcr_session.specs.declared.turn.Turn.{Turn}
 use Rattle.jcr_session.specs.declared.turn.Turn.TheVariants as turn
-use Rattle.jcr_session.specs.Standing.{HasAwaited, HasCounted, IsBeside, IsIn, IsMade, IsOneStep, IsSeenFor, IsStep, IsTurned, IsUnseen, Tells, is_writing, stage_of}
+use Rattle.jcr_session.specs.Nearing.{IsReply}
+use Rattle.jcr_session.specs.Standing.{HasAwaited, HasCounted, IsBeside, IsIn, IsInOrder, IsMade, IsOneStep, IsSeenFor, IsStep, IsTurned}
+use Rattle.jcr_session.specs.Standing.{IsUnseen, Tells, is_writing, stage_of}
 use Rattle.jcr_session.proofs.Others.{others_both}
 use Rattle.jcr_session.proofs.Reading.{after_both, alone_both}
 use Rattle.jcr_session.proofs.Stages.{order_later}
@@ -44,6 +47,7 @@ unawaited h Idle never = tt
 unawaited h (Starting t) never = tt
 unawaited h (Publishing r) never = tt
 unawaited h (Learning u) never = tt
+unawaited h (Detaching v) never = tt
 unawaited h (Writing r) never = tt
 unawaited h (Undoing r e) never = tt
 unawaited h (Deciding r) never = tt
@@ -75,6 +79,17 @@ link_stage : (old mid : Shown) → Link old mid → stage_of old.work ≤ stage_
 link_stage old mid (kept work due) = subst (λ (w : Work). stage_of old.work ≤ stage_of w) (sym work) (let le : stage_of old.work ≤ stage_of old.work = omega arith in le)
 link_stage old mid (free still unwaited awaits le) = le
 
+-- a step that writes nothing, where nothing was waited for
+step_free : (h : History) (old mid new : Shown) (own : Past) → is_writing mid.work ≡ false → is_awaiting old.work ≡ false → mid.session ≡
+    old.session → IsStep h mid new own → IsStep h old new own
+step_free h old mid new own still awaits session step = record {
+  stays = subst (λ (s : ℕ). has_left h.past s ≡ false) session step.stays;
+  seen = unawaited h old.work awaits;
+  as_due = any_due old.due own (step.quiet still);
+  quiet = λ again. step.quiet still;
+  ended = step.ended;
+}
+
 step_later : (h : History) (old mid new : Shown) (own : Past) → Link old mid → mid.session ≡ old.session → IsStep h mid new own → IsStep h old new own
 step_later h old mid new own (kept work due) session step = record {
   stays = subst (λ (s : ℕ). has_left h.past s ≡ false) session step.stays;
@@ -83,13 +98,7 @@ step_later h old mid new own (kept work due) session step = record {
   quiet = λ still. step.quiet (ap is_writing work ∙ still);
   ended = step.ended;
 }
-step_later h old mid new own (free still unwaited awaits le) session step = record {
-  stays = subst (λ (s : ℕ). has_left h.past s ≡ false) session step.stays;
-  seen = unawaited h old.work awaits;
-  as_due = any_due old.due own (step.quiet still);
-  quiet = λ again. step.quiet still;
-  ended = step.ended;
-}
+step_later h old mid new own (free still unwaited awaits le) session step = step_free h old mid new own still awaits session step
 
 made_later : (h : History) (old mid new : Shown) (now : SessionRun) (own : Past) (t : Turn) → Link old mid → mid.session ≡ old.session → IsMade h mid new now own t → (t ≡ turn.Ended → ⊥) → IsMade h old new now own t
 made_later h old mid new now own (turn.Stepped k) link session made never = step_later h old mid new own link session made
@@ -103,8 +112,12 @@ made_later h old mid new now own turn.Read link session made never = made
 made_later h old mid new now own turn.Ended link session made never = absurd (never refl)
 made_later h old mid new now own turn.Memory link session made never = made
 
-pub turned_later : (law : JcrLaw) (a b c : Shown) (run now : SessionRun) (answer : Turn) → AreNodes a.history.clusters a.history.sessions → Link a b → IsBeside law a b → (answer ≡ turn.Ended → ⊥) → IsTurned law b c run now answer → IsTurned law a c run now answer
-turned_later law a b c run now answer nodes link waits never turned = record {
+-- the same turn, which is made and in its order so too
+turned_over : (law : JcrLaw) (a b c : Shown) (run now : SessionRun) (answer : Turn) → AreNodes a.history.clusters a.history.sessions →
+    IsBeside law a b → ((h : History) (own : Past) → IsMade h b c now own answer → IsMade h a c now own answer)
+    → (IsInOrder law b c run now answer → IsInOrder law a c run now answer) → IsTurned law b c run now answer → IsTurned law a c run now
+    answer
+turned_over law a b c run now answer nodes waits makes orders turned = record {
   others = turned.others ++ waits.others;
   own = turned.own;
   grows = record {
@@ -116,8 +129,8 @@ turned_later law a b c run now answer nodes link waits never turned = record {
   beside = turned.beside ∙ waits.beside;
   alone = alone_both a.beside.seats turned.others waits.others waits.alone (subst (λ (o : Option (List Seat)). IfSome o (λ seats. turned.others ≡ [])) (ap (λ (x : Beside). x.seats) waits.beside) turned.alone);
   tells = subst (λ (h : History). Tells h a.session run.index answer turned.own) moment (subst (λ (s : ℕ). Tells (after turned.others b.history) s run.index answer turned.own) waits.session turned.tells);
-  made = subst (λ (h : History). IsMade h a c now turned.own answer) moment (made_later (after turned.others b.history) a b c now turned.own answer link waits.session turned.made never);
-  in_order = order_later law a b c run now answer waits (link_stage a b link) turned.in_order;
+  made = subst (λ (h : History). IsMade h a c now turned.own answer) moment (makes (after turned.others b.history) turned.own turned.made);
+  in_order = orders turned.in_order;
   same = turned.same;
   stands = turned.stands;
 }
@@ -135,6 +148,22 @@ turned_later law a b c run now answer nodes link waits never turned = record {
     later : IsRun (starts_of law) (says_of law) (after turned.others (after waits.others a.history))
     later = dropped turned.own (after turned.others (after waits.others a.history))
         (subst (λ (h : History). IsRun (starts_of law) (says_of law) h) (turned.grows.grown ∙ ap (λ (h : History). after turned.own (after turned.others h)) waits.grows.grown) turned.grows.run)
+
+pub turned_later : (law : JcrLaw) (a b c : Shown) (run now : SessionRun) (answer : Turn) → AreNodes a.history.clusters a.history.sessions →
+    Link a b → IsBeside law a b → (answer ≡ turn.Ended → ⊥) → IsTurned law b c run now answer → IsTurned law a c run now answer
+turned_later law a b c run now answer nodes link waits never turned =
+    turned_over law a b c run now answer nodes waits (λ h own made. made_later h a b c now own answer link waits.session made never)
+    (order_later law a b c run now answer waits (link_stage a b link)) turned
+
+-- a reply, whatever was being done, unless it was waited for
+pub replied_later : (law : JcrLaw) (a b c : Shown) (run now : SessionRun) (t : Turn) → AreNodes a.history.clusters a.history.sessions →
+    IsBeside law a b → is_writing b.work ≡ false → is_awaiting a.work ≡ false → IsReply t → HasCounted law b c run now t → HasCounted law a
+    c run now t
+replied_later law a b c run now (turn.Said i) nodes waits still awaits reply turned =
+    turned_over law a b c run now (turn.Said i) nodes waits (λ h own made. step_free h a b c own still awaits waits.session made)
+    (λ order. tt) turned
+replied_later law a b c run now turn.Memory nodes waits still awaits reply turned = tt
+replied_later law a b c run now t nodes waits still awaits reply turned = absurd reply
 
 -- ---- events that leave the session in, before the same reply
 

@@ -4,25 +4,34 @@ use Rattle.std.specs.Prelude.{◌==◌}
 use Rattle.std.specs.Option.{option_map_or}
 use Rattle.std.specs.List.{list_any}
 use Rattle.jr_rev.specs.declared.revision.Revision.{Revision}
+use Rattle.jr_rev.specs.declared.vector.RevVec.{RevVec}
+use Rattle.jr_rev.specs.Revisions.{is_at_most}
 use Rattle.oak_machine.specs.declared.event.Event.TheVariants as event
 use Rattle.oak_machine.specs.declared.event.StepKind.TheVariants as kind
 use Rattle.oak_machine.specs.History.{History, Past}
 use Rattle.oak_machine.specs.Commits.{is_commit_of, is_committed, is_end_of}
+use Rattle.oak_machine.specs.Heads.{local}
 use Rattle.oak_machine.specs.Laws.{AreOthers, after, is_event_of}
 use Rattle.oak_machine.specs.Runs.{AreNodes, IsRun}
 use Rattle.oak_machine.specs.Sessions.{has_left, has_login, is_attached, is_login_of, next_index}
 use Rattle.oak_machine.proofs.Induction.{neither, other}
 use Rattle.oak_machine.proofs.Stays.{any_later}
 use Rattle.oak_port.specs.Ports.{Awaiting, Deciding, Idle, Shown, Starting, Undoing, OthersAlone, Work, Writing, Publishing, Learning}
+use Rattle.oak_port.specs.Ports.{Detaching}
 use Rattle.oak_commit.specs.declared.outcome.CommitEnd.{CommitEnd}
 use Rattle.oak_commit.specs.declared.outcome.CommitEnd.TheVariants as commit
 use Rattle.core_heads.proofs.Passing.{next_stays}
 use Rattle.jcr_law.specs.declared.law.JcrLaw.{JcrLaw}
 use Rattle.jcr_law.specs.Growing.{HasAllOf, call_same, trees_same}
 use Rattle.jcr_law.specs.Lasting.{grows_by_others, says_of, starts_of}
-use Rattle.jcr_law.specs.Since.{before_turn, is_unmoved}
+use Rattle.jcr_law.specs.Since.{before_turn, is_unmoved, is_unpinned}
 use Rattle.jcr_law.specs.State.{Call, call_of}
-use Rattle.jcr_session.specs.Standing.{HasCommitted, HasDrawn, IsBeside, IsCalled, IsClash, IsCommitting, IsFresh, IsIn, IsToldEnd, IsUnmade}
+use Rattle.jcr_law.specs.Tasks.{knows_published}
+use Rattle.jcr_trans.specs.declared.command.Command.{Command}
+use Rattle.jcr_session.specs.declared.run.SessionRun.{SessionRun}
+use Rattle.jcr_session.specs.Standing.{HasCommitted, HasDrawn, IsAllLocal, IsAllPublished, IsBeside, IsCalled, IsClash, IsCommitting}
+use Rattle.jcr_session.specs.Standing.{IsFresh, IsIn, IsOnErrand, IsToldEnd, IsUnmade, IsWorkFor}
+use Rattle.jcr_session.proofs.Works.{WorkCase, learning, publishing, to_keep, to_read, to_release, to_write, work_case}
 use Rattle.jcr_session.proofs.Others.{last_others, refusal_own, revision_stays, uncommitted_own}
 
 -- ---- whether it is in
@@ -63,6 +72,7 @@ module _ (law : JcrLaw) (h : History) (s : ℕ) (added : Past) (nodes : AreNodes
   drawn_still : (r : Revision) → HasDrawn h.past s r → HasDrawn whole s r
   drawn_still r has = record {
     unmoved = all_same.still ∙ has.unmoved;
+    unpinned = all_same.unpinned ∙ has.unpinned;
     made = has.made;
     revision = has.revision;
     draw = all_same.draw ∙ has.draw;
@@ -89,10 +99,30 @@ module _ (law : JcrLaw) (h : History) (s : ℕ) (added : Past) (nodes : AreNodes
   committing_still (Starting t) h1 = h1
   committing_still (Publishing r) h1 = h1
   committing_still (Learning u) h1 = h1
+  committing_still (Detaching v) h1 = h1
+
+  -- what was local, and what was published, when the command began
+  local_still : (r : Revision) → IsAllLocal h s r → IsAllLocal (after added h) s r
+  local_still r all k on = subst (λ (p : Past). is_at_most (local h.begin p k) r ≡ true) (sym all_same.before) (all k on)
+
+  published_still : (v : RevVec) → IsAllPublished h s v → IsAllPublished (after added h) s v
+  published_still v all k on = subst (λ (p : Past). knows_published h.clusters h.begin p k v ≡ true) (sym all_same.before) (all k on)
+
+  pub work_still : (c : Call) (m : Command) (w : Work) → IsWorkFor h s c m w → IsWorkFor (after added h) s c m w
+  work_still c m w is = by m w (work_case h s c m w is)
+    where
+      by : (m : Command) (w : Work) → WorkCase h s c m w → IsWorkFor (after added h) s c m w
+      by _ _ to_write = tt
+      by _ _ (publishing r all) = local_still r all
+      by _ _ to_read = tt
+      by _ _ (learning v all) = published_still v all
+      by _ _ (to_keep id named counted) = (named, counted)
+      by _ _ (to_release id i same) = same
 
   pub unmade_still : (r : Revision) → IsUnmade h.past s r → IsUnmade whole s r
   unmade_still r is = record {
     unmoved = all_same.still ∙ is.unmoved;
+    unpinned = all_same.unpinned ∙ is.unpinned;
     drawn = all_same.drawn ∙ is.drawn;
     unmade =
         subst (λ (o : Option Revision). option_map_or (is_committed whole) o false ≡ false) is.drawn
@@ -155,6 +185,27 @@ module _ (law : JcrLaw) (old new : Shown) (beside : IsBeside law old new) where
     -- nor has its base moved
     pub unmoved_beside : is_unmoved old.history.past old.session ≡ true → is_unmoved new.history.past new.session ≡ true
     unmoved_beside is = shown_beside (λ h n. is_unmoved h.past n ≡ true) (all_beside.still ∙ is)
+
+    -- nor has its cursor
+    pub unpinned_beside : is_unpinned old.history.past old.session ≡ true → is_unpinned new.history.past new.session ≡ true
+    unpinned_beside is = shown_beside (λ h n. is_unpinned h.past n ≡ true) (all_beside.unpinned ∙ is)
+
+    pub errand_beside : (run : SessionRun) (m : Command) (c : Call) → IsOnErrand law old run m c → IsOnErrand law new run m c
+    errand_beside run m c is = record {
+      unread = is.unread;
+      next = is.next;
+      errands = is.errands;
+      is = called_beside c is.is;
+      holds = is.holds;
+      fresh = fresh_beside is.fresh;
+      unmoved = unmoved_beside is.unmoved;
+      unpinned = unpinned_beside is.unpinned;
+    }
+
+    pub work_beside : (c : Call) (m : Command) (w : Work) → IsWorkFor old.history old.session c m w → IsWorkFor new.history new.session c m
+        w
+    work_beside c m w is = shown_beside (λ h n. IsWorkFor h n c m w)
+        (work_still law old.history old.session added nodes later beside.grows.theirs c m w is)
 
     pub committing_beside : (work : Work) → IsCommitting old.history.past old.session work → IsCommitting new.history.past new.session work
     committing_beside work is = shown_beside (λ h n. IsCommitting h.past n work) (committing_still law old.history old.session added nodes later beside.grows.theirs work is)

@@ -8,6 +8,12 @@ use Rattle.oak_commit.specs.declared.outcome.CommitEnd.TheVariants as commit
 use Rattle.oak_port.specs.declared.task.StepOut.{StepOut}
 use Rattle.oak_port.specs.declared.task.StepOut.TheVariants as out
 use Rattle.oak_port.specs.declared.task.TaskEnd.TheVariants as end
+use Rattle.jcr_session.specs.declared.errand.Came.{Came}
+use Rattle.jcr_session.specs.declared.errand.Came.TheVariants as came
+use Rattle.jcr_session.specs.declared.errand.Errand.{Errand}
+use Rattle.jcr_session.specs.declared.errand.Errand.TheVariants as errand
+use Rattle.jcr_session.specs.declared.errand.Told.{Told}
+use Rattle.jcr_session.specs.declared.errand.Told.TheVariants as told
 use Rattle.jcr_session.specs.declared.run.Phase.{Phase}
 use Rattle.jcr_session.specs.declared.run.Phase.TheVariants as phase
 use Rattle.jcr_session.specs.declared.read.Listed.{Listed}
@@ -112,3 +118,49 @@ ended_phase e now = now
 abbrev pub phase_by : StepOut → Phase → Phase
 phase_by (out.Ready (end.Commit e)) now = ended_phase e now
 phase_by _ now = now
+
+-- ---- a task of the cluster node or of the settings
+
+-- a step of such a task goes on, or ends it so, or memory is refused
+abbrev pub IsErrandAnswer : StepOut → Type 0
+IsErrandAnswer (out.Went k) = ⊤
+IsErrandAnswer (out.Ready (end.Published r)) = ⊤
+IsErrandAnswer (out.Ready (end.Learnt v)) = ⊤
+IsErrandAnswer (out.Ready (end.Set pin)) = ⊤
+IsErrandAnswer (out.Ready end.NoCheckpoint) = ⊤
+IsErrandAnswer out.Memory = ⊤
+IsErrandAnswer _ = ⊥
+
+-- what the answer tells of the task
+abbrev pub came_by : StepOut → Came
+came_by (out.Went k) = came.Going k
+came_by (out.Ready (end.Published r)) = came.Published r
+came_by (out.Ready (end.Learnt v)) = came.Learnt v
+came_by (out.Ready (end.Set pin)) = came.Set
+came_by (out.Ready end.NoCheckpoint) = came.Missed
+came_by _ = came.Refused
+
+-- how a task has ended of which this was kept
+abbrev pub told_by : Came → Errand → Told
+told_by (came.Published r) e = told.Published r
+told_by (came.Learnt v) e = told.Learnt v
+told_by came.Missed (errand.Release reply) = told.Text reply
+told_by came.Missed e = told.Done
+told_by _ (errand.Checkpoint reply) = told.Text reply
+told_by _ e = told.Done
+
+-- the kind of the step with which it ended
+abbrev pub kind_told : Came → StepKind
+kind_told (came.Published r) = kind.Back
+kind_told (came.Learnt v) = kind.Learn
+kind_told _ = kind.Settings
+
+-- the turn of a task that wasn't refused memory, by what its step came to
+abbrev pub turn_came : Came → Turn
+turn_came (came.Going k) = turn.Stepped k
+turn_came x = turn.Stepped (kind_told x)
+
+-- where the session stands then
+abbrev pub phase_came : Came → Errand → Phase
+phase_came (came.Going k) e = phase.Working e
+phase_came x e = phase.Told (told_by x e)

@@ -1,5 +1,5 @@
 -- What a session finds before it answers its next command.
-use Rattle.std.specs.Prelude.{◌≡◌, ◌≢◌, ◌≤◌, ℕ, Bool, false, List, [], length, slice_get}
+use Rattle.std.specs.Prelude.{◌≡◌, ◌≢◌, ◌≤◌, ◌+◌, ℕ, Bool, false, List, [], length, slice_get}
 use Rattle.std.specs.Prelude.{Option, None, Some, is_some, IsTrue, IsFalse, string_bytes}
 use Rattle.std.specs.Prelude.{Result, Ok}
 use Rattle.std.specs.Option.{option_map_or}
@@ -12,6 +12,7 @@ use Rattle.jr_path.specs.Lists.{Text}
 use Rattle.jr_rev.specs.declared.revision.Revision.{Revision}
 use Rattle.jr_rev.specs.declared.vector.RevVec.{RevVec}
 use Rattle.jr_tree.specs.declared.edit.Edit.{Edit}
+use Rattle.jr_tree.specs.declared.shared.Refusal.{Refusal}
 use Rattle.jr_tree.specs.Edits.{IsProper, applied}
 use Rattle.jr_tree.specs.Trees.{IsTree, Nodes}
 use Rattle.jr_value.specs.declared.value.Value.{Value}
@@ -19,18 +20,21 @@ use Rattle.oak_commit.specs.declared.outcome.CommitEnd.TheVariants as commit
 use Rattle.oak_machine.specs.Commits.{is_committed}
 use Rattle.oak_machine.specs.Sessions.{drawn_since, is_drawing, next_index}
 use Rattle.oak_port.specs.Ports.{HasRoom, Idle, Shown}
+use Rattle.oak_port.specs.declared.task.Task.{Task}
+use Rattle.oak_port.specs.declared.task.Task.TheVariants as task
 use Rattle.jcr_plan.specs.declared.plans.Plan.{Plan}
 use Rattle.jcr_plan.specs.Plans.{PlanOk}
 use Rattle.jr_types.specs.Rules.{TypesOk}
+use Rattle.jcr_ref.specs.Drawn.{too_many_ids}
 use Rattle.jcr_ref.specs.References.{ReferencesOk}
 use Rattle.jcr_trans.specs.declared.command.Command.{Command}
 use Rattle.jcr_trans.specs.declared.command.Command.TheVariants as command
 use Rattle.jcr_view.specs.Outcomes.{is_viewed}
 use Rattle.jcr_law.specs.declared.law.JcrLaw.{JcrLaw}
 use Rattle.jcr_law.specs.Commits.{edit_due}
-use Rattle.jcr_law.specs.Law.{IsUnmoved, SaysBy, no_support}
+use Rattle.jcr_law.specs.Law.{IsUnmoved, IsUnpinned, SaysBy, no_support, no_text}
 use Rattle.jcr_law.specs.Queries.{QueryAnswers}
-use Rattle.jcr_law.specs.State.{Call, command_at, is_ok_text}
+use Rattle.jcr_law.specs.State.{Call, command_at, is_ok_text, next_id}
 use Rattle.jcr_law.specs.Calls.{call_after}
 use Rattle.jcr_call.specs.Comings.{IsAcceptedOf}
 use Rattle.jcr_call.specs.declared.coming.Coming.{Coming}
@@ -41,11 +45,15 @@ use Rattle.jcr_held.specs.Sees.{Sees}
 use Rattle.jcr_held.specs.declared.held.Held.{Held}
 use Rattle.jr_rev.specs.Alone.{IsNextAlone}
 use Rattle.jcr_session.specs.declared.commit.Pledge.{Pledge}
+use Rattle.jcr_session.specs.declared.errand.Errand.{Errand}
+use Rattle.jcr_session.specs.declared.errand.Start.{Start}
+use Rattle.jcr_session.specs.declared.errand.Start.TheVariants as start
 use Rattle.jcr_session.specs.declared.limits.TheConstants.{COMMIT_REPLY_BYTES, MOST_COMMANDS}
 use Rattle.jcr_session.specs.declared.next.Due.TheVariants as due
 use Rattle.jcr_session.specs.declared.run.Phase.TheVariants as phase
 use Rattle.jcr_session.specs.declared.run.SessionRun.{SessionRun}
-use Rattle.jcr_session.specs.Standing.{IsCalled, IsClash, IsIn, IsPlace, due_for}
+use Rattle.jcr_session.specs.Standing.{HasPlace, IsCalled, IsClash, IsIn, IsKeptFor, IsPlace}
+use Rattle.jcr_session.specs.Standing.{due_for, kept_for}
 
 -- the session is in, with nothing being done for it and nothing of it in flight; its next command
 -- is m, which is run with c
@@ -75,13 +83,14 @@ pub record MayAnswer (law : JcrLaw) (p : Shown) (run : SessionRun) (text : Text)
   pub says : SaysBy law p.history p.session run.index text
   pub leaves : Holds (call_after (is_ok_text text) (has_drawn p) call command) run.held
 
--- want of memory may be answered now: the base hasn't moved, and what the session holds is what the
--- next command is run with, for which a revision was drawn or none
+-- want of memory may be answered now: neither the base nor the cursor has moved, and what the
+-- session holds is what the next command is run with, for which a revision was drawn or none
 pub record MayForgo (law : JcrLaw) (p : Shown) (run : SessionRun) (drew : Bool) : Type 0 where
   pub command : Command
   pub call : Call
   pub asked : IsAsked law p run command call
   pub unmoved : IsUnmoved p.history p.session
+  pub unpinned : IsUnpinned p.history p.session
   pub drew_is : has_drawn p ≡ drew
   pub uncommitted : IsFalse (option_map_or (is_committed p.history.past)
       (drawn_since p.history.past p.session) false)
@@ -149,6 +158,7 @@ pub record MayDrawFor (law : JcrLaw) (p : Shown) (run : SessionRun) (plan : Plan
   pub asked : IsAsked law p run command call
   pub first : drawn_since p.history.past p.session ≡ None
   pub unmoved : IsUnmoved p.history p.session
+  pub unpinned : IsUnpinned p.history p.session
   pub commits : due_for run ≡ due.Commit
   pub holds : Holds call run.held
   pub settled : run.held.is_kept ≡ false
@@ -181,3 +191,44 @@ pub record HasClashed (law : JcrLaw) (p : Shown) (run : SessionRun) (item : Item
   pub commits : due_for run ≡ due.Commit
   pub holds : Holds call run.held
   pub room : HasRoom p.room COMMIT_REPLY_BYTES
+
+-- ---- a task of the cluster node or of the settings
+
+-- the task that the command asks for, which is run with c: a checkpoint's is under the session's
+-- next identifier, which it has
+abbrev pub IsTaskFor : Call → Command → Task → Type 0
+IsTaskFor c command.BackWrite t = t ≡ task.BackWrite
+IsTaskFor c command.BackRead t = t ≡ task.BackRead
+IsTaskFor c command.Checkpoint t =
+    (t ≡ task.Checkpoint (next_id c.who)) × (too_many_ids (c.who.ids + 1) ≡ None)
+IsTaskFor c (command.Release id) t = t ≡ task.Release id
+IsTaskFor c m t = ⊥
+
+-- what the task of a command begins with, run with c; or the reply of a checkpoint where the
+-- session has drawn all its identifiers
+abbrev pub StartsWith : Call → Command → Start → Type 0
+StartsWith c m (start.Begun t e) = IsTaskFor c m t × IsKeptFor c m e
+StartsWith c m (start.Said text) = (m ≡ command.Checkpoint) × (r : Refusal)
+    × (too_many_ids (c.who.ids + 1) ≡ Some r) × (string_bytes text ≡ no_text r)
+
+-- the same of the next command
+abbrev pub StartsNext : SessionRun → Start → Type 0
+StartsNext run begins = (m : Command) (c : Call) → slice_get run.commands run.index ≡ Some m
+    → Holds c run.held → StartsWith c m begins
+
+-- the task is that of the next command, for which nothing was drawn yet and neither the base nor
+-- the cursor has moved, and this is kept of it for its reply, which has a place
+pub record MaySetOut (law : JcrLaw) (p : Shown) (run : SessionRun) (t : Task) (e : Errand)
+    : Type 0 where
+  pub command : Command
+  pub call : Call
+  pub asked : IsAsked law p run command call
+  pub between : run.phase ≡ phase.Between
+  pub first : drawn_since p.history.past p.session ≡ None
+  pub unmoved : IsUnmoved p.history p.session
+  pub unpinned : IsUnpinned p.history p.session
+  pub errands : due_for run ≡ due.Errand
+  pub holds : Holds call run.held
+  pub task_is : IsTaskFor call command t
+  pub kept : IsKeptFor call command e
+  pub place : HasPlace p.room (kept_for e)

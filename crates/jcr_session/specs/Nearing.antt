@@ -7,7 +7,7 @@ use Rattle.jcr_law.specs.declared.law.JcrLaw.{JcrLaw}
 use Rattle.jcr_law.specs.State.{Call}
 use Rattle.jcr_held.specs.Unread.{unread}
 use Rattle.jr_rev.specs.declared.revision.Revision.{Revision}
-use Rattle.jcr_session.specs.Standing.{IsCalled, is_committing}
+use Rattle.jcr_session.specs.Standing.{IsCalled, is_working}
 use Rattle.jcr_session.specs.declared.run.Phase.{Phase}
 use Rattle.jcr_session.specs.declared.run.Phase.TheVariants as phase
 use Rattle.jcr_session.specs.declared.run.SessionRun.{SessionRun}
@@ -48,6 +48,8 @@ stages_left phase.Between = 3
 stages_left (phase.Committing pledge) = 2
 stages_left (phase.Committed e pledge) = 1
 stages_left (phase.Refreshed v) = 1
+stages_left (phase.Working e) = 2
+stages_left (phase.Told t) = 1
 stages_left phase.Over = 0
 
 -- how many replies a session has not said yet, five times, and how near it is to the next one
@@ -58,9 +60,9 @@ turns_left run = 5 * (length run.commands - run.index) + stages_left run.phase
 abbrev pub IsLess : (sooner : Type 0) → (before now : ℕ) → Type 0
 IsLess sooner before now = (now < before) ⊎ ((now ≡ before) × sooner)
 
--- it commits, and its commit ends sooner
-abbrev pub CommitsSooner : (before now : ℕ) → Shown → SessionRun → Type 0
-CommitsSooner before now p run = IsTrue (is_committing run.phase) × EndsSooner before now p
+-- a commit or another task of its next command is under way, and ends sooner
+abbrev pub WorksSooner : (before now : ℕ) → Shown → SessionRun → Type 0
+WorksSooner before now p run = IsTrue (is_working run.phase) × EndsSooner before now p
 
 -- a step leaves less; or as much, and what is being done ends sooner
 abbrev pub StepsOn : (sooner : Type 0) → (before now : ℕ) → Turn → Type 0
@@ -92,3 +94,9 @@ IsReply _ = ⊥
 abbrev pub StaysBehindStep : SessionRun → SessionRun → Turn → Type 0
 StaysBehindStep old new (turn.Stepped k) = new ≡ old
 StaysBehindStep old new _ = ⊤
+
+-- a step leaves less; or the session stands where it stood, and what is being done ends sooner
+abbrev pub EndsOrStays : (sooner : Type 0) → (old new : SessionRun) → Turn → Type 0
+EndsOrStays sooner old new (turn.Stepped k) =
+    (turns_left new < turns_left old) ⊎ ((new ≡ old) × sooner)
+EndsOrStays sooner old new _ = ⊤

@@ -1,12 +1,13 @@
 -- Where a session stands between its turns, and what a turn makes of that.
-use Rattle.std.specs.Prelude.{◌≡◌, ◌⊎◌, ◌≤◌, ℕ, Bool, true, false, cond, ◌&&◌, not, ⊤, List}
-use Rattle.std.specs.Prelude.{[], ◌∷◌, length, slice_get, reverse, Option, None, Some, is_some}
-use Rattle.std.specs.Prelude.{IfSome, IsTrue, IsFalse, string_bytes}
+use Rattle.std.specs.Prelude.{◌≡◌, ◌⊎◌, ◌≤◌, ◌+◌, ℕ, Bool, true, false, cond, ◌&&◌, ◌||◌, not, ⊤}
+use Rattle.std.specs.Prelude.{List, [], ◌∷◌, length, slice_get, reverse, Option, None, Some}
+use Rattle.std.specs.Prelude.{is_some, IfSome, IsTrue, IsFalse, string_bytes}
 use Rattle.std.specs.List.{list_any}
 use Rattle.std.specs.Option.{option_map_or}
 use Rattle.jr_path.specs.Lists.{Text}
 use Rattle.jr_rev.specs.declared.revision.Revision.{Revision}
 use Rattle.jr_rev.specs.declared.vector.RevVec.{RevVec}
+use Rattle.jr_rev.specs.Revisions.{is_at_most}
 use Rattle.jr_rev.specs.Vectors.{sees}
 use Rattle.jr_tree.specs.declared.edit.Edit.{Edit}
 use Rattle.jr_tree.specs.Edits.{IsProper, applied}
@@ -20,27 +21,34 @@ use Rattle.oak_machine.specs.declared.event.StepKind.{StepKind}
 use Rattle.oak_machine.specs.declared.event.StepKind.TheVariants as kind
 use Rattle.oak_machine.specs.History.{History, Past}
 use Rattle.oak_machine.specs.Commits.{is_committed, is_ended, refusal_of, tree_at}
-use Rattle.oak_machine.specs.Heads.{head_of}
+use Rattle.oak_machine.specs.Heads.{head_of, local}
 use Rattle.oak_machine.specs.Laws.{after, is_revision_of}
 use Rattle.oak_machine.specs.Runs.{AreNodes, IsRun}
 use Rattle.oak_machine.specs.Sessions.{base_of, drawn_since, has_left, has_login, is_attached}
 use Rattle.oak_machine.specs.Sessions.{is_drawing, next_index, refreshed_since}
 use Rattle.oak_machine.specs.Steps.{is_appended_by, is_kind}
-use Rattle.oak_port.specs.Ports.{Awaiting, Deciding, Grows, HasRoom, HoldsBack, Idle, Shown}
-use Rattle.oak_port.specs.Ports.{Starting, Undoing, Work, Writing, is_by_due}
+use Rattle.oak_port.specs.Ports.{Awaiting, Deciding, Grows, HasRoom, HoldsBack, Idle, IsOn}
+use Rattle.oak_port.specs.Ports.{Learning, Publishing, Shown, Starting, Undoing, Work, Writing}
+use Rattle.oak_port.specs.Ports.{is_by_due}
 use Rattle.oak_port.specs.declared.task.Task.TheVariants as task
 use Rattle.oak_commit.specs.declared.outcome.CommitEnd.{CommitEnd}
 use Rattle.oak_commit.specs.declared.outcome.CommitEnd.TheVariants as commit
 use Rattle.jr_types.specs.declared.TypeDef.{TypeDef}
+use Rattle.jr_items.specs.Refusals.{no_checkpoint}
+use Rattle.jcr_ref.specs.Drawn.{too_many_ids}
 use Rattle.jcr_ref.specs.References.{ReferencesOk}
+use Rattle.jcr_trans.specs.Answers.{Done, ShowsRevision, ShowsText, ShowsVector}
+use Rattle.jcr_trans.specs.Texts.{answer_text}
 use Rattle.jcr_trans.specs.declared.command.Command.{Command}
 use Rattle.jcr_trans.specs.declared.command.Command.TheVariants as command
 use Rattle.jcr_law.specs.declared.law.JcrLaw.{JcrLaw}
 use Rattle.jcr_law.specs.Built.{is_built, is_forbidden}
 use Rattle.jcr_law.specs.Lasting.{says_of, starts_of}
+use Rattle.jcr_law.specs.Law.{SaysBy, no_text}
 use Rattle.jcr_law.specs.Makes.{commits, steps_of}
-use Rattle.jcr_law.specs.Since.{before_turn, draw_since, is_unmoved}
-use Rattle.jcr_law.specs.State.{Call, call_of, command_at}
+use Rattle.jcr_law.specs.Since.{before_turn, draw_since, is_unmoved, is_unpinned}
+use Rattle.jcr_law.specs.State.{Call, call_of, command_at, next_id}
+use Rattle.jcr_law.specs.Tasks.{knows_published}
 use Rattle.jcr_law.specs.Calls.{call_moved}
 use Rattle.jcr_call.specs.Comings.{IsAcceptedOf}
 use Rattle.jcr_call.specs.declared.coming.Accepted.{Accepted}
@@ -54,6 +62,10 @@ use Rattle.jcr_session.specs.declared.limits.TheConstants.{VECTOR_REPLY_BYTES}
 use Rattle.jcr_session.specs.declared.next.Due.{Due}
 use Rattle.jcr_session.specs.declared.next.Due.TheVariants as due
 use Rattle.jcr_session.specs.declared.commit.Pledge.{Pledge}
+use Rattle.jcr_session.specs.declared.errand.Errand.{Errand}
+use Rattle.jcr_session.specs.declared.errand.Errand.TheVariants as errand
+use Rattle.jcr_session.specs.declared.errand.Told.{Told}
+use Rattle.jcr_session.specs.declared.errand.Told.TheVariants as told
 use Rattle.jcr_session.specs.declared.run.Phase.{Phase}
 use Rattle.jcr_session.specs.declared.run.Phase.TheVariants as phase
 use Rattle.jcr_session.specs.declared.run.SessionRun.{SessionRun}
@@ -71,6 +83,10 @@ abbrev pub due_by : Command → Due
 due_by command.Head = due.ShowBase
 due_by (command.Refresh keep) = due.Refresh
 due_by (command.Query text vars) = due.Query
+due_by command.BackWrite = due.Errand
+due_by command.BackRead = due.Errand
+due_by command.Checkpoint = due.Errand
+due_by (command.Release id) = due.Errand
 due_by m = cond (commits m) due.Commit due.See
 
 -- what is to be done for a command; another one is refused
@@ -98,6 +114,20 @@ is_between _ = false
 abbrev pub is_committing : Phase → Bool
 is_committing (phase.Committing pledge) = true
 is_committing _ = false
+
+-- a task of the cluster node or of the settings is under way
+abbrev pub is_on_errand : Phase → Bool
+is_on_errand (phase.Working errand) = true
+is_on_errand _ = false
+
+-- it has ended, and its command isn't answered yet
+abbrev pub is_told : Phase → Bool
+is_told (phase.Told told) = true
+is_told _ = false
+
+-- a commit or such a task is under way
+abbrev pub is_working : Phase → Bool
+is_working f = is_committing f || is_on_errand f
 
 -- the session is before a command for which it may have to read
 abbrev pub may_read : SessionRun → Bool
@@ -153,10 +183,11 @@ IsReading work (Some _) = ⊥
 
 -- ---- a commit
 
--- on its base, which hasn't moved since its next command began, the session drew for that command,
--- and this is all of it that is in flight
+-- on its base, which hasn't moved since its next command began, and no more has its cursor, the
+-- session drew for that command, and this is all of it that is in flight
 pub record HasDrawn (past : Past) (s : ℕ) (r : Revision) : Type 0 where
   pub unmoved : IsTrue (is_unmoved past s)
+  pub unpinned : IsTrue (is_unpinned past s)
   pub made : Draw
   pub revision : made.revision ≡ r
   pub draw : draw_since past s ≡ Some made
@@ -181,9 +212,10 @@ IsCommitting past s (Awaiting r) =
     HasDrawn past s r × IsTrue (is_committed past r) × IsTrue (is_ended past r)
 IsCommitting past s _ = ⊥
 
--- the commit that has ended was not made, and the base hasn't moved for it
+-- the commit that has ended was not made, and neither the base nor the cursor has moved for it
 pub record IsUnmade (past : Past) (s : ℕ) (r : Revision) : Type 0 where
   pub unmoved : IsTrue (is_unmoved past s)
+  pub unpinned : IsTrue (is_unpinned past s)
   pub drawn : drawn_since past s ≡ Some r
   pub unmade : IsFalse (is_committed past r)
   pub idle : IsFalse (is_drawing past s)
@@ -243,6 +275,69 @@ pub record IsFor (p : Shown) (run : SessionRun) (c : Call) (pledge : Pledge) : T
   pub referring : ReferencesOk (applied None c.base pledge.edit.writes)
   pub drew : HasDrawnFor p run pledge.edit
 
+-- ---- a task of the cluster node or of the settings
+
+-- the revision is at least what was local to the session's cluster node when its next command began
+abbrev pub IsAllLocal : History → ℕ → Revision → Type 0
+IsAllLocal h s r = (k : ℕ) → IsOn h s k
+    → IsTrue (is_at_most (local h.begin (before_turn h.past s) k) r)
+
+-- the vector has of each other cluster node at least what that had published then
+abbrev pub IsAllPublished : History → ℕ → RevVec → Type 0
+IsAllPublished h s v = (k : ℕ) → IsOn h s k
+    → IsTrue (knows_published h.clusters h.begin (before_turn h.past s) k v)
+
+-- what is being done for the command, which is run with c: its task was begun, or a background
+-- write will publish all that was local when the command began, or a background read has read of
+-- the root all that was published then
+abbrev pub IsWorkFor : History → ℕ → Call → Command → Work → Type 0
+IsWorkFor h s c command.BackWrite (Starting task.BackWrite) = ⊤
+IsWorkFor h s c command.BackWrite (Publishing r) = IsAllLocal h s r
+IsWorkFor h s c command.BackRead (Starting task.BackRead) = ⊤
+IsWorkFor h s c command.BackRead (Learning v) = IsAllPublished h s v
+IsWorkFor h s c command.Checkpoint (Starting (task.Checkpoint id)) =
+    (id ≡ next_id c.who) × (too_many_ids (c.who.ids + 1) ≡ None)
+IsWorkFor h s c (command.Release id) (Starting (task.Release i)) = i ≡ id
+IsWorkFor h s c m work = ⊥
+
+-- what is kept for the reply to the command: of a checkpoint the reply that shows its id, the
+-- session's next one; of a release that there is no such checkpoint
+abbrev pub IsKeptFor : Call → Command → Errand → Type 0
+IsKeptFor c command.BackWrite errand.Write = ⊤
+IsKeptFor c command.BackRead errand.Read = ⊤
+IsKeptFor c command.Checkpoint (errand.Checkpoint reply) =
+    string_bytes reply ≡ answer_text (ShowsText (next_id c.who))
+IsKeptFor c (command.Release id) (errand.Release reply) =
+    string_bytes reply ≡ no_text (no_checkpoint id)
+IsKeptFor c m e = ⊥
+
+-- the text that is kept
+abbrev pub kept_for : Errand → Text
+kept_for (errand.Checkpoint reply) = string_bytes reply
+kept_for (errand.Release reply) = string_bytes reply
+kept_for _ = []
+
+abbrev pub kept_of : Told → Text
+kept_of (told.Text reply) = string_bytes reply
+kept_of _ = []
+
+-- the reply once the task has ended
+abbrev pub reply_of : Told → Text
+reply_of (told.Published r) = answer_text (ShowsRevision r)
+reply_of (told.Learnt v) = answer_text (ShowsVector v)
+reply_of told.Done = answer_text Done
+reply_of (told.Text reply) = string_bytes reply
+
+-- the place of the reply has room for a vector, and for the text that is kept
+pub record HasPlace (room : Option ℕ) (text : Text) : Type 0 where
+  pub told : HasRoom room VECTOR_REPLY_BYTES
+  pub text_is : HasRoom room (length text)
+
+-- a vector that is told has eight entries
+abbrev pub IsEight : Told → Type 0
+IsEight (told.Learnt v) = length v ≡ 8
+IsEight _ = ⊤
+
 -- ---- where it stands
 
 -- what is held is what a session of the law holds when it begins
@@ -266,10 +361,11 @@ abbrev pub IsWantedNext : Call → SessionRun → Type 0
 IsWantedNext c run = (m : Command) → slice_get run.commands run.index ≡ Some m
     → IfSome run.fetch (IsWanted c run.held m)
 
--- it is between two commands, its base hasn't moved since the next one began, and what it holds is
--- what that one is run with; what is being read is for that one
+-- it is between two commands, neither its base nor its cursor has moved since the next one began,
+-- and what it holds is what that one is run with; what is being read is for that one
 pub record IsBetween (law : JcrLaw) (p : Shown) (run : SessionRun) : Type 0 where
   pub unmoved : IsTrue (is_unmoved p.history.past p.session)
+  pub unpinned : IsTrue (is_unpinned p.history.past p.session)
   pub call : Call
   pub is : IsCalled law p call
   pub holds : Holds call run.held
@@ -308,6 +404,38 @@ pub record IsAtEnd (law : JcrLaw) (p : Shown) (run : SessionRun) (e : CommitEnd)
   pub for : IsFor p run call pledge
   pub ended : HasCommitted law p call e
 
+-- its next command is m, which is run with c: one for a task of the cluster node or of the
+-- settings; neither its base nor its cursor has moved since that began, and it drew nothing for it
+pub record IsOnErrand (law : JcrLaw) (p : Shown) (run : SessionRun) (m : Command) (c : Call)
+    : Type 0 where
+  pub unread : run.fetch ≡ None
+  pub next : slice_get run.commands run.index ≡ Some m
+  pub errands : due_for run ≡ due.Errand
+  pub is : IsCalled law p c
+  pub holds : Holds c run.held
+  pub fresh : IsFresh p.history.past p.session
+  pub unmoved : IsTrue (is_unmoved p.history.past p.session)
+  pub unpinned : IsTrue (is_unpinned p.history.past p.session)
+
+-- the task is under way, and this is kept of it for the reply, which has a place
+pub record IsAtWork (law : JcrLaw) (p : Shown) (run : SessionRun) (e : Errand) : Type 0 where
+  pub command : Command
+  pub call : Call
+  pub for : IsOnErrand law p run command call
+  pub works : IsWorkFor p.history p.session call command p.work
+  pub kept : IsKeptFor call command e
+  pub place : HasPlace p.room (kept_for e)
+
+-- the task has ended so, and the law lets its reply be said, which has a place
+pub record IsTold (law : JcrLaw) (p : Shown) (run : SessionRun) (t : Told) : Type 0 where
+  pub idle : p.work ≡ Idle
+  pub command : Command
+  pub call : Call
+  pub for : IsOnErrand law p run command call
+  pub says : SaysBy law p.history p.session run.index (reply_of t)
+  pub place : HasPlace p.room (kept_of t)
+  pub eight : IsEight t
+
 -- it has answered all its commands, and has left
 pub record IsGone (p : Shown) (run : SessionRun) : Type 0 where
   pub idle : p.work ≡ Idle
@@ -321,6 +449,8 @@ StandsAt law p run phase.Between = IsIn law p × IsBetween law p run
 StandsAt law p run (phase.Refreshed v) = IsIn law p × IsRefreshed law p run v
 StandsAt law p run (phase.Committing pledge) = IsIn law p × IsInCommit law p run pledge
 StandsAt law p run (phase.Committed e pledge) = IsIn law p × IsAtEnd law p run e pledge
+StandsAt law p run (phase.Working e) = IsIn law p × IsAtWork law p run e
+StandsAt law p run (phase.Told t) = IsIn law p × IsTold law p run t
 StandsAt law p run phase.Over = IsGone p run
 
 -- the port is the session's; its history is a run by the law, where sessions see trees that meet its
@@ -348,8 +478,10 @@ MovesBase law h s =
 
 -- ---- in which order
 
--- how many stages of a commit are behind, by what is being done; of anything else none is
+-- how many stages of a commit or of a background read are behind, by what is being done; of
+-- anything else none is
 abbrev pub stage_of : Work → ℕ
+stage_of (Learning v) = 1
 stage_of (Writing r) = 1
 stage_of (Undoing r e) = 3
 stage_of (Deciding r) = 4
@@ -357,9 +489,11 @@ stage_of (Awaiting r) = 5
 stage_of _ = 0
 
 -- how many stages of its next command are behind a session: all but the reply once the base has
--- moved for a refresh, or the commit has ended
+-- moved for a refresh, or the commit or the task has ended
 abbrev pub stage_at : Phase → Work → ℕ
 stage_at (phase.Refreshed v) work = 1
+stage_at (phase.Told (told.Learnt v)) work = 2
+stage_at (phase.Told t) work = 1
 stage_at (phase.Committed e pledge) work = 6
 stage_at f work = stage_of work
 
@@ -403,6 +537,12 @@ is_step_event (event.Commit r) = true
 is_step_event (event.Refuse r item o) = true
 is_step_event (event.End r) = true
 is_step_event (event.Went t k) = true
+is_step_event (event.Out k r) = true
+is_step_event (event.In k v) = true
+is_step_event (event.Checkpoint id v) = true
+is_step_event (event.Release id) = true
+is_step_event (event.Attach t id) = true
+is_step_event (event.Detach t) = true
 is_step_event _ = false
 
 -- one event of a step, or the end of a revision with the head that moves then
@@ -513,6 +653,10 @@ is_saving _ = false
 abbrev pub has_moved : Phase → Bool
 has_moved (phase.Refreshed v) = true
 has_moved _ = false
+
+-- a task of the cluster node or of the settings was begun for a command that isn't answered yet
+abbrev pub has_begun : Phase → Bool
+has_begun f = is_on_errand f || is_told f
 
 -- a turn doesn't answer that memory was refused
 abbrev pub IsGranted : Turn → Type 0

@@ -3,7 +3,7 @@ ghost use Rattle.std.specs.Prelude.{◌≡◌, ◌≤◌, IfOk, IsTrue, Some, fa
 ghost use Rattle.jcr_call.specs.declared.coming.Coming.TheVariants as coming;
 ghost use Rattle.jcr_session.specs.Answered.{IsCommitAnswer, IsDrawAnswer, ended_phase, has_went, kind_of_end, phase_by, turn_by};
 ghost use Rattle.jcr_session.specs.Asked.{ComesNext, MayDrawFor};
-ghost use Rattle.jcr_session.specs.Nearing.{CommitsSooner, DrawsNoOther, StaysBehindStep, StepsOn, turns_left};
+ghost use Rattle.jcr_session.specs.Nearing.{DrawsNoOther, StaysBehindStep, StepsOn, WorksSooner, turns_left};
 ghost use Rattle.jcr_session.specs.Standing.{HasCounted, IsGranted, IsPlace, IsPrepared, Stands, due_for, is_committing};
 ghost use Rattle.jcr_session.specs.declared.limits.TheConstants.{COMMIT_REPLY_BYTES};
 ghost use Rattle.jcr_session.specs.declared.next.Due.TheVariants as due;
@@ -134,7 +134,7 @@ impl SessionRun {
         ensures granted { IsGranted result }
         ensures draws { DrawsNoOther (P.shown port.old) (P.shown port.new) }
         ensures steps { StepsOn
-            (CommitsSooner (P.left port.old) (P.left port.new) (P.shown port.old) self.old)
+            (WorksSooner (P.left port.old) (P.left port.new) (P.shown port.old) self.old)
             (turns_left self.old) (turns_left self.new) result }
     {
         match port.step() {

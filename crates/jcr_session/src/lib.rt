@@ -7,6 +7,7 @@
 
 mod commit;
 mod ends;
+mod errand;
 mod laws;
 mod limits;
 mod next;

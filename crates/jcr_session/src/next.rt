@@ -22,6 +22,8 @@ pub(crate) enum Due {
     Query,
     // What is due for it is committed.
     Commit,
+    // Background work is done, or a checkpoint is made or released.
+    Errand,
     // Another command is answered by the view.
     See,
 }
@@ -66,6 +68,10 @@ fn due_by(command: &Command) -> Due
         Command::Head => Due::ShowBase,
         Command::Refresh(_) => Due::Refresh,
         Command::Query(_, _) => Due::Query,
+        Command::BackWrite => Due::Errand,
+        Command::BackRead => Due::Errand,
+        Command::Checkpoint => Due::Errand,
+        Command::Release(_) => Due::Errand,
         _ => {
             if commits(command) {
                 Due::Commit

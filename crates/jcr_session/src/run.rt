@@ -1,14 +1,15 @@
 // A session's turns: what it asks of its world, one counted step after another.
 ghost use Rattle.std.specs.Prelude.{◌≡◌, ◌≤◌, IfOk, IsTrue, IsFalse, is_some, length};
 ghost use Rattle.jcr_session.specs.Answered.{IsLeaveAnswer, IsPinAnswer, ended_by, pinned_by};
-ghost use Rattle.jcr_session.specs.Nearing.{ComesNearer, CommitsSooner, DrawsNoOther, EndsSooner, IsReply, ReadsOn, StepsOn, turns_left};
+ghost use Rattle.jcr_session.specs.Nearing.{ComesNearer, DrawsNoOther, EndsSooner, IsReply, ReadsOn, StepsOn, WorksSooner, turns_left};
 ghost use Rattle.oak_port.specs.Ports.{HasRoom};
-ghost use Rattle.jcr_session.specs.Standing.{HasCounted, HasTurned, IsGranted, IsNew, IsPrepared, Stands, due_for, has_moved, is_committing, is_saving, may_read};
+ghost use Rattle.jcr_session.specs.Standing.{HasCounted, HasTurned, IsGranted, IsNew, IsPrepared, Stands, due_for, has_begun, has_moved, is_committing, is_saving, is_working, may_read};
 ghost use Rattle.jcr_session.specs.declared.limits.TheConstants.{VECTOR_REPLY_BYTES};
 ghost use Rattle.jcr_session.specs.declared.next.Due.TheVariants as due;
 ghost use Rattle.jcr_session.specs.declared.run.Phase.TheVariants as phase;
 
 use crate::commit::Pledge;
+use crate::errand::{Errand, Told};
 use crate::limits::{MOST_COMMANDS, VECTOR_REPLY_BYTES};
 use crate::next::Due;
 use crate::shown::shown_vector;
@@ -73,6 +74,10 @@ pub(crate) enum Phase {
     Committing(Pledge),
     // Its commit has ended so, and it has not answered yet.
     Committed(CommitEnd, Pledge),
+    // A task of the cluster node or of the settings is under way; its reply has a place.
+    Working(Errand),
+    // That task has ended so, and it has not answered yet; its reply has a place.
+    Told(Told),
     // It has left.
     Over,
 }
@@ -108,9 +113,11 @@ impl SessionRun {
     /// ends. From the draw of a commit until its reply it never ends so, and draws no other: a
     /// commit that is made is answered. Nor does it end so once the base has moved for a refresh,
     /// which is then accepted: a command that is answered by want of memory has left the base where
-    /// it stood. The counted steps of a command are made in the order of its stages. A counted step
-    /// and a reply bring the session nearer to its end, a reading step to what its next command
-    /// asks for.
+    /// it stood. Nor does it end so once background work has begun, or a checkpoint is being made
+    /// or released (Oak, DocumentNodeStore: "Background operations", "Checkpoints"): they need
+    /// nothing of the tree, and what their replies need is made before their first step. The
+    /// counted steps of a command are made in the order of its stages. A counted step and a reply
+    /// bring the session nearer to its end, a reading step to what its next command asks for.
     pub fn turn<P: Port<L = JcrLaw>>(&mut self, port: &mut P) -> Turn
         requires stands { Stands (P.law port.old) (P.shown port.old) self.old }
         ensures law { P.law port.new ≡ P.law port.old }
@@ -118,10 +125,11 @@ impl SessionRun {
             self.old self.new result }
         ensures granted { IsTrue (is_saving self.old.phase) → IsGranted result }
         ensures moved { IsTrue (has_moved self.old.phase) → IsGranted result }
+        ensures begun { IsTrue (has_begun self.old.phase) → IsGranted result }
         ensures draws { IsTrue (is_saving self.old.phase)
             → DrawsNoOther (P.shown port.old) (P.shown port.new) }
         ensures nears { ComesNearer
-            (CommitsSooner (P.left port.old) (P.left port.new) (P.shown port.old) self.old)
+            (WorksSooner (P.left port.old) (P.left port.new) (P.shown port.old) self.old)
             (turns_left self.old) (turns_left self.new) result }
         ensures reads { ReadsOn
             (EndsSooner (P.left port.old) (P.left port.new) (P.shown port.old))
@@ -144,6 +152,13 @@ impl SessionRun {
         self.fetch.is_some()
     }
 
+    /// Whether a commit of the session, or another task of its next command, is under way.
+    pub fn is_working(&self) -> bool
+        ensures { result ≡ is_working self.now.phase }
+    {
+        matches!(self.phase, Phase::Committing(_) | Phase::Working(_))
+    }
+
     /// Whether a commit of the session is under way.
     pub fn is_committing(&self) -> bool
         ensures { result ≡ is_committing self.now.phase }
@@ -160,10 +175,11 @@ impl SessionRun {
             self.old self.new result }
         ensures granted { IsTrue (is_saving self.old.phase) → IsGranted result }
         ensures moved { IsTrue (has_moved self.old.phase) → IsGranted result }
+        ensures begun { IsTrue (has_begun self.old.phase) → IsGranted result }
         ensures draws { IsTrue (is_saving self.old.phase)
             → DrawsNoOther (P.shown port.old) (P.shown port.new) }
         ensures steps { StepsOn
-            (CommitsSooner (P.left port.old) (P.left port.new) (P.shown port.old) self.old)
+            (WorksSooner (P.left port.old) (P.left port.new) (P.shown port.old) self.old)
             (turns_left self.old) (turns_left self.new) result }
     {
         match &self.phase {
@@ -175,6 +191,8 @@ impl SessionRun {
             }
             Phase::Committing(_) => self.commit_on(port),
             Phase::Committed(_, _) => self.say_end(port),
+            Phase::Working(_) => self.work_on(port),
+            Phase::Told(_) => self.say_told(port),
             Phase::Over => Turn::Ended,
         }
     }
@@ -215,6 +233,7 @@ impl SessionRun {
             Due::Leave => self.leave(port),
             Due::Bar => self.bar(port),
             Due::ShowBase => self.show_base(port),
+            Due::Errand => self.set_out(port),
             _ => unreachable!(),
         }
     }

@@ -227,7 +227,7 @@ impl SessionRun {
     }
 
     // The next command is answered so, and nothing was drawn for it.
-    fn settle(&mut self, text: &str)
+    pub(crate) fn settle(&mut self, text: &str)
         requires { IsUnviewedNext self.old }
         ensures { Settles self.old self.new (is_ok_text text.now) false None }
     {

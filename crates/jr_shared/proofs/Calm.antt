@@ -1,5 +1,5 @@
 -- A step that adds no event leaves the documents and the memories.
-use Rattle.std.proofs.Common.{◌≡◌, inl, inr, ℕ, Bool, true, false, cond, None, List, ◌∷◌, sym, ap, ◌∙◌}
+use Rattle.std.proofs.Common.{◌≡◌, inl, inr, ℕ, Bool, true, false, cond, Some, None, List, ◌∷◌, sym, ap, ◌∙◌}
 use Rattle.jr_path.specs.declared.path.DocId.{DocId}
 use Rattle.jr_rev.specs.declared.revision.Revision.{Revision}
 use Rattle.oak_commit.specs.Committing.{Committing}
@@ -72,6 +72,16 @@ module _ (s : ℕ) (w u : State) (same : u.past ≡ w.past) where
   calm_upkeep (upkeep.Release i) v (answers.Ready ends.NoCheckpoint) m = never _ (ap (λ (x : State). x.past) m.1)
   calm_upkeep (upkeep.Release i) v answers.Memory m = still m.0
   calm_upkeep (upkeep.Release i) v _ m = absurd m
+  calm_upkeep (upkeep.Attach i) v (answers.Ready (ends.Set (Some pin))) m = never _ (ap (λ (x : State). x.past) m.1)
+  calm_upkeep (upkeep.Attach i) v (answers.Ready ends.NoCheckpoint) m = never _ (ap (λ (x : State). x.past) m.1)
+  calm_upkeep (upkeep.Attach i) v answers.Memory m = still m.0
+  calm_upkeep (upkeep.Attach i) v _ m = absurd m
+  calm_upkeep upkeep.Detach v (answers.Went kind.Pin) m = never _ (ap (λ (x : State). x.past) m.0)
+  calm_upkeep upkeep.Detach v answers.Memory m = still m.0
+  calm_upkeep upkeep.Detach v _ m = absurd m
+  calm_upkeep (upkeep.Detaching pin) v (answers.Ready (ends.Pinned o)) m = never _ (ap (λ (x : State). x.past) m.1)
+  calm_upkeep (upkeep.Detaching pin) v answers.Memory m = still m.0
+  calm_upkeep (upkeep.Detaching pin) v _ m = absurd m
   calm_upkeep upkeep.Observe v (answers.Ready (ends.Pinned pin)) m = never _ (ap (λ (x : State). x.past) m.1)
   calm_upkeep upkeep.Observe v answers.Memory m = still m.0
   calm_upkeep upkeep.Observe v _ m = absurd m

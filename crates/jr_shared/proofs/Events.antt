@@ -11,8 +11,7 @@ use Rattle.oak_machine.specs.History.{Begin, Past}
 use Rattle.oak_machine.specs.Commits.{draw_of, is_drawn}
 use Rattle.oak_machine.specs.Laws.{AreOthers, Says, Starts, is_event_of}
 use Rattle.oak_machine.specs.Runs.{AreNodes, IsRunOf}
-use Rattle.oak_machine.specs.Sessions.{is_attached}
-use Rattle.oak_machine.proofs.Induction.{first_of_both, neither, other}
+use Rattle.oak_machine.proofs.Induction.{first_of_both}
 use Rattle.core_heads.proofs.Drawn.{Keeps, drawn_some, keeps_one}
 use Rattle.jr_shared.specs.Meanings.{own_events}
 
@@ -69,14 +68,3 @@ module _ (clusters : ℕ) (sessions : List ℕ) (nodes : AreNodes clusters sessi
   pub run_before : (more past : Past) → IsRunOf starts says clusters sessions begin (more ++ past) → IsRunOf starts says clusters sessions begin past
   run_before [] past run = run
   run_before (e ∷ more) past run = run_before more past run.1
-
--- who is attached to no checkpoint stays so while others act
-attached_by : (whole added past : Past) (s : ℕ) → list_any (is_event_of whole s) added ≡ false → is_attached (added ++ past) s ≡ is_attached past s
-attached_by whole [] past s others = refl
-attached_by whole (event.Login t v ∷ added) past s others = let n = neither _ _ others in other (t == s) _ _ _ n.0 (attached_by whole added past s n.1)
-attached_by whole (event.Refresh t v ∷ added) past s others = let n = neither _ _ others in other (t == s) _ _ _ n.0 (attached_by whole added past s n.1)
-attached_by whole (event.Attach t id ∷ added) past s others = let n = neither _ _ others in other (t == s) _ _ _ n.0 (attached_by whole added past s n.1)
-attached_by whole (e ∷ added) past s others = attached_by whole added past s (neither (is_event_of whole s e) _ others).1
-
-pub attached_stays : (added past : Past) (s : ℕ) → AreOthers s added past → is_attached (added ++ past) s ≡ is_attached past s
-attached_stays added past s others = attached_by (added ++ past) added past s others

@@ -25,7 +25,8 @@ use Rattle.jr_shared.specs.declared.locked.WorldFrame.{WorldFrame}
 use Rattle.jr_shared.specs.Meanings.{Owned, frame_of, journal_of, own_events, owned_of}
 use Rattle.jr_shared.specs.Holds.{HasLaw, IsGot, IsTold, Known, actor_by, has_seat, owned_by, seat_by}
 use Rattle.jr_shared.specs.Seen.{clusters_by, history_by, law_by, left_by, sessions_by, state_by, the}
-use Rattle.jr_shared.proofs.Events.{are_others, attached_stays, run_before}
+use Rattle.oak_world.proofs.Others.{attached_left}
+use Rattle.jr_shared.proofs.Events.{are_others, run_before}
 use Rattle.jr_shared.proofs.Lists.{found_part, grown_by}
 
 -- all of a state but the committers and the readers
@@ -144,7 +145,7 @@ module _ {L : Type 0} (law : Ghosts L) (old : Known L) (got : WorldOf L) (g : Is
       left_same = stay_left s more (reverse old.seen) others
 
       attached_same : is_attached (more ++ reverse old.seen) s ≡ is_attached (reverse old.seen) s
-      attached_same = attached_stays more (reverse old.seen) s others
+      attached_same = attached_left s more (reverse old.seen) others
 
       -- the history seen, by the fields of the world that was got
       abbrev before : History
@@ -164,8 +165,8 @@ module _ {L : Type 0} (law : Ghosts L) (old : Known L) (got : WorldOf L) (g : Is
       begins (task.Split p) m = absurd m
       begins task.Sweep m = absurd m
       begins task.Collect m = absurd m
-      begins (task.Attach i) m = absurd m
-      begins task.Detach m = absurd m
+      begins (task.Attach i) m = (login_same ∙ m.0, left_same ∙ m.1, attached_same ∙ m.2)
+      begins task.Detach m = (login_same ∙ m.0, left_same ∙ m.1, attached_same ∙ m.2)
       begins task.Observe m = (login_same ∙ m.0, left_same ∙ m.1, attached_same ∙ m.2)
       begins (task.Changes pin) m = absurd m
       begins (task.Stop k) m = absurd m

@@ -1,6 +1,6 @@
 -- What a step of a session adds, by what is told of it: nothing, an event, or the end of a revision with a head that moves; and none of it is another session's.
 use mathlib.Core.Bool.{false≢true}
-use Rattle.std.proofs.Common.{◌≡◌, ◌⊎◌, inl, inr, ℕ, ◌+◌, Bool, true, false, cond, Option, Some, None, List, [], ◌∷◌, ◌++◌, length, refl, sym, ap, ◌∙◌, subst, arith, length-append}
+use Rattle.std.proofs.Common.{◌≡◌, ◌⊎◌, inl, inr, ℕ, ◌+◌, Bool, true, false, cond, Option, Some, None, [], ◌∷◌, ◌++◌, length, refl, sym, ap, ◌∙◌, subst, arith, length-append}
 use Rattle.std.specs.Prelude.{◌==◌, reverse}
 use Rattle.std.specs.List.{list_any}
 use Rattle.std.specs.Option.{option_map_or}
@@ -21,7 +21,7 @@ use Rattle.oak_port.specs.declared.task.StepOut.{StepOut}
 use Rattle.oak_port.specs.declared.task.StepOut.TheVariants as out
 use Rattle.oak_port.specs.declared.task.Task.TheVariants as task
 use Rattle.oak_port.specs.declared.task.TaskEnd.TheVariants as end
-use Rattle.oak_port.specs.Ports.{AreOfStep, Awaiting, Deciding, IsFinish, Learning, Makes, Publishing, Starting, Undoing, Work as Shows, Writing, WritesOn, last_kind}
+use Rattle.oak_port.specs.Ports.{AreOfStep, Awaiting, Deciding, Detaching, IsFinish, Learning, Makes, Publishing, Starting, Undoing, Work as Shows, Writing, WritesOn, last_kind}
 use Rattle.oak_world.proofs.Asking.{of_kind, tested}
 use Rattle.jr_shared.proofs.Lists.{flipped}
 use Rattle.jr_shared.specs.Meanings.{own_events}
@@ -34,6 +34,7 @@ adds w out.Memory = false
 adds w (out.Wait q) = false
 adds (Starting (task.Load p)) o = false
 adds (Starting (task.List p)) o = false
+adds (Starting (task.Changes since)) o = false
 adds w o = true
 
 abbrev is_head : Event → Bool
@@ -72,6 +73,11 @@ shaped h s (Starting task.BackRead) (out.Went k) own now m = inl (event.Went s k
 shaped h s (Starting (task.Checkpoint i)) (out.Ready (end.Set None)) own now m = inl (event.Checkpoint i m.0, m.2, refl)
 shaped h s (Starting (task.Release i)) (out.Ready (end.Set None)) own now m = inl (event.Release i, m.0, refl)
 shaped h s (Starting (task.Release i)) (out.Ready end.NoCheckpoint) own now m = inl (event.Went s kind.Settings, m.1, refl)
+shaped h s (Starting (task.Attach i)) (out.Ready (end.Set (Some pin))) own now m = inl (event.Attach s i, m.1, refl)
+shaped h s (Starting (task.Attach i)) (out.Ready end.NoCheckpoint) own now m = inl (event.Went s kind.Settings, m.1, refl)
+shaped h s (Starting task.Detach) (out.Went k) own now m = inl (event.Refresh s m.0, m.2, refl)
+shaped h s (Starting (task.Changes since)) (out.Went k) own now m = m.1
+shaped h s (Starting (task.Changes since)) (out.Ready (end.Changes found)) own now m = m.3
 shaped h s (Starting task.Observe) (out.Ready (end.Pinned pin)) own now m = inl (event.Went s kind.Pin, m.1, refl)
 shaped h s (Starting t) out.Memory own now m = m.0
 shaped h s (Publishing r) (out.Went k) own now m = inl (event.Went s kind.Back, m.1, refl)
@@ -79,6 +85,8 @@ shaped h s (Publishing r) (out.Ready (end.Published o)) own now m = inl (event.O
 shaped h s (Publishing r) out.Memory own now m = m.0
 shaped h s (Learning u) (out.Ready (end.Learnt v)) own now m = inl (event.In m.0 v, m.3, refl)
 shaped h s (Learning u) out.Memory own now m = m.0
+shaped h s (Detaching v) (out.Ready (end.Pinned pin)) own now m = inl (event.Detach s, m.1, refl)
+shaped h s (Detaching v) out.Memory own now m = m.0
 shaped h s (Writing r) (out.Went k) own now m = written s r k own now m
 shaped h s (Writing r) out.Memory own now m = m.0
 shaped h s (Undoing r e) (out.Went k) own now m = inl (event.Went s kind.Undo, m.1, refl)

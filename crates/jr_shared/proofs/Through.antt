@@ -15,8 +15,7 @@ use Rattle.oak_machine.specs.History.{History, Past}
 use Rattle.oak_machine.specs.Laws.{AreOthers, after}
 use Rattle.oak_machine.specs.Runs.{IsRun}
 use Rattle.oak_machine.specs.Sessions.{base_of, has_left}
-use Rattle.oak_node.specs.Pins.{pin_of}
-use Rattle.core_world.specs.States.{State, memory_of}
+use Rattle.core_world.specs.States.{State, actor_pin, memory_of}
 use Rattle.oak_port.specs.declared.task.StepOut.{StepOut}
 use Rattle.oak_port.specs.declared.task.Task.{Task}
 use Rattle.oak_port.specs.Ports.{ActedAlone, AreOfStep, Answers, Grows, Idle, IsWait, Makes, OthersAlone, Starting, StaysSo, Steps, Work as Shows, is_by_due}
@@ -213,7 +212,7 @@ module _ {L : Type 0} (law : Ghosts L) (old new : Known L) (s : ℕ) (made : Wor
 
       -- ---- a task begins
 
-      pub starts_ok : (t : Task) → (v : Work) × Begins (pin_of (memory_of (state_of got) s) s) t v × (left ≡ with_work got s v)
+      pub starts_ok : (t : Task) → (v : Work) × Begins (actor_pin (state_of got) s) t v × (left ≡ with_work got s v)
           → (actor_by old s).work ≡ work.Rest
           → OthersAlone (law.may_start l) (law.may_say l) (shown_through name old s) (shown_through name new s) (Starting t) (actor_by old s).reply
       starts_ok t b rests =

@@ -12,9 +12,8 @@ use Rattle.jr_rev.specs.declared.vector.Pin.{Pin}
 use Rattle.oak_machine.specs.declared.event.StepKind.{StepKind}
 use Rattle.oak_machine.specs.Asked.{AreAsked}
 use Rattle.oak_machine.specs.Sessions.{base_of, has_left}
-use Rattle.oak_node.specs.Pins.{pin_of}
 use Rattle.core_world.specs.Kept.{IsKept}
-use Rattle.core_world.specs.States.{memory_of}
+use Rattle.core_world.specs.States.{actor_pin}
 use Rattle.oak_port.specs.declared.task.StepOut.{StepOut}
 use Rattle.oak_port.specs.declared.task.Task.{Task}
 use Rattle.oak_port.specs.Ports.{IsWait, Steps}
@@ -122,7 +121,7 @@ module _ {L : Type 0} where
 
   -- session s is told a task; where memory is refused nothing changes
   pub record Begun (w : WorldOf L) (s : ℕ) (t : Task) (r : Result Unit AllocError) (u : WorldOf L) : Type 0 where
-    pub ok : OnOk r ((v : Work) × Begins (pin_of (memory_of (state_of w) s) s) t v × (u ≡ with_work w s v))
+    pub ok : OnOk r ((v : Work) × Begins (actor_pin (state_of w) s) t v × (u ≡ with_work w s v))
     pub err : OnErr r (u ≡ w)
 
   -- session s makes a step, of which a port tells what it may tell, and which lowers the number of steps that are left of its task, or it waits
@@ -137,10 +136,10 @@ module _ {L : Type 0} where
     pub due : r ≡ kind_due (work_in w.actors s)
     pub busy : IsSome r ↔ (work_in w.actors s ≢ work.Rest)
 
-  -- the session's pin was told, and the world is as it was
+  -- the pin at which the session reads was told, and the world is as it was
   pub record PinIs (w : WorldOf L) (s : ℕ) (r : Option Pin) (u : WorldOf L) : Type 0 where
     pub same : u ≡ w
-    pub pin : r ≡ pin_of (memory_of (state_of w) s) s
+    pub pin : r ≡ actor_pin (state_of w) s
     pub base : IsFalse (has_left w.history.past s) → option_map (λ pin. pin.base) r ≡ base_of w.history.past s
 
   -- so many bytes, and a place of the journal, are kept for its next reply; where memory is refused nothing changes

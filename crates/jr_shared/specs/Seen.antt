@@ -55,6 +55,7 @@ module _ {L : Type 0} where
     memories = option_map_or (λ w. w.memories) v.steady [];
     running = λ q. None;
     reading = λ q. None;
+    observing = λ q. None;
     formers = λ p k. None;
   }
 

@@ -153,7 +153,8 @@ impl<L: Law + Drop> SharedWorld<L> {
         due
     }
 
-    /// The pin of a session of the pass; None before its login and once it has left.
+    /// The pin at which a session of the pass reads: while it is attached to a checkpoint that which
+    /// the settings keep for it, else that of its node's memory, where it has come and not left.
     pub fn pin<R: Wait>(&self, rt: &R, pass: &mut Pass<LockedWorld<L>>, actor: u32) -> Option<Pin>
         requires own { IsOf self.now.lock pass.old }
         requires seat { IsTrue (has_seat (view_of pass.old) actor) }

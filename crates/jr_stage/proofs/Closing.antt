@@ -143,7 +143,7 @@ rests script past s (inr h) = or_later (is_waiting script past s) _ h
 first_of_step : (script : Script) (past : Past) (s : ℕ) (due : Option StepKind) (own : Past) → IsStepAt script past s due own → is_turn script s past own ≡ true
 first_of_step script past s due own step = by step.events step.step
   where
-    by : IsSingle past s own ⊎ IsDouble script past s own → is_one_step (history_at script past) s (reverse own) ≡ true → is_turn script s past own ≡ true
+    by : IsSingle script past s own ⊎ IsDouble script past s own → is_one_step (history_at script past) s (reverse own) ≡ true → is_turn script s past own ≡ true
     by (inl one) h = subst (λ (o : Past). is_turn script s past o ≡ true) (sym one.is) (subst (λ (o : Past). is_one_step (history_at script past) s (reverse o) ≡ true) one.is h)
     by (inr two) h = subst (λ (o : Past). is_turn script s past o ≡ true) (sym two.is) (subst (λ (o : Past). is_one_step (history_at script past) s (reverse o) ≡ true) two.is h)
 

@@ -19,11 +19,11 @@ use Rattle.oak_machine.specs.Commits.{is_committed, is_ended}
 use Rattle.oak_machine.specs.Heads.{head_of}
 use Rattle.oak_machine.specs.Laws.{after, is_event_of, is_revision_of}
 use Rattle.oak_machine.specs.Runs.{AreNodes, IsRun, IsRunOf}
-use Rattle.oak_machine.specs.Sessions.{has_left, is_drawing, is_end_of_session, is_reply_of, next_index}
-use Rattle.oak_machine.specs.Steps.{is_appended_by, is_kind, is_moving, is_one_step, kind_number, kinds_for, leaves_went}
+use Rattle.oak_machine.specs.Sessions.{has_left, is_drawing, is_end_of_session, is_reply_of, is_stopped, next_index}
+use Rattle.oak_machine.specs.Steps.{is_appended_by, is_kind, is_moving, is_on, is_one_step, kind_number, kinds_for, leaves_went}
 use Rattle.oak_machine.proofs.Stays.{any_later}
 use Rattle.core_heads.proofs.Passing.{next_stays}
-use Rattle.oak_port.specs.Ports.{Awaiting, Beside, Deciding, Idle, Seat as PortSeat, Shown, Starting, Undoing, Work, Writing, is_by_due, Publishing, Learning}
+use Rattle.oak_port.specs.Ports.{Awaiting, Beside, Deciding, Idle, Seat as PortSeat, Shown, Starting, Undoing, Work, Writing, is_by_due, Publishing, Learning, Detaching}
 use Rattle.oak_world.specs.Seen.{no_seat, seat_of, shown_at, shown_work}
 use Rattle.oak_world.specs.Worlds.{ActorState, WorldOf, actor_in, idle, live, work_in}
 use Rattle.jcr_law.specs.declared.law.JcrLaw.{JcrLaw}
@@ -36,14 +36,15 @@ use Rattle.jr_script.specs.declared.script.Script.{Script}
 use Rattle.jcr_trans.specs.declared.command.SessionScript.{SessionScript}
 use Rattle.jr_stage.specs.declared.stage.Seat.{Seat}
 use Rattle.jr_stage.specs.Awaited.{IsSeenBut}
-use Rattle.jr_stage.specs.Flights.{IsFlight}
-use Rattle.jr_stage.specs.Places.{commands_of, history_at, is_commit, is_over, is_own, is_resting, is_unseen, is_waiting, is_write_or_mark}
-use Rattle.jr_stage.specs.SoFar.{IsDouble, IsSingle, IsStepAt, is_last_due}
+use Rattle.jr_stage.specs.declared.flight.Flight.{Flight}
+use Rattle.jr_stage.specs.Flights.{IsFlight, flight_with}
+use Rattle.jr_stage.specs.Places.{commands_of, history_at, is_commit, is_over, is_own, is_resting, is_unseen, is_waiting, is_write_or_mark, tells_of_none}
+use Rattle.jr_stage.specs.SoFar.{IsDouble, IsMadeBy, IsSingle, IsStepAt, is_last_due}
 use Rattle.jr_stage.specs.Stages.{IsSeated, awaited, due_at, flight_behind, law_of}
 use Rattle.jr_stage.proofs.Flying.{flight_head, flight_other, flight_own, halves, none_is_some, some_is_some}
 use Rattle.jr_stage.proofs.Renaming.{stands_renamed}
 use Rattle.jr_stage.proofs.Seen.{cluster_of, moving_sees, node_of, not_waiting, was_unseen}
-use Rattle.jr_stage.proofs.SoFar.{one_session}
+use Rattle.jr_stage.proofs.SoFar.{not_of_another, one_session, unnamed_own}
 
 -- ---- seats
 
@@ -75,7 +76,7 @@ other_seats old new s t same other =
 
 -- ---- the events of a step
 
-appended_one : (h : History) (s : ℕ) (k : StepKind) (e : Event) (l : List Event) → is_appended_by h s k (e ∷ l) ≡ list_any (is_kind k) (kinds_for h s (e ∷ l))
+pub appended_one : (h : History) (s : ℕ) (k : StepKind) (e : Event) (l : List Event) → is_appended_by h s k (e ∷ l) ≡ list_any (is_kind k) (kinds_for h s (e ∷ l))
 appended_one h s kind.Read e l = refl
 appended_one h s k e l = refl
 
@@ -87,15 +88,39 @@ some_kind : (k : StepKind) (ks : List StepKind) → list_any (is_kind k) ks ≡ 
 some_kind k [] h = h
 some_kind k (j ∷ ks) h = refl
 
-own_of : (h : History) (s : ℕ) (k : StepKind) (e : Event) → list_any (is_kind k) (kinds_for h s (e ∷ [])) ≡ true → is_step_event e ≡ true → is_own h.past s e ≡ true
-own_of h s k (event.Login t v) a step = where_true k (t == s) _ a
-own_of h s k (event.Refresh t v) a step = where_true k (t == s) _ a
-own_of h s k (event.Draw d) a step = where_true k (d.session == s) _ a
-own_of h s k (event.Commit r) a step = where_true k (is_revision_of h.past s r) _ a
-own_of h s k (event.Refuse r item o) a step = where_true k (is_revision_of h.past s r) _ a
-own_of h s k (event.End r) a step = (halves (is_revision_of h.past s r) _ (where_true k (is_revision_of h.past s r && not (is_moving h r)) _ a)).0
-own_of h s k (event.Went t j) a step = (halves (t == s) _ (where_true k (t == s && leaves_went j) _ a)).0
-own_of h s k e a step = absurd (false≢true step)
+or_first : (a b : Bool) → a ≡ true → (a || b) ≡ true
+or_first true b h = refl
+or_first false b h = absurd (false≢true h)
+
+-- it is of the step's session; or it tells of no session, and nothing of that one is in flight
+made_of : (script : Script) (past : Past) (s : ℕ) (k : StepKind) (e : Event) → list_any (is_kind k) (kinds_for (history_at script past) s (e ∷ [])) ≡ true → is_step_event e ≡ true
+    → (tells_of_none e ≡ true → is_drawing past s ≡ false) → IsMadeBy script past s e
+made_of script past s k (event.Login t v) a step idle = inl (where_true k (t == s) _ a)
+made_of script past s k (event.Refresh t v) a step idle = inl (where_true k (t == s) _ a)
+made_of script past s k (event.Draw d) a step idle = inl (where_true k (d.session == s) _ a)
+made_of script past s k (event.Commit r) a step idle = inl (where_true k (is_revision_of past s r) _ a)
+made_of script past s k (event.Refuse r item o) a step idle = inl (where_true k (is_revision_of past s r) _ a)
+made_of script past s k (event.End r) a step idle = inl (halves (is_revision_of past s r) _ (where_true k (is_revision_of past s r && not (is_moving (history_at script past) r)) _ a)).0
+made_of script past s k (event.Went t j) a step idle = inl (halves (t == s) _ (where_true k (t == s && leaves_went j) _ a)).0
+made_of script past s k (event.Attach t id) a step idle = inl (where_true k (t == s) _ a)
+made_of script past s k (event.Detach t) a step idle = inl (where_true k (t == s) _ a)
+made_of script past s k (event.Out c r) a step idle =
+    inr (record { none = refl; made = or_first (is_on (history_at script past) s c) (is_stopped past c) (where_true k (is_on (history_at script past) s c) _ a); idle = idle refl })
+made_of script past s k (event.In c v) a step idle = inr (record { none = refl; made = where_true k (is_on (history_at script past) s c) _ a; idle = idle refl })
+made_of script past s k (event.Checkpoint id v) a step idle = inr (record { none = refl; made = refl; idle = idle refl })
+made_of script past s k (event.Release id) a step idle = inr (record { none = refl; made = refl; idle = idle refl })
+made_of script past s k e a step idle = absurd (false≢true step)
+
+-- what tells of no session changes nothing of what is kept of a commit
+flight_none : (e : Event) (o : Option Flight) → tells_of_none e ≡ true → flight_with e o ≡ o
+flight_none (event.Out k r) o none = refl
+flight_none (event.In k v) o none = refl
+flight_none (event.Checkpoint id v) o none = refl
+flight_none (event.Release id) o none = refl
+flight_none e o none = absurd (false≢true none)
+
+one_event : (a b : Event) (l : Past) → l ≡ a ∷ [] → l ≡ b ∷ [] → a ≡ b
+one_event a b l one other = some_is_some a b (ap (λ (p : Past). slice_get p 0) (sym one ∙ other))
 
 no_reply : (s : ℕ) (e : Event) → is_step_event e ≡ true → is_reply_of s e ≡ false
 no_reply s (event.Said t i text) step = absurd (false≢true step)
@@ -198,6 +223,7 @@ module _ (script : Script) (n : GName) (s : ℕ) (old new : WorldOf JcrLaw) (sea
   awaited_seen (Starting t) r is seen = none_is_some r is
   awaited_seen (Publishing q) r is seen = none_is_some r is
   awaited_seen (Learning u) r is seen = none_is_some r is
+  awaited_seen (Detaching v) r is seen = none_is_some r is
   awaited_seen (Writing q) r is seen = none_is_some r is
   awaited_seen (Undoing q e) r is seen = none_is_some r is
   awaited_seen (Deciding q) r is seen = none_is_some r is
@@ -295,25 +321,31 @@ module _ (script : Script) (n : GName) (s : ℕ) (old new : WorldOf JcrLaw) (sea
           at_node : slice_get (map (λ (x : SessionScript). x.cluster) script.sessions) s ≡ Some r.cluster
           at_node = cluster_of script.clusters (map (λ x. x.cluster) script.sessions) nodes (starts_of old.law) (says_of old.law) past run_mid.1 s r theirs
 
-    pub stepped : (k : StepKind) → is_appended_by (history_at script past) s k (reverse own) ≡ true → IsOneStep own → IsStepAt script past s (due_at old s) own × (list_any (is_reply_of s) own ≡ false)
-    stepped k appended (inl (e, is, plain)) =
+    -- where the step appends an event that tells of no session, no commit is under way
+    abbrev pub IsCalmStep : Type 0
+    IsCalmStep = (e : Event) → own ≡ e ∷ [] → tells_of_none e ≡ true → (is_drawing past s ≡ false) × (is_last_due (due_at old s) ≡ false)
+
+    pub stepped : (k : StepKind) → IsCalmStep → is_appended_by (history_at script past) s k (reverse own) ≡ true → IsOneStep own → IsStepAt script past s (due_at old s) own × (list_any (is_reply_of s) own ≡ false)
+    stepped k calm appended (inl (e, is, plain)) =
         let one : list_any (is_kind k) (kinds_for (history_at script past) s (e ∷ [])) ≡ true = sym (appended_one (history_at script past) s k e []) ∙ subst (λ (o : Past). is_appended_by (history_at script past) s k (reverse o) ≡ true) is appended in (
           record {
-            events = inl (record { event = e; is = is; theirs = own_of (history_at script past) s k e one plain });
+            events = inl (record { event = e; is = is; made = made_of script past s k e one plain (λ none. (calm e is none).0) });
             step = subst (λ (o : Past). is_one_step (history_at script past) s (reverse o) ≡ true) (sym is) (some_kind k _ one);
             awake = awake;
             written = λ f same last. not_written (due_at old s) f (subst (λ (o : Past). is_by_due (due_at old s) o ≡ true) same step.as_due) last;
             committed = λ f same commits. last_due (due_at old s) f (subst (λ (o : Past). is_by_due (due_at old s) o ≡ true) same step.as_due) commits;
+            unnamed = λ f same none. (calm f same none).1;
           },
           subst (λ (o : Past). list_any (is_reply_of s) o ≡ false) (sym is) (or_none (is_reply_of s e) false (no_reply s e plain) refl),
         )
-    stepped k appended (inr (c, v, r, is)) = (
+    stepped k calm appended (inr (c, v, r, is)) = (
       record {
         events = inr (double k c v r is appended);
         step = subst (λ (o : Past). is_one_step (history_at script past) s (reverse o) ≡ true) (sym is) (some_kind k (kinds_for (history_at script past) s (event.End r ∷ event.Head c v ∷ [])) (sym (appended_one (history_at script past) s k (event.End r) (event.Head c v ∷ [])) ∙ subst (λ (o : Past). is_appended_by (history_at script past) s k (reverse o) ≡ true) is appended));
         awake = awake;
         written = λ f same last. not_written (due_at old s) f (subst (λ (o : Past). is_by_due (due_at old s) o ≡ true) same step.as_due) last;
         committed = λ f same commits. last_due (due_at old s) f (subst (λ (o : Past). is_by_due (due_at old s) o ≡ true) same step.as_due) commits;
+        unnamed = λ f same none. (calm f same none).1;
       },
       subst (λ (o : Past). list_any (is_reply_of s) o ≡ false) (sym is) refl,
     )
@@ -328,12 +360,18 @@ module _ (script : Script) (n : GName) (s : ℕ) (old new : WorldOf JcrLaw) (sea
     run_as : (o : Past) → own ≡ o → IsRunOf (starts_of old.law) (says_of old.law) script.clusters (map (λ x. x.cluster) script.sessions) None (o ++ past)
     run_as o is = subst (λ (o : Past). IsRunOf (starts_of old.law) (says_of old.law) script.clusters (map (λ x. x.cluster) script.sessions) None (o ++ past)) is run_new
 
-    pub flight_stepped : (k : StepKind) → is_appended_by (history_at script past) s k (reverse own) ≡ true → IsOneStep own → IsFlight (own ++ past) s (flight_behind (own ++ past) seat.flight)
-    flight_stepped k appended (inl (e, is, plain)) =
+    pub flight_stepped : (k : StepKind) → IsCalmStep → is_appended_by (history_at script past) s k (reverse own) ≡ true → IsOneStep own → IsFlight (own ++ past) s (flight_behind (own ++ past) seat.flight)
+    flight_stepped k calm appended (inl (e, is, plain)) =
         let one : list_any (is_kind k) (kinds_for (history_at script past) s (e ∷ [])) ≡ true = sym (appended_one (history_at script past) s k e []) ∙ subst (λ (o : Past). is_appended_by (history_at script past) s k (reverse o) ≡ true) is appended in
         subst (λ (o : Past). IsFlight (o ++ past) s (flight_behind (o ++ past) seat.flight)) (sym is)
-        (flight_own script.clusters (map (λ x. x.cluster) script.sessions) nodes (starts_of old.law) (says_of old.law) s e past seat.flight (run_as (e ∷ []) is) (own_of (history_at script past) s k e one plain) seated.flight)
-    flight_stepped k appended (inr (c, v, r, is)) =
+        (by e (run_as (e ∷ []) is) (made_of script past s k e one plain (λ none. (calm e is none).0)))
+      where
+        by : (e : Event) → IsRunOf (starts_of old.law) (says_of old.law) script.clusters (map (λ x. x.cluster) script.sessions) None (e ∷ past) → IsMadeBy script past s e → IsFlight (e ∷ past) s (flight_with e seat.flight)
+        by e run (inl mine) = flight_own script.clusters (map (λ x. x.cluster) script.sessions) nodes (starts_of old.law) (says_of old.law) s e past seat.flight run mine seated.flight
+        by e run (inr un) =
+            subst (λ (o : Option Flight). IsFlight (e ∷ past) s o) (sym (flight_none e seat.flight un.none))
+            (flight_other script.clusters (map (λ x. x.cluster) script.sessions) nodes (starts_of old.law) (says_of old.law) s e past seat.flight run (unnamed_own past s e un.none) seated.flight)
+    flight_stepped k calm appended (inr (c, v, r, is)) =
         subst (λ (o : Past). IsFlight (o ++ past) s (flight_behind (o ++ past) seat.flight)) (sym is)
         (flight_head script.clusters (map (λ x. x.cluster) script.sessions) nodes (starts_of old.law) (says_of old.law) s c v (event.End r ∷ past) (idle_mid k c v r is appended))
 
@@ -365,11 +403,12 @@ module _ (script : Script) (n : GName) (s : ℕ) (old new : WorldOf JcrLaw) (sea
 
     pub said : (i : ℕ) (text : _) → own ≡ event.Said s i text ∷ [] → IsStepAt script past s (due_at old s) own
     said i text is = record {
-      events = inl (record { event = event.Said s i text; is = is; theirs = itself s });
+      events = inl (record { event = event.Said s i text; is = is; made = inl (itself s) });
       step = subst (λ (o : Past). is_one_step (history_at script past) s (reverse o) ≡ true) (sym is) (ap (λ b. list_any (λ j. true) (cond b (kind.Say ∷ []) [])) (itself s));
       awake = awake;
       written = λ f same last. not_written (due_at old s) f (subst (λ (o : Past). is_by_due (due_at old s) o ≡ true) same step.as_due) last;
       committed = λ f same commits. last_due (due_at old s) f (subst (λ (o : Past). is_by_due (due_at old s) o ≡ true) same step.as_due) commits;
+      unnamed = λ f same none. absurd (false≢true (subst (λ (x : Event). tells_of_none x ≡ true) (sym (one_event (event.Said s i text) f own is same)) none));
     }
 
   -- ---- the session itself
@@ -384,7 +423,7 @@ module _ (script : Script) (n : GName) (s : ℕ) (old new : WorldOf JcrLaw) (sea
 
   -- the events are none, or those of a step
   abbrev Shape : Type 0
-  Shape = (own ≡ []) ⊎ (IsSingle past s own ⊎ IsDouble script past s own)
+  Shape = (own ≡ []) ⊎ (IsSingle script past s own ⊎ IsDouble script past s own)
 
   seats_same : slice_set (map seat_of new.actors) s no_seat ≡ slice_set (map seat_of old.actors) s no_seat
   seats_same = seats_are _ _ (ap (λ (b : Beside). b.seats) turned.beside)
@@ -398,7 +437,7 @@ module _ (script : Script) (n : GName) (s : ℕ) (old new : WorldOf JcrLaw) (sea
   module _ (t : ℕ) (other : (t == s) ≡ false) where
     are_others : Shape → list_any (is_event_of (own ++ past) t) own ≡ false
     are_others (inl none) = subst (λ (o : Past). list_any (is_event_of (o ++ past) t) o ≡ false) (sym none) refl
-    are_others (inr (inl one)) = subst (λ (o : Past). list_any (is_event_of (o ++ past) t) o ≡ false) (sym one.is) (or_none (is_event_of (one.event ∷ past) t one.event) false (not_event_of past t one.event (one_session past t s other one.event one.theirs)) refl)
+    are_others (inr (inl one)) = subst (λ (o : Past). list_any (is_event_of (o ++ past) t) o ≡ false) (sym one.is) (or_none (is_event_of (one.event ∷ past) t one.event) false (not_event_of past t one.event (not_of_another script past t s other one.event one.made)) refl)
     are_others (inr (inr two)) = subst (λ (o : Past). list_any (is_event_of (o ++ past) t) o ≡ false) (sym two.is) refl
 
     pub over_other : Shape → is_over script past t ≡ true → is_over script (own ++ past) t ≡ true
@@ -445,7 +484,7 @@ module _ (script : Script) (n : GName) (s : ℕ) (old new : WorldOf JcrLaw) (sea
           by (inl none) = subst (λ (o : Past). IsFlight (o ++ past) t theirs.flight) (sym none) their_seat.flight
           by (inr (inl one)) = subst (λ (o : Past). IsFlight (o ++ past) t theirs.flight) (sym one.is)
               (flight_other script.clusters (map (λ x. x.cluster) script.sessions) nodes (starts_of old.law) (says_of old.law) t one.event past theirs.flight
-              (subst (λ (o : Past). IsRunOf (starts_of old.law) (says_of old.law) script.clusters (map (λ x. x.cluster) script.sessions) None (o ++ past)) one.is run_new) (one_session past t s other one.event one.theirs) their_seat.flight)
+              (subst (λ (o : Past). IsRunOf (starts_of old.law) (says_of old.law) script.clusters (map (λ x. x.cluster) script.sessions) None (o ++ past)) one.is run_new) (not_of_another script past t s other one.event one.made) their_seat.flight)
           by (inr (inr two)) =
               let run = subst (λ (o : Past). IsRunOf (starts_of old.law) (says_of old.law) script.clusters (map (λ x. x.cluster) script.sessions) None (o ++ past)) two.is run_new in
               subst (λ (o : Past). IsFlight (o ++ past) t theirs.flight) (sym two.is)
@@ -455,12 +494,12 @@ module _ (script : Script) (n : GName) (s : ℕ) (old new : WorldOf JcrLaw) (sea
       awaits_same : (r : Revision) → awaited (shown_work (work_in old.actors t)) ≡ Some r → awaited (shown_work (work_in new.actors t)) ≡ Some r
       awaits_same r h = ap (λ (x : PortSeat). awaited x.work) (other_seat t other) ∙ h
 
-      seen_event : (e : Event) → IsRunOf (starts_of old.law) (says_of old.law) script.clusters (map (λ x. x.cluster) script.sessions) None (e ∷ past) → is_own past s e ≡ true → (r : Revision) → is_revision_of (e ∷ past) t r ≡ true → is_unseen script (e ∷ past) r ≡ true → awaited (shown_work (work_in old.actors t)) ≡ Some r
+      seen_event : (e : Event) → IsRunOf (starts_of old.law) (says_of old.law) script.clusters (map (λ x. x.cluster) script.sessions) None (e ∷ past) → IsMadeBy script past s e → (r : Revision) → is_revision_of (e ∷ past) t r ≡ true → is_unseen script (e ∷ past) r ≡ true → awaited (shown_work (work_in old.actors t)) ≡ Some r
       seen_event e run mine r own_is unseen = cases (was_unseen script.clusters (map (λ x. x.cluster) script.sessions) nodes (starts_of old.law) (says_of old.law) script refl past t r e run own_is unseen)
         where
           cases : ((is_revision_of past t r ≡ true) × (is_unseen script past r ≡ true)) ⊎ ((e ≡ event.End r) × (is_revision_of past t r ≡ true) × (is_committed past r ≡ true)) → awaited (shown_work (work_in old.actors t)) ≡ Some r
           cases (inl (m, u)) = their_seat.seen r m u
-          cases (inr (same, m, committed)) = absurd (false≢true (sym (one_session past t s other (event.End r) (subst (λ (x : Event). is_own past s x ≡ true) same mine)) ∙ m))
+          cases (inr (same, m, committed)) = absurd (false≢true (sym (not_of_another script past t s other (event.End r) (subst (λ (x : Event). IsMadeBy script past s x) same mine)) ∙ m))
 
       seen_others : IsSeenBut script (own ++ past) t (awaited (shown_work (work_in new.actors t)))
       seen_others = by shape
@@ -468,7 +507,7 @@ module _ (script : Script) (n : GName) (s : ℕ) (old new : WorldOf JcrLaw) (sea
           by : Shape → IsSeenBut script (own ++ past) t (awaited (shown_work (work_in new.actors t)))
           by (inl none) = subst (λ (o : Past). IsSeenBut script (o ++ past) t (awaited (shown_work (work_in new.actors t)))) (sym none) (λ r m u. awaits_same r (their_seat.seen r m u))
           by (inr (inl one)) = subst (λ (o : Past). IsSeenBut script (o ++ past) t (awaited (shown_work (work_in new.actors t)))) (sym one.is)
-              (λ r m u. awaits_same r (seen_event one.event (subst (λ (o : Past). IsRunOf (starts_of old.law) (says_of old.law) script.clusters (map (λ x. x.cluster) script.sessions) None (o ++ past)) one.is run_new) one.theirs r m u))
+              (λ r m u. awaits_same r (seen_event one.event (subst (λ (o : Past). IsRunOf (starts_of old.law) (says_of old.law) script.clusters (map (λ x. x.cluster) script.sessions) None (o ++ past)) one.is run_new) one.made r m u))
           by (inr (inr two)) = subst (λ (o : Past). IsSeenBut script (o ++ past) t (awaited (shown_work (work_in new.actors t)))) (sym two.is) (λ r m u. awaits_same r (behind_head r m u))
             where
               run_two : IsRunOf (starts_of old.law) (says_of old.law) script.clusters (map (λ x. x.cluster) script.sessions) None (event.Head two.cluster two.head ∷ event.End two.revision ∷ past)
@@ -478,7 +517,7 @@ module _ (script : Script) (n : GName) (s : ℕ) (old new : WorldOf JcrLaw) (sea
               behind_head r m u = cases (was_unseen script.clusters (map (λ x. x.cluster) script.sessions) nodes (starts_of old.law) (says_of old.law) script refl (event.End two.revision ∷ past) t r (event.Head two.cluster two.head) run_two m u)
                 where
                   cases : ((is_revision_of (event.End two.revision ∷ past) t r ≡ true) × (is_unseen script (event.End two.revision ∷ past) r ≡ true)) ⊎ ((event.Head two.cluster two.head ≡ event.End r) × (is_revision_of (event.End two.revision ∷ past) t r ≡ true) × (is_committed (event.End two.revision ∷ past) r ≡ true)) → awaited (shown_work (work_in old.actors t)) ≡ Some r
-                  cases (inl (m, u)) = seen_event (event.End two.revision) run_two.1 two.theirs r m u
+                  cases (inl (m, u)) = seen_event (event.End two.revision) run_two.1 (inl two.theirs) r m u
                   cases (inr (same, m, committed)) = absurd (false≢true (ap is_end same))
 
       -- another session is seated as it was

@@ -38,7 +38,7 @@ number_itself n = grind (arith, nat_tests)
 -- ---- replies among the events of a step
 
 module _ (s : ℕ) (part : Past) where
-  pub not_said : (own : Past) (script : Script) (past : Past) → IsSingle past s own ⊎ IsDouble script past s own → list_any (is_reply_of s) own ≡ false → has_just_said s (own ++ part) ≡ false
+  pub not_said : (own : Past) (script : Script) (past : Past) → IsSingle script past s own ⊎ IsDouble script past s own → list_any (is_reply_of s) own ≡ false → has_just_said s (own ++ part) ≡ false
   not_said own script past (inl one) none = subst (λ (o : Past). has_just_said s (o ++ part) ≡ false) (sym one.is) (first (is_reply_of s one.event) (subst (λ (o : Past). list_any (is_reply_of s) o ≡ false) one.is none))
     where
       first : (b : Bool) → (b || false) ≡ false → b ≡ false
@@ -46,7 +46,7 @@ module _ (s : ℕ) (part : Past) where
       first false h = refl
   not_said own script past (inr two) none = subst (λ (o : Past). has_just_said s (o ++ part) ≡ false) (sym two.is) refl
 
-  pub same_count : (own : Past) (script : Script) (past : Past) → IsSingle past s own ⊎ IsDouble script past s own → list_any (is_reply_of s) own ≡ false → count_by (is_reply_of s) (own ++ part) ≡ count_by (is_reply_of s) part
+  pub same_count : (own : Past) (script : Script) (past : Past) → IsSingle script past s own ⊎ IsDouble script past s own → list_any (is_reply_of s) own ≡ false → count_by (is_reply_of s) (own ++ part) ≡ count_by (is_reply_of s) part
   same_count own script past (inl one) none = subst (λ (o : Past). count_by (is_reply_of s) (o ++ part) ≡ count_by (is_reply_of s) part) (sym one.is)
       (ap (λ b. fold (λ n x. n + cond (is_reply_of s x) 1 0) (0 + cond b 1 0) part) (first (is_reply_of s one.event) (subst (λ (o : Past). list_any (is_reply_of s) o ≡ false) one.is none)))
     where

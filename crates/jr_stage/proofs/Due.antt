@@ -35,6 +35,9 @@ upkeep_commits upkeep.Read h = false≢true h
 upkeep_commits (upkeep.Learn last sweep) h = false≢true h
 upkeep_commits (upkeep.Checkpoint i) h = false≢true h
 upkeep_commits (upkeep.Release i) h = false≢true h
+upkeep_commits (upkeep.Attach i) h = false≢true h
+upkeep_commits upkeep.Detach h = false≢true h
+upkeep_commits (upkeep.Detaching pin) h = false≢true h
 upkeep_commits upkeep.Observe h = false≢true h
 
 pub last_commits : (w : Work) → is_last_due (kind_due w) ≡ true → at_commit (shown_work w) ≡ true

@@ -22,7 +22,7 @@ use Rattle.jr_stage.specs.Places.{is_own}
 use Rattle.jr_stage.specs.SoFar.{IsDouble, IsSingle}
 use Rattle.jr_stage.proofs.Flying.{flight_other, flying_by, halves, same_itself}
 use Rattle.jr_stage.proofs.Seen.{known}
-use Rattle.jr_stage.proofs.SoFar.{one_session}
+use Rattle.jr_stage.proofs.SoFar.{not_of_another, one_session}
 
 equal : (a b : ℕ) → (a == b) ≡ true → a ≡ b
 equal a b h = grind (arith, nat_tests)
@@ -233,11 +233,11 @@ module _ (clusters : ℕ) (sessions : List ℕ) (nodes : AreNodes clusters sessi
 
   module _ (script : Script) (s : ℕ) (past : Past) where
     -- the events of a turn of s
-    pub turn_leaves : (own : Past) → IsRunOf starts says clusters sessions None (own ++ past) → (own ≡ []) ⊎ (IsSingle past s own ⊎ IsDouble script past s own) → LeavesOthers past (own ++ past) s
+    pub turn_leaves : (own : Past) → IsRunOf starts says clusters sessions None (own ++ past) → (own ≡ []) ⊎ (IsSingle script past s own ⊎ IsDouble script past s own) → LeavesOthers past (own ++ past) s
     turn_leaves own run (inl none) = subst (λ (o : Past). LeavesOthers past (o ++ past) s) (sym none) (leaves_same past s)
     turn_leaves own run (inr (inl one)) =
         subst (λ (o : Past). LeavesOthers past (o ++ past) s) (sym one.is)
-        (event_leaves past s one.event (subst (λ (o : Past). IsRunOf starts says clusters sessions None (o ++ past)) one.is run) (λ t apart. one_session past t s apart one.event one.theirs))
+        (event_leaves past s one.event (subst (λ (o : Past). IsRunOf starts says clusters sessions None (o ++ past)) one.is run) (λ t apart. not_of_another script past t s apart one.event one.made))
     turn_leaves own run (inr (inr two)) =
         let ran : IsRunOf starts says clusters sessions None (event.Head two.cluster two.head ∷ event.End two.revision ∷ past) = subst (λ (o : Past). IsRunOf starts says clusters sessions None (o ++ past)) two.is run in
         subst (λ (o : Past). LeavesOthers past (o ++ past) s) (sym two.is)

@@ -8,7 +8,7 @@ use Rattle.jcr_session.specs.declared.turn.Turn.{Turn}
 use Rattle.jcr_session.specs.declared.turn.Turn.TheVariants as turn
 use Rattle.jr_script.specs.declared.script.Entry.{Entry}
 use Rattle.jr_stage.specs.declared.stage.Stage.{Stage}
-use Rattle.jr_stage.specs.Nearing.{StepsNearer, commits_at, left_at, steps_at}
+use Rattle.jr_stage.specs.Nearing.{StepsNearer, works_at, left_at, steps_at}
 use Rattle.jr_stage.specs.Stages.{AreSteps, EndsSteps, HasCome, IsNearerOrCome, IsStage, IsThrough, StepsUntil, comes_to, has_come, no_step, one_step}
 
 -- ---- numbers
@@ -56,7 +56,7 @@ first_step s until old new k short come = one_step old new k no_step short come
 
 -- what a step brings nearer is no more than it was
 step_less : (old new : Stage) (s : ℕ) (k : StepKind) → HasCome old new s (turn.Stepped k) → left_at new s ≤ left_at old s
-step_less old new s k come = by (commits_at old s && commits_at new s) come.nears
+step_less old new s k come = by (works_at old s && works_at new s) come.nears
   where
     by : (b : Bool) → StepsNearer b old new s → left_at new s ≤ left_at old s
     by true h = at_most (left_at new s) (left_at old s) h.0
@@ -100,12 +100,12 @@ module _ (old mid new : Stage) (s : ℕ) (until : Option Entry) (steps : AreStep
   until_all more (Ok answer) h = until_behind more answer h
   until_all more (Err e) h = tt
 
--- a step, and what is made of the commit behind it, brings the session nearer
+-- a step, and what is made of the task behind it, brings the session nearer
 module _ (old mid new : Stage) (s : ℕ) (until : Option Entry) (k : StepKind) (short : comes_to old s until ≡ false) (come : HasCome old mid s (turn.Stepped k)) where
   through_nearer : IsThrough mid new s until → IsNearerOrCome old new s until
-  through_nearer (most, inr less) = inl (by (commits_at old s) (commits_at mid s) refl come.nears)
+  through_nearer (most, inr less) = inl (by (works_at old s) (works_at mid s) refl come.nears)
     where
-      by : (b c : Bool) → commits_at mid s ≡ c → StepsNearer (b && c) old mid s → left_at new s < left_at old s
+      by : (b c : Bool) → works_at mid s ≡ c → StepsNearer (b && c) old mid s → left_at new s < left_at old s
       by true true commits h = less_than (left_at new s) (left_at mid s) (left_at old s) (less commits) (at_most (left_at mid s) (left_at old s) h.0)
       by true false commits h = under (left_at new s) (left_at mid s) (left_at old s) most h
       by false c commits h = under (left_at new s) (left_at mid s) (left_at old s) most h
@@ -114,18 +114,18 @@ module _ (old mid new : Stage) (s : ℕ) (until : Option Entry) (k : StepKind) (
   pub goes_on : {E : Type 0} (result : Result Turn E) → IfOk result (StepsUntil (IsThrough mid new s until) mid new s until) → IfOk result (StepsUntil (IsNearerOrCome old new s until) old new s until)
   goes_on result h = until_all old mid new s until (first_step s until old mid k short come) (step_less old mid s k come) through_nearer result h
 
--- ---- a commit goes on
+-- ---- a commit or another task goes on
 
--- steps of a commit were made so far: no more is left, and less where one was under way and is no longer
-pub record HasCommittedOn (first stage : Stage) (s : ℕ) (until : Option Entry) : Type 0 where
+-- steps of a task were made so far: no more is left, and less where one was under way and is no longer
+pub record HasWorkedOn (first stage : Stage) (s : ℕ) (until : Option Entry) : Type 0 where
   pub script : stage.script.value ≡ first.script.value
   pub stage_is : IsStage stage
   pub steps : AreSteps s until first stage
   pub most : left_at stage s ≤ left_at first s
-  pub less : commits_at stage s ≡ false → commits_at first s ≡ true → left_at stage s < left_at first s
+  pub less : works_at stage s ≡ false → works_at first s ≡ true → left_at stage s < left_at first s
 
-pub commit_begins : (stage : Stage) (s : ℕ) (until : Option Entry) → IsStage stage → HasCommittedOn stage stage s until
-commit_begins stage s until is = record {
+pub task_begins : (stage : Stage) (s : ℕ) (until : Option Entry) → IsStage stage → HasWorkedOn stage stage s until
+task_begins stage s until is = record {
   script = refl;
   stage_is = is;
   steps = no_step;
@@ -133,33 +133,33 @@ commit_begins stage s until is = record {
   less = λ none commits. absurd (false≢true (sym none ∙ commits));
 }
 
--- a commit is under way that has not come to where the entry waits for it
+-- a task is under way, and no commit has come to where the entry waits for it
 is_apart : (a b : Bool) → (a && not b) ≡ true → (a ≡ true) × (b ≡ false)
 is_apart true false h = (refl, refl)
 is_apart true true h = absurd (false≢true h)
 is_apart false b h = absurd (false≢true h)
 
-pub is_short : (stage : Stage) (s : ℕ) (until : Option Entry) → (commits_at stage s && not (comes_to stage s until)) ≡ true → comes_to stage s until ≡ false
-is_short stage s until way = (is_apart (commits_at stage s) (comes_to stage s until) way).1
+pub is_short : (stage : Stage) (s : ℕ) (until : Option Entry) → (works_at stage s && not (comes_to stage s until)) ≡ true → comes_to stage s until ≡ false
+is_short stage s until way = (is_apart (works_at stage s) (comes_to stage s until) way).1
 
-module _ (first stage : Stage) (s : ℕ) (until : Option Entry) (has : HasCommittedOn first stage s until) where
-  pub commit_through : (commits_at stage s && not (comes_to stage s until)) ≡ false → AreSteps s until first stage × IsThrough first stage s until
-  commit_through none = (has.steps, (has.most, by (commits_at stage s) (comes_to stage s until) refl refl none))
+module _ (first stage : Stage) (s : ℕ) (until : Option Entry) (has : HasWorkedOn first stage s until) where
+  pub task_through : (works_at stage s && not (comes_to stage s until)) ≡ false → AreSteps s until first stage × IsThrough first stage s until
+  task_through none = (has.steps, (has.most, by (works_at stage s) (comes_to stage s until) refl refl none))
     where
-      by : (a b : Bool) → commits_at stage s ≡ a → comes_to stage s until ≡ b → (a && not b) ≡ false → (comes_to stage s until ≡ true) ⊎ (commits_at first s ≡ true → left_at stage s < left_at first s)
+      by : (a b : Bool) → works_at stage s ≡ a → comes_to stage s until ≡ b → (a && not b) ≡ false → (comes_to stage s until ≡ true) ⊎ (works_at first s ≡ true → left_at stage s < left_at first s)
       by true true commits there h = inl there
       by true false commits there h = absurd (false≢true (sym h))
       by false b commits there h = inr (has.less commits)
 
-  module _ (way : (commits_at stage s && not (comes_to stage s until)) ≡ true) (new : Stage) where
-    commits : commits_at stage s ≡ true
-    commits = (is_apart (commits_at stage s) (comes_to stage s until) way).0
+  module _ (way : (works_at stage s && not (comes_to stage s until)) ≡ true) (new : Stage) where
+    commits : works_at stage s ≡ true
+    commits = (is_apart (works_at stage s) (comes_to stage s until) way).0
 
-    near_by : (k : StepKind) → HasCome stage new s (turn.Stepped k) → (b : Bool) → commits_at new s ≡ b → StepsNearer b stage new s
-    near_by k come b is = subst (λ (x : Bool). StepsNearer x stage new s) (ap (λ x. x && commits_at new s) commits ∙ is) come.nears
+    near_by : (k : StepKind) → HasCome stage new s (turn.Stepped k) → (b : Bool) → works_at new s ≡ b → StepsNearer b stage new s
+    near_by k come b is = subst (λ (x : Bool). StepsNearer x stage new s) (ap (λ x. x && works_at new s) commits ∙ is) come.nears
 
-    pub commit_steps : (k : StepKind) → HasCome stage new s (turn.Stepped k) → HasCommittedOn first new s until
-    commit_steps k come = record {
+    pub task_steps : (k : StepKind) → HasCome stage new s (turn.Stepped k) → HasWorkedOn first new s until
+    task_steps k come = record {
       script = come.script ∙ has.script;
       stage_is = come.stage;
       steps = one_step stage new k has.steps (is_short stage s until way) come;
@@ -168,16 +168,16 @@ module _ (first stage : Stage) (s : ℕ) (until : Option Entry) (has : HasCommit
     }
 
     -- while it is under way fewer steps are left of it
-    pub commit_sooner : (k : StepKind) → HasCome stage new s (turn.Stepped k) → cond (commits_at new s) (steps_at new s + 1) 0 < cond (commits_at stage s) (steps_at stage s + 1) 0
-    commit_sooner k come = subst (λ (b : Bool). cond (commits_at new s) (steps_at new s + 1) 0 < cond b (steps_at stage s + 1) 0) (sym commits) (by (commits_at new s) refl)
+    pub task_sooner : (k : StepKind) → HasCome stage new s (turn.Stepped k) → cond (works_at new s) (steps_at new s + 1) 0 < cond (works_at stage s) (steps_at stage s + 1) 0
+    task_sooner k come = subst (λ (b : Bool). cond (works_at new s) (steps_at new s + 1) 0 < cond b (steps_at stage s + 1) 0) (sym commits) (by (works_at new s) refl)
       where
-        by : (b : Bool) → commits_at new s ≡ b → cond b (steps_at new s + 1) 0 < steps_at stage s + 1
+        by : (b : Bool) → works_at new s ≡ b → cond b (steps_at new s + 1) 0 < steps_at stage s + 1
         by true is = one_more (steps_at new s) (steps_at stage s) (near_by k come true is).1
         by false is = some_more (steps_at stage s)
 
     -- a turn that is no step ends it
-    pub commit_ends : (X : Type 0) (answer : Turn) → ((k : StepKind) → answer ≡ turn.Stepped k → ⊥) → HasCome stage new s answer → StepsUntil X first new s until answer
-    commit_ends X answer none come = until_behind first stage new s until has.steps has.most {X = X} {Y = X} (λ x. x) answer (ends_at_once X stage new s until answer none (is_short stage s until way) come)
+    pub task_ends : (X : Type 0) (answer : Turn) → ((k : StepKind) → answer ≡ turn.Stepped k → ⊥) → HasCome stage new s answer → StepsUntil X first new s until answer
+    task_ends X answer none come = until_behind first stage new s until has.steps has.most {X = X} {Y = X} (λ x. x) answer (ends_at_once X stage new s until answer none (is_short stage s until way) come)
 
 -- ---- what turns came to, by the arm that it falls to
 

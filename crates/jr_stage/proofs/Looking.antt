@@ -26,7 +26,7 @@ use Rattle.jcr_session.specs.Nearing.{EndsSooner, HasNeared, LessIsUnread, turns
 use Rattle.jcr_session.specs.declared.run.Phase.{Phase}
 use Rattle.jcr_session.specs.declared.run.Phase.TheVariants as phase
 use Rattle.jcr_session.specs.declared.run.SessionRun.{SessionRun}
-use Rattle.jcr_session.specs.Standing.{HasLooked, IsCalled, IsReading, Stands, StandsAt, due_of, is_between, is_committing, may_read, reads_for}
+use Rattle.jcr_session.specs.Standing.{HasLooked, IsCalled, IsReading, Stands, StandsAt, due_of, is_between, is_working, may_read, reads_for}
 use Rattle.jr_script.specs.declared.script.Entry.TheVariants as entry
 use Rattle.jr_script.specs.Bounds.{IsWithin}
 use Rattle.jr_script.specs.declared.script.Script.{Script}
@@ -38,7 +38,7 @@ use Rattle.jr_stage.specs.Flights.{IsFlight}
 use Rattle.jr_stage.specs.Places.{history_at, is_over}
 use Rattle.jr_stage.specs.Parts.{by_entry}
 use Rattle.jr_stage.specs.SoFar.{IsCutSoFar, is_last_due}
-use Rattle.jr_stage.specs.Nearing.{ReadsNearer, call_at, commits_at, reads_at, unread_at}
+use Rattle.jr_stage.specs.Nearing.{ReadsNearer, call_at, works_at, reads_at, unread_at}
 use Rattle.jr_stage.specs.Stages.{Closes, HasOnlyRead, HasRead, IsSeated, IsStage, awaited, due_at, law_of, past_of}
 use Rattle.jr_stage.proofs.Coming.{other_seats, set_other}
 use Rattle.jr_stage.proofs.Due.{at_commit, last_commits}
@@ -77,19 +77,23 @@ module _ (law : JcrLaw) (p : Shown) (run : SessionRun) where
   between_uncommitted (phase.Refreshed v) h at = absurd (false≢true h)
   between_uncommitted (phase.Committing a) h at = absurd (false≢true h)
   between_uncommitted (phase.Committed e a) h at = absurd (false≢true h)
+  between_uncommitted (phase.Working e) h at = absurd (false≢true h)
+  between_uncommitted (phase.Told t) h at = absurd (false≢true h)
   between_uncommitted phase.Over h at = absurd (false≢true h)
 
   pub unread_uncommitted : Stands law p run → may_read run ≡ true → IsUncommitted p.work
   unread_uncommitted stands unread = between_uncommitted run.phase (halves (is_between run.phase) _ unread).0 stands.at
 
--- before a command that reads no commit is under way, and what the command is run with is known
-between_commits : (f : Phase) → is_between f ≡ true → is_committing f ≡ false
-between_commits phase.Between h = refl
-between_commits phase.Outside h = absurd (false≢true h)
-between_commits (phase.Refreshed v) h = absurd (false≢true h)
-between_commits (phase.Committing a) h = absurd (false≢true h)
-between_commits (phase.Committed e a) h = absurd (false≢true h)
-between_commits phase.Over h = absurd (false≢true h)
+-- before a command that reads no task of it is under way, and what the command is run with is known
+between_works : (f : Phase) → is_between f ≡ true → is_working f ≡ false
+between_works phase.Between h = refl
+between_works phase.Outside h = absurd (false≢true h)
+between_works (phase.Refreshed v) h = absurd (false≢true h)
+between_works (phase.Committing a) h = absurd (false≢true h)
+between_works (phase.Committed e a) h = absurd (false≢true h)
+between_works (phase.Working e) h = absurd (false≢true h)
+between_works (phase.Told t) h = absurd (false≢true h)
+between_works phase.Over h = absurd (false≢true h)
 
 called_between : (law : JcrLaw) (p : Shown) (run : SessionRun) (f : Phase) → is_between f ≡ true → StandsAt law p run f → (c : Call) × IsCalled law p c
 called_between law p run phase.Between h at = (at.1.call, at.1.is)
@@ -97,6 +101,8 @@ called_between law p run phase.Outside h at = absurd (false≢true h)
 called_between law p run (phase.Refreshed v) h at = absurd (false≢true h)
 called_between law p run (phase.Committing a) h at = absurd (false≢true h)
 called_between law p run (phase.Committed e a) h at = absurd (false≢true h)
+called_between law p run (phase.Working e) h at = absurd (false≢true h)
+called_between law p run (phase.Told t) h at = absurd (false≢true h)
 called_between law p run phase.Over h at = absurd (false≢true h)
 
 -- where no commit is at work no last write is due
@@ -254,8 +260,8 @@ module _ (n : GName) (s : ℕ) (old new : Stage) (seat seat_now : Seat)
     between : is_between seat.run.phase ≡ true
     between = (halves (is_between seat.run.phase) _ reads_now).0
 
-    uncommitting : commits_at old s ≡ false
-    uncommitting = ap (λ (o : Option Seat). option_map_or is_committing (option_map (λ x. x.run.phase) o) false) at ∙ between_commits seat.run.phase between
+    unworking : works_at old s ≡ false
+    unworking = ap (λ (o : Option Seat). option_map_or is_working (option_map (λ x. x.run.phase) o) false) at ∙ between_works seat.run.phase between
 
     pub only_reads : HasOnlyRead old new s
     only_reads = record {
@@ -266,7 +272,7 @@ module _ (n : GName) (s : ℕ) (old new : Stage) (seat seat_now : Seat)
       last = none_last_new ∙ sym none_last_old;
       phase = ap (option_map (λ (x : Seat). x.run.phase)) at_now ∙ (ap Some looked.same.phase ∙ sym (ap (option_map (λ (x : Seat). x.run.phase)) at));
       left = ap (λ (o : Option Seat). option_map_or (λ x. turns_left x.run) o 0) at_now ∙ (left_now ∙ sym (ap (λ (o : Option Seat). option_map_or (λ x. turns_left x.run) o 0) at));
-      steps = λ commits. absurd (false≢true (sym uncommitting ∙ commits));
+      steps = λ commits. absurd (false≢true (sym unworking ∙ commits));
     }
 
     called : (c : Call) × IsCalled old.world.law (shown_at n old.world s) c

@@ -9,7 +9,7 @@ use mathlib.Core.Bool.{false≢true}
 use Rattle.oak_machine.specs.declared.event.StepKind.{StepKind}
 use Rattle.oak_machine.specs.History.{History, Past}
 use Rattle.oak_machine.specs.Sessions.{is_drawing}
-use Rattle.jcr_session.specs.Standing.{is_committing}
+use Rattle.jcr_session.specs.Standing.{is_working}
 use Rattle.jcr_session.specs.declared.turn.Turn.{Turn}
 use Rattle.jcr_session.specs.declared.turn.Turn.TheVariants as turn
 use Rattle.jr_script.specs.Schedules.{session_named}
@@ -21,7 +21,7 @@ use Rattle.jr_stage.specs.declared.flight.Flight.{Flight}
 use Rattle.jr_stage.specs.declared.stage.Seat.{Seat}
 use Rattle.jr_stage.specs.declared.stage.Stage.{Stage}
 use Rattle.jr_stage.specs.Flights.{IsFlight}
-use Rattle.jr_stage.specs.Nearing.{commits_at, reads_at}
+use Rattle.jr_stage.specs.Nearing.{works_at, reads_at}
 use Rattle.jr_stage.specs.Places.{has_written, is_at_last, is_resting, is_write_of, since_draw}
 use Rattle.jr_stage.specs.Parts.{Rule, by_entry, has_just_said, is_entry_done}
 use Rattle.jr_stage.specs.SoFar.{IsStepAt, is_last_due}
@@ -325,8 +325,8 @@ module _ (stage : Stage) (s : ℕ) (seat : Seat) (below : s < length stage.seats
   pub reads_of_seat : reads_at stage s ≡ is_some seat.run.fetch
   reads_of_seat = ap (λ (o : Option Seat). option_map_or (λ x. is_some x.run.fetch) o false) seat_there
 
-  pub commits_of_seat : commits_at stage s ≡ is_committing seat.run.phase
-  commits_of_seat = ap (λ (o : Option Seat). option_map_or is_committing (option_map (λ x. x.run.phase) o) false) seat_there
+  pub works_of_seat : works_at stage s ≡ is_working seat.run.phase
+  works_of_seat = ap (λ (o : Option Seat). option_map_or is_working (option_map (λ x. x.run.phase) o) false) seat_there
 
 -- ---- whether a commit has come
 

@@ -5,14 +5,14 @@ use Rattle.std.specs.Option.{option_map_or}
 use mathlib.Core.Bool.{false≢true}
 use Rattle.oak_machine.specs.declared.event.StepKind.{StepKind}
 use Rattle.oak_machine.specs.History.{Past}
-use Rattle.jcr_session.specs.Standing.{is_committing, is_saving}
+use Rattle.jcr_session.specs.Standing.{is_working, is_saving}
 use Rattle.jcr_session.specs.declared.run.Phase.{Phase}
 use Rattle.jcr_session.specs.declared.turn.Turn.{Turn}
 use Rattle.jcr_session.specs.declared.turn.Turn.TheVariants as turn
 use Rattle.jr_script.specs.declared.script.Script.{Script}
 use Rattle.jr_stage.specs.declared.stage.Stage.{Stage}
 use Rattle.jr_stage.specs.Awaited.{DrawsNone, LeavesOthers}
-use Rattle.jr_stage.specs.Nearing.{IsKeptBack, ReadsNearer, ReadsThrough, SavesOn, StepsNearer, TurnsNearer, commits_at, left_at, reads_at, saves_at, steps_at, unread_at}
+use Rattle.jr_stage.specs.Nearing.{IsKeptBack, ReadsNearer, ReadsThrough, SavesOn, StepsNearer, TurnsNearer, works_at, left_at, reads_at, saves_at, steps_at, unread_at}
 use Rattle.jr_stage.specs.Places.{is_over}
 use Rattle.jr_stage.specs.SoFar.{IsStepAt, is_last_due}
 use Rattle.jr_stage.specs.Stages.{Comes, HasCome, HasOnlyRead, IsStage, ReadsOrComes, due_at, past_of}
@@ -32,8 +32,8 @@ only_none stage s is = record {
 }
 
 module _ (old mid new : Stage) (s : ℕ) (first : HasOnlyRead old mid s) where
-  commits_still : commits_at mid s ≡ commits_at old s
-  commits_still = ap (λ (f : Option Phase). option_map_or is_committing f false) first.phase
+  works_still : works_at mid s ≡ works_at old s
+  works_still = ap (λ (f : Option Phase). option_map_or is_working f false) first.phase
 
   saves_still : saves_at mid s ≡ saves_at old s
   saves_still = ap (λ (f : Option Phase). option_map_or is_saving f false) first.phase
@@ -47,7 +47,7 @@ module _ (old mid new : Stage) (s : ℕ) (first : HasOnlyRead old mid s) where
     last = more.last ∙ first.last;
     phase = more.phase ∙ first.phase;
     left = more.left ∙ first.left;
-    steps = λ commits. more.steps (commits_still ∙ commits) ∙ first.steps commits;
+    steps = λ commits. more.steps (works_still ∙ commits) ∙ first.steps commits;
   }
 
 -- ---- a turn behind reading steps
@@ -60,6 +60,7 @@ step_by script past s due now own same step = record {
   awake = step.awake;
   written = λ e is last. step.written e is (same ∙ last);
   committed = λ e is commits. sym same ∙ step.committed e is commits;
+  unnamed = λ e is none. sym same ∙ step.unnamed e is none;
 }
 
 comes_by : (script : Script) (past : Past) (s : ℕ) (due now : Option StepKind) (own : Past) → is_last_due due ≡ is_last_due now → (answer : Turn) → Comes script past s due answer own → Comes script past s now answer own
@@ -71,10 +72,10 @@ comes_by script past s due now own same turn.Read came = absurd came
 comes_by script past s due now own same turn.Memory came = absurd came
 
 module _ (old mid new : Stage) (s : ℕ) (read : HasOnlyRead old mid s) where
-  step_nearer : StepsNearer (commits_at mid s && commits_at new s) mid new s → StepsNearer (commits_at old s && commits_at new s) old new s
-  step_nearer near = by (commits_at old s) (commits_at new s) refl (subst (λ (b : Bool). StepsNearer (b && commits_at new s) mid new s) (commits_still old mid new s read) near)
+  step_nearer : StepsNearer (works_at mid s && works_at new s) mid new s → StepsNearer (works_at old s && works_at new s) old new s
+  step_nearer near = by (works_at old s) (works_at new s) refl (subst (λ (b : Bool). StepsNearer (b && works_at new s) mid new s) (works_still old mid new s read) near)
     where
-      by : (b c : Bool) → commits_at old s ≡ b → StepsNearer (b && c) mid new s → StepsNearer (b && c) old new s
+      by : (b c : Bool) → works_at old s ≡ b → StepsNearer (b && c) mid new s → StepsNearer (b && c) old new s
       by true true commits h = (h.0 ∙ read.left, subst (λ (n : ℕ). steps_at new s < n) (read.steps commits) h.1)
       by true false commits h = subst (λ (n : ℕ). left_at new s < n) read.left h
       by false c commits h = subst (λ (n : ℕ). left_at new s < n) read.left h

@@ -10,7 +10,8 @@ use Rattle.jcr_session.specs.declared.commit.Pledge.{Pledge}
 use Rattle.jcr_session.specs.declared.run.Phase.{Phase}
 use Rattle.jcr_session.specs.declared.run.Phase.TheVariants as phase
 use Rattle.jcr_session.specs.declared.run.SessionRun.{SessionRun}
-use Rattle.jcr_session.specs.Standing.{HasCommitted, IsFor, IsIn, Stands, StandsAt}
+use Rattle.jcr_session.specs.Standing.{HasCommitted, IsFor, IsIn, IsOnErrand, Stands, StandsAt}
+use Rattle.jcr_trans.specs.declared.command.Command.{Command}
 
 module _ (law : JcrLaw) (p : Shown) (b : Beside) (d : Option StepKind) (run : SessionRun) where
   abbrev q : Shown
@@ -48,6 +49,18 @@ module _ (law : JcrLaw) (p : Shown) (b : Beside) (d : Option StepKind) (run : Se
   committed_renamed c (commit.Clash item o) h = h
   committed_renamed c commit.Memory h = h
 
+  errand_renamed : (m : Command) (c : Call) → IsOnErrand law p run m c → IsOnErrand law q run m c
+  errand_renamed m c h = record {
+    unread = h.unread;
+    next = h.next;
+    errands = h.errands;
+    is = h.is;
+    holds = h.holds;
+    fresh = h.fresh;
+    unmoved = h.unmoved;
+    unpinned = h.unpinned;
+  }
+
   at_renamed : (f : Phase) → StandsAt law p run f → StandsAt law q run f
   at_renamed phase.Outside h = record {
     idle = h.idle;
@@ -61,6 +74,7 @@ module _ (law : JcrLaw) (p : Shown) (b : Beside) (d : Option StepKind) (run : Se
     in_renamed i,
     record {
       unmoved = h.unmoved;
+      unpinned = h.unpinned;
       call = h.call;
       is = h.is;
       holds = h.holds;
@@ -103,6 +117,29 @@ module _ (law : JcrLaw) (p : Shown) (b : Beside) (d : Option StepKind) (run : Se
       call = h.call;
       for = for_renamed h.call a h.for;
       ended = committed_renamed h.call e h.ended;
+    },
+  )
+  at_renamed (phase.Working e) (i, h) = (
+    in_renamed i,
+    record {
+      command = h.command;
+      call = h.call;
+      for = errand_renamed h.command h.call h.for;
+      works = h.works;
+      kept = h.kept;
+      place = h.place;
+    },
+  )
+  at_renamed (phase.Told t) (i, h) = (
+    in_renamed i,
+    record {
+      idle = h.idle;
+      command = h.command;
+      call = h.call;
+      for = errand_renamed h.command h.call h.for;
+      says = h.says;
+      place = h.place;
+      eight = h.eight;
     },
   )
   at_renamed phase.Over h = record { idle = h.idle; left = h.left; all = h.all; still = h.still }

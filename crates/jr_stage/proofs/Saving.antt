@@ -18,17 +18,19 @@ use Rattle.oak_machine.specs.Sessions.{drawn_among, drawn_since, has_left, has_l
 use Rattle.oak_machine.proofs.Stays.{any_later}
 use Rattle.oak_commit.specs.declared.outcome.CommitEnd.{CommitEnd}
 use Rattle.oak_commit.specs.declared.outcome.CommitEnd.TheVariants as commit
-use Rattle.oak_port.specs.Ports.{Awaiting, Deciding, HoldsBack, Idle, Shown, Undoing, Work, Writing}
+use Rattle.oak_port.specs.Ports.{Awaiting, Deciding, HoldsBack, Idle, Learning, Publishing, Shown, Starting, Undoing, Work, Writing}
+use Rattle.oak_port.specs.declared.task.Task.TheVariants as task
 use Rattle.core_heads.proofs.Passing.{drawn_stays, next_stays}
 use Rattle.jcr_law.specs.Lasting.{says_of, starts_of}
 use Rattle.jcr_law.specs.State.{Call}
 use Rattle.jcr_law.specs.declared.law.JcrLaw.{JcrLaw}
 use Rattle.jcr_trans.specs.declared.command.Command.{Command}
+use Rattle.jcr_trans.specs.declared.command.Command.TheVariants as command
 use Rattle.jcr_session.specs.declared.run.Phase.{Phase}
 use Rattle.jcr_session.specs.declared.run.Phase.TheVariants as phase
 use Rattle.jcr_session.specs.declared.run.SessionRun.{SessionRun}
 use Rattle.jcr_session.specs.declared.turn.Turn.TheVariants as turn
-use Rattle.jcr_session.specs.Standing.{HasCommitted, HasDrawn, IsCommitting, IsIn, IsOneStep, IsReading, IsTurned, Stands, StandsAt, due_for, is_between, is_committing, is_saving, is_step_event, may_read, reads_for}
+use Rattle.jcr_session.specs.Standing.{HasCommitted, HasDrawn, IsCommitting, IsIn, IsOneStep, IsReading, IsTurned, IsWorkFor, Stands, StandsAt, due_for, is_between, is_committing, is_saving, is_step_event, may_read, reads_for}
 use Rattle.jr_stage.specs.Awaited.{KeepsWaiting}
 use Rattle.jr_stage.proofs.First.{kept_by_another}
 
@@ -38,6 +40,16 @@ itself n = grind (arith, nat_tests)
 abbrev is_awaiting : Work → Bool
 is_awaiting (Awaiting r) = true
 is_awaiting w = false
+
+-- what is done for a command by a task of the cluster node or of the settings awaits no revision
+pub errand_waits : (h : History) (s : ℕ) (c : Call) (m : Command) (w : Work) → IsWorkFor h s c m w → is_awaiting w ≡ false
+errand_waits h s c command.BackWrite (Starting task.BackWrite) works = refl
+errand_waits h s c command.BackWrite (Publishing r) works = refl
+errand_waits h s c command.BackRead (Starting task.BackRead) works = refl
+errand_waits h s c command.BackRead (Learning v) works = refl
+errand_waits h s c command.Checkpoint (Starting (task.Checkpoint id)) works = refl
+errand_waits h s c (command.Release id) (Starting (task.Release i)) works = refl
+errand_waits h s c m w works = absurd works
 
 -- ---- what a commit under way tells
 
@@ -74,6 +86,8 @@ module _ (law : JcrLaw) (p : Shown) (run : SessionRun) where
   idle_at (phase.Refreshed v) at h = at.1.fresh.idle
   idle_at (phase.Committing pledge) at h = absurd (false≢true (sym h))
   idle_at (phase.Committed e pledge) at h = ended_idle law p at.1.call e at.1.ended
+  idle_at (phase.Working e) at h = at.1.for.fresh.idle
+  idle_at (phase.Told t) at h = at.1.for.fresh.idle
   idle_at phase.Over at h = at.still
 
   in_at : (f : Phase) → StandsAt law p run f → is_saving f ≡ true → IsIn law p
@@ -101,6 +115,9 @@ module _ (law : JcrLaw) (p : Shown) (run : SessionRun) where
   reading_waits r (Some (need.Children path)) reads waits = absurd (false≢true (sym (ap is_awaiting reads) ∙ ap is_awaiting waits))
   reading_waits r (Some n) reads waits = absurd reads
 
+  working_waits : {A : Type 0} (r : Revision) (h : History) (c : Call) (m : Command) (w : Work) → IsWorkFor h p.session c m w → w ≡ Awaiting r → A
+  working_waits r h c m w works waits = absurd (false≢true (sym (errand_waits h p.session c m w works) ∙ ap is_awaiting waits))
+
   -- a session that awaits a revision has drawn it last, and it has ended
   awaits_at : (f : Phase) (r : Revision) → StandsAt law p run f → p.work ≡ Awaiting r → HasDrawn p.history.past p.session r × (is_ended p.history.past r ≡ true)
   awaits_at phase.Outside r at waits = idle_waits r at.idle waits
@@ -108,6 +125,8 @@ module _ (law : JcrLaw) (p : Shown) (run : SessionRun) where
   awaits_at (phase.Refreshed v) r at waits = idle_waits r at.1.idle waits
   awaits_at (phase.Committing pledge) r at waits = let h = subst (λ (w : Work). IsCommitting p.history.past p.session w) waits at.1.commits in (h.0, h.2)
   awaits_at (phase.Committed e pledge) r at waits = idle_waits r at.1.idle waits
+  awaits_at (phase.Working e) r at waits = working_waits r p.history at.1.call at.1.command p.work at.1.works waits
+  awaits_at (phase.Told t) r at waits = idle_waits r at.1.idle waits
   awaits_at phase.Over r at waits = idle_waits r at.idle waits
 
   -- ---- where it stands
@@ -209,6 +228,12 @@ module _ (law : JcrLaw) (old new : Shown) (run now : SessionRun) (k : StepKind) 
   drawn_by_one (event.Refuse r item o) ran step = drawn_before
   drawn_by_one (event.End r) ran step = drawn_before
   drawn_by_one (event.Went t j) ran step = drawn_before
+  drawn_by_one (event.Out c r) ran step = drawn_before
+  drawn_by_one (event.In c v) ran step = drawn_before
+  drawn_by_one (event.Checkpoint id v) ran step = drawn_before
+  drawn_by_one (event.Release id) ran step = drawn_before
+  drawn_by_one (event.Attach t id) ran step = drawn_before
+  drawn_by_one (event.Detach t) ran step = drawn_before
   drawn_by_one e ran step = absurd (false≢true step)
 
   drawn_now : is_some (drawn_since (turned.own ++ before) s) ≡ true
@@ -258,4 +283,6 @@ module _ (law : JcrLaw) (old new : Shown) (run now : SessionRun) (k : StepKind) 
       by (phase.Refreshed v) at = none at.1.fresh.first
       by (phase.Committing pledge) at = refl
       by (phase.Committed e pledge) at = refl
+      by (phase.Working e) at = none at.1.for.fresh.first
+      by (phase.Told t) at = none at.1.for.fresh.first
       by phase.Over at = all now.index (length now.commands) more_to_say at.all

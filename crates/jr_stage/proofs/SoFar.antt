@@ -17,10 +17,10 @@ use Rattle.oak_machine.specs.Laws.{is_revision_of}
 use Rattle.oak_machine.specs.Sessions.{is_drawing, is_reply_of, is_stopped}
 use Rattle.jr_script.specs.declared.script.Script.{Script}
 use Rattle.jr_script.specs.declared.script.Entry.TheVariants as entry
-use Rattle.jr_stage.specs.Places.{is_at_last, is_commit, is_next, is_of_turn, is_own, is_resting, is_waiting, is_write_or_mark, next_of}
+use Rattle.jr_stage.specs.Places.{is_at_last, is_commit, is_next, is_of_turn, is_own, is_resting, is_waiting, is_write_or_mark, next_of, tells_of_none}
 use Rattle.jr_stage.specs.Parts.{Rule, by_entry, to_reply, to_end, Part, session_of, is_done, is_part, is_turn, may_end, must_end, events_of, IsCut}
 use Rattle.jr_stage.specs.Growing.{StayParts, StaysPart, is_quiet}
-use Rattle.jr_stage.specs.SoFar.{AreQuiet, IsCutSoFar, IsDouble, IsQuiet, IsQuietNext, IsSingle, IsStepAt, IsUnderWay, is_last_due}
+use Rattle.jr_stage.specs.SoFar.{AreQuiet, IsCutSoFar, IsDouble, IsMadeBy, IsQuiet, IsQuietNext, IsSingle, IsStepAt, IsUnderWay, IsUnnamed, is_last_due}
 use Rattle.jr_stage.proofs.Flying.{idle_not_at_last, none_is_some}
 use Rattle.jr_stage.proofs.Growing.{cut_grows, next_stays, part_grows}
 
@@ -61,6 +61,19 @@ module _ (past : Past) (s t : ℕ) (others : (s == t) ≡ false) where
   one_session (event.Went a k) h = not_equal a h
   one_session (event.Said a i text) h = not_equal a h
   one_session e h = absurd (false≢true h)
+
+-- an event that tells of no session is none of a session
+pub unnamed_own : (past : Past) (s : ℕ) (e : Event) → tells_of_none e ≡ true → is_own past s e ≡ false
+unnamed_own past s (event.Out k r) h = refl
+unnamed_own past s (event.In k v) h = refl
+unnamed_own past s (event.Checkpoint id v) h = refl
+unnamed_own past s (event.Release id) h = refl
+unnamed_own past s e h = absurd (false≢true h)
+
+-- what a session makes is no event of another
+pub not_of_another : (script : Script) (past : Past) (s t : ℕ) → (s == t) ≡ false → (e : Event) → IsMadeBy script past t e → is_own past s e ≡ false
+not_of_another script past s t others e (inl own) = one_session past s t others e own
+not_of_another script past s t others e (inr unnamed) = unnamed_own past s e unnamed.none
 
 -- ---- what is next
 
@@ -121,18 +134,22 @@ module _ (script : Script) (due now : ℕ → Option StepKind) (t : ℕ) (past o
     | false ↦ λ other. theirs other step.events
   ] refl
     where
-      mine : is_last_due (due t) ≡ true → IsSingle past t own ⊎ IsDouble script past t own → IsQuietNext (next_of past t (reverse own)) (now t)
+      mine : is_last_due (due t) ≡ true → IsSingle script past t own ⊎ IsDouble script past t own → IsQuietNext (next_of past t (reverse own)) (now t)
       mine last (inl one) =
           subst (λ (o : Past). IsQuietNext (next_of past t (reverse o)) (now t)) (sym one.is)
-          (subst (λ (o : Option Event). IsQuietNext o (now t)) (sym (next_own one.event t [] one.theirs)) (step.written one.event one.is last))
+          (first one.made)
+        where
+          first : IsMadeBy script past t one.event → IsQuietNext (next_of past t (one.event ∷ [])) (now t)
+          first (inl own) = subst (λ (o : Option Event). IsQuietNext o (now t)) (sym (next_own one.event t [] own)) (step.written one.event one.is last)
+          first (inr unnamed) = absurd (false≢true (sym (step.unnamed one.event one.is unnamed.none) ∙ last))
       mine last (inr two) =
           subst (λ (o : Past). IsQuietNext (next_of past t (reverse o)) (now t)) (sym two.is)
           (subst (λ (o : Option Event). IsQuietNext o (now t)) (sym (next_own (event.End two.revision) t (event.Head two.cluster two.head ∷ []) two.theirs)) refl)
 
-      theirs : (s == t) ≡ false → IsSingle past t own ⊎ IsDouble script past t own → IsQuietNext (next_of past s (reverse own)) (now s)
+      theirs : (s == t) ≡ false → IsSingle script past t own ⊎ IsDouble script past t own → IsQuietNext (next_of past s (reverse own)) (now s)
       theirs other (inl one) =
           subst (λ (o : Past). IsQuietNext (next_of past s (reverse o)) (now s)) (sym one.is)
-          (subst (λ (o : Option Event). IsQuietNext o (now s)) (sym (next_other one.event s [] (one_session past s t other one.event one.theirs)))
+          (subst (λ (o : Option Event). IsQuietNext o (now s)) (sym (next_other one.event s [] (not_of_another script past s t other one.event one.made)))
           (subst (λ (d : Option StepKind). is_last_due d ≡ true) (sym (others s other)) last))
       theirs other (inr two) =
           subst (λ (o : Past). IsQuietNext (next_of past s (reverse o)) (now s)) (sym two.is)
@@ -274,8 +291,31 @@ module _ (script : Script) (before : Past) where
           no_last t same false none = and_false (is_at_last (part ++ before) t) _ (own_next t same ∙ none)
           no_last t same true commits = ap (λ b. b && is_next is_commit (part ++ before) t (e ∷ [])) (late t same (step.committed e is commits))
 
-      by : IsSingle (part ++ before) (session_of rule) own ⊎ IsDouble script (part ++ before) (session_of rule) own → IsUnderWay script rule before (own ++ part)
-      by (inl one) = subst (λ (o : Past). IsUnderWay script rule before (o ++ part)) (sym one.is) (single one.event one.is one.theirs)
+      -- an event that tells of no session comes where none of its session is in flight
+      unnamed : (e : Event) → IsUnnamed script (part ++ before) (session_of rule) e → IsUnderWay script rule before (e ∷ part)
+      unnamed e un = record {
+        goes = part_grows script rule before part e way.knows way.goes (not_yet rule part e done (λ t same. none_next t)) un.made;
+        knows = and_true (is_own (part ++ before) (session_of rule) e || not (is_at_last (part ++ before) (session_of rule))) _
+            (or_true (is_own (part ++ before) (session_of rule) e) _ (ap not (idle_not_at_last (part ++ before) (session_of rule) un.idle))) way.knows;
+      }
+        where
+          or_true : (a b : Bool) → b ≡ true → (a || b) ≡ true
+          or_true true b h = refl
+          or_true false b h = h
+
+          and_false : (a b : Bool) → b ≡ false → (a && b) ≡ false
+          and_false true b h = h
+          and_false false b h = refl
+
+          none_next : (t : ℕ) → (is_at_last (part ++ before) t && is_next is_commit (part ++ before) t (e ∷ [])) ≡ false
+          none_next t = and_false (is_at_last (part ++ before) t) _ (ap (λ b. option_map_or is_commit (cond b (Some e) None) false) (unnamed_own (part ++ before) t e un.none))
+
+      by_one : (one : IsSingle script (part ++ before) (session_of rule) own) → IsMadeBy script (part ++ before) (session_of rule) one.event → IsUnderWay script rule before (one.event ∷ part)
+      by_one one (inl own_is) = single one.event one.is own_is
+      by_one one (inr un) = unnamed one.event un
+
+      by : IsSingle script (part ++ before) (session_of rule) own ⊎ IsDouble script (part ++ before) (session_of rule) own → IsUnderWay script rule before (own ++ part)
+      by (inl one) = subst (λ (o : Past). IsUnderWay script rule before (o ++ part)) (sym one.is) (by_one one one.made)
       by (inr two) = subst (λ (o : Past). IsUnderWay script rule before (o ++ part)) (sym two.is) (record {
         goes = part_grows script rule before (event.End two.revision ∷ part) (event.Head two.cluster two.head) first.knows first.goes
             (not_yet rule (event.End two.revision ∷ part) (event.Head two.cluster two.head) (mid_done rule part two.revision done two.idle two.awake) (λ t same. and_none (is_at_last (event.End two.revision ∷ (part ++ before)) t)))

@@ -14,7 +14,7 @@ use Rattle.jcr_law.specs.declared.law.JcrLaw.{JcrLaw}
 use Rattle.jcr_session.specs.declared.run.SessionRun.{SessionRun}
 use Rattle.jcr_session.specs.declared.turn.Turn.{Turn}
 use Rattle.jcr_session.specs.declared.turn.Turn.TheVariants as turn
-use Rattle.jcr_session.specs.Nearing.{ComesNearer, CommitsSooner, DrawsNoOther, EndsSooner, HasNeared, ReadsOn, turns_left}
+use Rattle.jcr_session.specs.Nearing.{ComesNearer, WorksSooner, DrawsNoOther, EndsSooner, HasNeared, ReadsOn, turns_left}
 use Rattle.jcr_session.specs.Standing.{HasLooked, HasTurned, IsTurned, Stands, is_saving, may_read}
 use Rattle.jr_script.specs.declared.script.Script.{Script}
 use Rattle.jcr_trans.specs.declared.command.SessionScript.{SessionScript}
@@ -41,7 +41,7 @@ abbrev TurnsAt : GName → ℕ → WorldOf JcrLaw → GName → ℕ → WorldOf 
 TurnsAt n a w m t v run now answer =
     IsTurned w.law (shown_at n w a) (shown_at m v t) run now answer
     × (IsTrue (is_saving run.phase) → DrawsNoOther (shown_at n w a) (shown_at m v t))
-    × ComesNearer (CommitsSooner (left_in w a) (left_in v t) (shown_at n w a) run) (turns_left run) (turns_left now) answer
+    × ComesNearer (WorksSooner (left_in w a) (left_in v t) (shown_at n w a) run) (turns_left run) (turns_left now) answer
 
 -- what a reading step at a port tells
 abbrev ReadsAt : GName → ℕ → WorldOf JcrLaw → GName → ℕ → WorldOf JcrLaw → SessionRun → SessionRun → Type 0
@@ -79,7 +79,7 @@ module _ (d n m : GName) (s a t : ℕ) (old w v x : WorldOf JcrLaw) (run now : S
 
   pub turned_out : (answer : Turn) → HasTurned w.law (shown_at n w a) (shown_at m v t) run now answer
       → (IsTrue (is_saving run.phase) → DrawsNoOther (shown_at n w a) (shown_at m v t))
-      → ComesNearer (CommitsSooner (left_in w a) (left_in v t) (shown_at n w a) run) (turns_left run) (turns_left now) answer
+      → ComesNearer (WorksSooner (left_in w a) (left_in v t) (shown_at n w a) run) (turns_left run) (turns_left now) answer
       → ReadsOn (EndsSooner (left_in w a) (left_in v t) (shown_at n w a)) w.law (shown_at n w a) run now answer
       → HasTurnedIn s old x run now answer
   turned_out (turn.Stepped k) turned draws nears reads = out (turn.Stepped k) (turned, draws, nears)

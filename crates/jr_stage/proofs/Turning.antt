@@ -1,18 +1,21 @@
 -- A turn brings the stage on.
 use Rattle.std.proofs.Common.{◌≡◌, ◌⊎◌, inl, inr, ℕ, ◌+◌, ◌-◌, ◌*◌, ◌<◌, zero, suc, length, map, Bool, true, false, not, ◌||◌, ◌&&◌, Some, None, Option, List, [], ◌∷◌, ◌++◌, refl, sym, ap, ◌∙◌, subst, arith}
-use Rattle.std.specs.Prelude.{◌==◌, slice_get, slice_set}
+use Rattle.std.specs.Prelude.{◌==◌, reverse, slice_get, slice_set}
+use Rattle.std.specs.List.{list_any}
 use Rattle.std.specs.Borrow.{GName}
 use Rattle.std.specs.Option.{option_and_then, option_map, option_map_or}
 use Rattle.std.proofs.lemmas.Bool.Decides.{nat_tests}
 use mathlib.Core.Bool.{false≢true}
 use Rattle.jr_rev.specs.declared.revision.Revision.{Revision}
 use Rattle.jr_rev.specs.Vectors.{sees}
+use Rattle.oak_machine.specs.declared.event.Event.{Event}
 use Rattle.oak_machine.specs.declared.event.Event.TheVariants as event
 use Rattle.oak_machine.specs.declared.event.StepKind.{StepKind}
 use Rattle.oak_machine.specs.History.{History, Past}
 use Rattle.oak_machine.specs.Commits.{is_committed, is_ended}
 use Rattle.oak_machine.specs.Heads.{head_of}
-use Rattle.oak_machine.specs.Sessions.{has_left, next_index}
+use Rattle.oak_machine.specs.Sessions.{has_left, is_drawing, next_index}
+use Rattle.oak_machine.specs.Steps.{is_appended_by, is_kind, kinds_for}
 use Rattle.oak_port.specs.Ports.{Awaiting, HoldsBack, Seat as PortSeat, Shown}
 use Rattle.oak_world.specs.Left.{left_in}
 use Rattle.oak_world.specs.Seen.{shown_at, shown_work}
@@ -20,13 +23,13 @@ use Rattle.oak_world.specs.Worlds.{WorldOf, live, work_in}
 use Rattle.jcr_law.specs.State.{command_at}
 use Rattle.jcr_law.specs.declared.law.JcrLaw.{JcrLaw}
 use Rattle.jcr_law.specs.Lasting.{says_of, starts_of}
-use Rattle.jcr_session.specs.Nearing.{ComesNearer, CommitsSooner, DrawsNoOther, IsLess, turns_left, stages_left}
+use Rattle.jcr_session.specs.Nearing.{ComesNearer, WorksSooner, DrawsNoOther, IsLess, turns_left, stages_left}
 use Rattle.jcr_session.specs.declared.run.Phase.{Phase}
 use Rattle.jcr_session.specs.declared.run.Phase.TheVariants as phase
 use Rattle.jcr_session.specs.declared.run.SessionRun.{SessionRun}
 use Rattle.jcr_session.specs.declared.turn.Turn.{Turn}
 use Rattle.jcr_session.specs.declared.turn.Turn.TheVariants as turn
-use Rattle.jcr_session.specs.Standing.{IsStep, IsTurned, IsUnseen, Tells, is_committing, is_saving}
+use Rattle.jcr_session.specs.Standing.{IsStep, IsTurned, IsUnseen, Tells, is_working, is_saving, stage_at}
 use Rattle.jr_script.specs.Bounds.{IsWithin}
 use Rattle.jr_script.specs.declared.script.Script.{Script}
 use Rattle.jcr_trans.specs.declared.command.Command.{Command}
@@ -36,11 +39,12 @@ use Rattle.jr_stage.specs.declared.stage.Seat.{Seat}
 use Rattle.jr_stage.specs.declared.stage.Stage.{Stage}
 use Rattle.jr_stage.specs.Awaited.{IsSeenBut, LeavesOthers}
 use Rattle.jr_stage.specs.Flights.{IsFlight}
-use Rattle.jr_stage.specs.Nearing.{IsKeptBack, SavesOn, StepsNearer, TurnsNearer, commits_at, left_at, saves_at}
-use Rattle.jr_stage.specs.Places.{commands_of, history_at, is_over, is_resting, is_waiting}
+use Rattle.jr_stage.specs.Nearing.{IsKeptBack, SavesOn, StepsNearer, TurnsNearer, works_at, left_at, saves_at}
+use Rattle.jr_stage.specs.Places.{commands_of, history_at, is_over, is_resting, is_waiting, tells_of_none}
 use Rattle.jr_stage.specs.SoFar.{IsDouble, IsSingle, is_last_due}
 use Rattle.jr_stage.specs.Stages.{Comes, HasCome, IsSeated, IsStage, awaited, due_at, flight_behind, flight_by, law_of}
-use Rattle.jr_stage.proofs.Coming.{flight_said, flight_stepped, history_now, itself, made, nodes, other_seat, over_other, past_now, run_new, said, same_length, seated_other, seen_said, seen_stepped, session_now, set_other, stands_now, stepped, tells, awake}
+use Rattle.jr_stage.proofs.Unnamed.{unnamed_apart, unnamed_idle}
+use Rattle.jr_stage.proofs.Coming.{appended_one, flight_said, flight_stepped, history_now, itself, made, nodes, other_seat, over_other, past_now, run_new, said, same_length, seated_other, seen_said, seen_stepped, session_now, set_other, stands_now, stepped, tells, awake}
 use Rattle.jr_stage.proofs.Counting.{same_count}
 use Rattle.jr_stage.proofs.Due.{at_commit, last_commits}
 use Rattle.jr_stage.proofs.First.{turn_leaves}
@@ -76,11 +80,11 @@ module _ (script : Script) (n : GName) (s : ℕ) (old new : WorldOf JcrLaw) (sea
   past = old.history.past
 
   abbrev Shape : Type 0
-  Shape = (turned.own ≡ []) ⊎ (IsSingle old.history.past s turned.own ⊎ IsDouble script old.history.past s turned.own)
+  Shape = (turned.own ≡ []) ⊎ (IsSingle script old.history.past s turned.own ⊎ IsDouble script old.history.past s turned.own)
 
   -- what a turn comes to
   pub record IsComeTo (flight : Option Flight) : Type 0 where
-    pub shape : (turned.own ≡ []) ⊎ (IsSingle old.history.past s turned.own ⊎ IsDouble script old.history.past s turned.own)
+    pub shape : (turned.own ≡ []) ⊎ (IsSingle script old.history.past s turned.own ⊎ IsDouble script old.history.past s turned.own)
     pub came : Comes script old.history.past s (due_at old s) answer turned.own
     pub flown : IsFlight (turned.own ++ old.history.past) s flight
     pub seen : IsSeenBut script (turned.own ++ old.history.past) s (awaited (shown_work (work_in new.actors s)))
@@ -88,7 +92,7 @@ module _ (script : Script) (n : GName) (s : ℕ) (old new : WorldOf JcrLaw) (sea
     pub over : is_over script old.history.past s ≡ true → is_over script (turned.own ++ old.history.past) s ≡ true
     pub kept : IsKeptBack old.history.past s answer
 
-  not_none : {A : Type 0} → IsSingle old.history.past s turned.own ⊎ IsDouble script old.history.past s turned.own → turned.own ≡ [] → A
+  not_none : {A : Type 0} → IsSingle script old.history.past s turned.own ⊎ IsDouble script old.history.past s turned.own → turned.own ≡ [] → A
   not_none (inl one) none = none_is_some one.event (ap (λ (l : Past). slice_get l 0) (sym none ∙ one.is))
   not_none (inr two) none = none_is_some (event.Head two.cluster two.head) (ap (λ (l : Past). slice_get l 0) (sym none ∙ two.is))
 
@@ -102,16 +106,33 @@ module _ (script : Script) (n : GName) (s : ℕ) (old new : WorldOf JcrLaw) (sea
 module _ (script : Script) (n : GName) (s : ℕ) (old new : WorldOf JcrLaw) (seat : Seat) (now : SessionRun)
     (law_is : old.law ≡ law_of script) (history : (live old.history) ≡ history_at script old.history.past) (seated : IsSeated script old s seat)
     (law_same : new.law ≡ old.law) where
+  -- where a step appends what tells of no session, no commit is under way
+  calm_step : (k : StepKind) (turned : IsTurned old.law (shown_at n old s) (shown_at n new s) seat.run now (turn.Stepped k)) → is_appended_by (history_at script old.history.past) s k (reverse turned.own) ≡ true
+      → (e : Event) → turned.own ≡ e ∷ [] → tells_of_none e ≡ true → (is_drawing old.history.past s ≡ false) × (is_last_due (due_at old s) ≡ false)
+  calm_step k turned appended e is none =
+      let one : list_any (is_kind k) (kinds_for (history_at script old.history.past) s (e ∷ [])) ≡ true =
+      sym (appended_one (history_at script old.history.past) s k e []) ∙ subst (λ (o : Past). is_appended_by (history_at script old.history.past) s k (reverse o) ≡ true) is appended in (
+        unnamed_idle old.law (shown_at n old s) seat.run (seated.stands n) (history_at script old.history.past) k (stage_at seat.run.phase (shown_at n old s).work) (stage_at now.phase (shown_at n new s).work) turned.in_order e one none,
+        no_last (is_last_due (due_at old s)) refl one,
+      )
+    where
+      no_last : (b : Bool) → is_last_due (due_at old s) ≡ b → list_any (is_kind k) (kinds_for (history_at script old.history.past) s (e ∷ [])) ≡ true → b ≡ false
+      no_last false last one = refl
+      no_last true last one = absurd (false≢true (sym
+          (unnamed_apart old.law (shown_at n old s) seat.run (seated.stands n) (history_at script old.history.past) k (stage_at seat.run.phase (shown_at n old s).work) (stage_at now.phase (shown_at n new s).work) turned.in_order e one none)
+          ∙ last_commits (work_in old.actors s) last))
+
   come_to : (answer : Turn) (turned : IsTurned old.law (shown_at n old s) (shown_at n new s) seat.run now answer) → IsComeTo script n s old new seat now answer law_is history seated law_same turned (flight_by answer (turned.own ++ old.history.past) seat.flight)
   come_to (turn.Stepped k) turned = by (tells script n s old new seat now (turn.Stepped k) law_is history seated turned) (made script n s old new seat now (turn.Stepped k) law_is history seated turned)
     where
       by : Tells (history_at script old.history.past) s seat.run.index (turn.Stepped k) turned.own → IsStep (history_at script old.history.past) (shown_at n old s) (shown_at n new s) turned.own → IsComeTo script n s old new seat now (turn.Stepped k) law_is history seated law_same turned (flight_behind (turned.own ++ old.history.past) seat.flight)
       by (appended, one) step =
-          let at = stepped script n s old new seat now (turn.Stepped k) law_is history seated turned step k appended one in
+          let calm = calm_step k turned appended in
+          let at = stepped script n s old new seat now (turn.Stepped k) law_is history seated turned step k calm appended one in
           record {
             shape = inr at.0.events;
             came = at;
-            flown = flight_stepped script n s old new seat now (turn.Stepped k) law_is history seated turned step k appended one;
+            flown = flight_stepped script n s old new seat now (turn.Stepped k) law_is history seated turned step k calm appended one;
             seen = seen_stepped script n s old new seat now (turn.Stepped k) law_is history seated turned step k appended one;
             still = λ none last. not_none script n s old new seat now (turn.Stepped k) law_is history seated law_same turned at.0.events none;
             over = λ over. not_over script n s old new seat now (turn.Stepped k) law_is history seated law_same turned at.0.awake over;
@@ -191,13 +212,15 @@ module _ (script : Script) (n : GName) (s : ℕ) (old new : WorldOf JcrLaw) (sea
 abbrev replies_left : SessionRun → ℕ
 replies_left run = 5 * (length run.commands - run.index)
 
-committing_left : (f : Phase) → is_committing f ≡ true → stages_left f ≡ 2
-committing_left (phase.Committing a) h = refl
-committing_left phase.Outside h = absurd (false≢true h)
-committing_left phase.Between h = absurd (false≢true h)
-committing_left (phase.Refreshed v) h = absurd (false≢true h)
-committing_left (phase.Committed e a) h = absurd (false≢true h)
-committing_left phase.Over h = absurd (false≢true h)
+working_left : (f : Phase) → is_working f ≡ true → stages_left f ≡ 2
+working_left (phase.Committing a) h = refl
+working_left phase.Outside h = absurd (false≢true h)
+working_left phase.Between h = absurd (false≢true h)
+working_left (phase.Refreshed v) h = absurd (false≢true h)
+working_left (phase.Committed e a) h = absurd (false≢true h)
+working_left (phase.Working e) h = refl
+working_left (phase.Told t) h = absurd (false≢true h)
+working_left phase.Over h = absurd (false≢true h)
 
 same_behind : (m a b : ℕ) → m + a ≡ m + b → a ≡ b
 same_behind m a b h = omega arith
@@ -205,16 +228,18 @@ same_behind m a b h = omega arith
 not_below : (m a b : ℕ) → a ≡ 2 → b ≡ 2 → m + a < m + b → ⊥
 not_below m a b p q h = omega arith
 
--- where no commit is under way it stands elsewhere
-other_left : (f : Phase) (m b : ℕ) → is_committing f ≡ false → b ≡ 2 → m + stages_left f ≡ m + b → ⊥
+-- where no task of its next command is under way it stands elsewhere
+other_left : (f : Phase) (m b : ℕ) → is_working f ≡ false → b ≡ 2 → m + stages_left f ≡ m + b → ⊥
 other_left f m b none two same = apart f none (same_behind m (stages_left f) b same ∙ two)
   where
-    apart : (f : Phase) → is_committing f ≡ false → stages_left f ≡ 2 → ⊥
+    apart : (f : Phase) → is_working f ≡ false → stages_left f ≡ 2 → ⊥
     apart phase.Outside h two = omega arith
     apart phase.Between h two = omega arith
     apart (phase.Committing a) h two = false≢true (sym h)
     apart (phase.Committed e a) h two = omega arith
     apart (phase.Refreshed v) h two = omega arith
+    apart (phase.Working e) h two = false≢true (sym h)
+    apart (phase.Told t) h two = omega arith
     apart phase.Over h two = omega arith
 
 -- ---- the stage
@@ -275,8 +300,8 @@ module _ (n : GName) (s : ℕ) (old new : Stage) (seat seat_now : Seat) (answer 
   left_is : (x : Stage) (y : Seat) → slice_get x.seats.items s ≡ Some y → left_at x s ≡ turns_left y.run
   left_is x y there = ap (λ (o : Option Seat). option_map_or (λ z. turns_left z.run) o 0) there
 
-  commits_is : (x : Stage) (y : Seat) → slice_get x.seats.items s ≡ Some y → commits_at x s ≡ is_committing y.run.phase
-  commits_is x y there = ap (λ (o : Option Seat). option_map_or is_committing (option_map (λ z. z.run.phase) o) false) there
+  works_is : (x : Stage) (y : Seat) → slice_get x.seats.items s ≡ Some y → works_at x s ≡ is_working y.run.phase
+  works_is x y there = ap (λ (o : Option Seat). option_map_or is_working (option_map (λ z. z.run.phase) o) false) there
 
   saves_is : (x : Stage) (y : Seat) → slice_get x.seats.items s ≡ Some y → saves_at x s ≡ is_saving y.run.phase
   saves_is x y there = ap (λ (o : Option Seat). option_map_or is_saving (option_map (λ z. z.run.phase) o) false) there
@@ -296,11 +321,11 @@ module _ (n : GName) (s : ℕ) (old new : Stage) (seat seat_now : Seat) (answer 
       came_now : Comes old.script.value old.world.history.past s (due_at old.world s) (turn.Stepped k) turned.own
       came_now = subst (λ (a : Turn). Comes old.script.value old.world.history.past s (due_at old.world s) a turned.own) is to.came
 
-  step_nearer : (k : StepKind) → answer ≡ turn.Stepped k → IsLess (CommitsSooner (left_in old.world s) (left_in new.world s) (shown_at n old.world s) seat.run) (turns_left seat.run) (turns_left seat_now.run)
-      → StepsNearer (commits_at old s && commits_at new s) old new s
+  step_nearer : (k : StepKind) → answer ≡ turn.Stepped k → IsLess (WorksSooner (left_in old.world s) (left_in new.world s) (shown_at n old.world s) seat.run) (turns_left seat.run) (turns_left seat_now.run)
+      → StepsNearer (works_at old s && works_at new s) old new s
   step_nearer k is near =
-      subst (λ (b : Bool). StepsNearer b old new s) (ap (λ b. b && is_committing seat_now.run.phase) (sym (commits_is old seat at)) ∙ ap (λ b. commits_at old s && b) (sym (commits_is new seat_now at_now)))
-      (by (is_committing seat.run.phase) (is_committing seat_now.run.phase) refl refl near)
+      subst (λ (b : Bool). StepsNearer b old new s) (ap (λ b. b && is_working seat_now.run.phase) (sym (works_is old seat at)) ∙ ap (λ b. works_at old s && b) (sym (works_is new seat_now at_now)))
+      (by (is_working seat.run.phase) (is_working seat_now.run.phase) refl refl near)
     where
       now_left : turns_left seat_now.run ≡ replies_left seat.run + stages_left seat_now.run.phase
       now_left =
@@ -312,12 +337,12 @@ module _ (n : GName) (s : ℕ) (old new : Stage) (seat seat_now : Seat) (answer 
           subst (λ (m : ℕ). m < left_at old s) (sym (left_is new seat_now at_now ∙ now_left))
           (subst (λ (m : ℕ). replies_left seat.run + stages_left seat_now.run.phase < m) (sym (left_is old seat at)) less)
 
-      by : (b c : Bool) → is_committing seat.run.phase ≡ b → is_committing seat_now.run.phase ≡ c
-          → IsLess (CommitsSooner (left_in old.world s) (left_in new.world s) (shown_at n old.world s) seat.run) (turns_left seat.run) (turns_left seat_now.run) → StepsNearer (b && c) old new s
+      by : (b c : Bool) → is_working seat.run.phase ≡ b → is_working seat_now.run.phase ≡ c
+          → IsLess (WorksSooner (left_in old.world s) (left_in new.world s) (shown_at n old.world s) seat.run) (turns_left seat.run) (turns_left seat_now.run) → StepsNearer (b && c) old new s
       by b c before after (inl less) = at_less b c before after (subst (λ (m : ℕ). m < turns_left seat.run) now_left less)
         where
-          at_less : (b c : Bool) → is_committing seat.run.phase ≡ b → is_committing seat_now.run.phase ≡ c → replies_left seat.run + stages_left seat_now.run.phase < replies_left seat.run + stages_left seat.run.phase → StepsNearer (b && c) old new s
-          at_less true true before after less = absurd (not_below (replies_left seat.run) (stages_left seat_now.run.phase) (stages_left seat.run.phase) (committing_left seat_now.run.phase after) (committing_left seat.run.phase before) less)
+          at_less : (b c : Bool) → is_working seat.run.phase ≡ b → is_working seat_now.run.phase ≡ c → replies_left seat.run + stages_left seat_now.run.phase < replies_left seat.run + stages_left seat.run.phase → StepsNearer (b && c) old new s
+          at_less true true before after less = absurd (not_below (replies_left seat.run) (stages_left seat_now.run.phase) (stages_left seat.run.phase) (working_left seat_now.run.phase after) (working_left seat.run.phase before) less)
           at_less true false before after less = now_less less
           at_less false c before after less = now_less less
       by b c before after (inr (same, (commits, sooner))) = at_same b c before after
@@ -325,12 +350,12 @@ module _ (n : GName) (s : ℕ) (old new : Stage) (seat seat_now : Seat) (answer 
           equals : replies_left seat.run + stages_left seat_now.run.phase ≡ replies_left seat.run + stages_left seat.run.phase
           equals = sym now_left ∙ same
 
-          at_same : (b c : Bool) → is_committing seat.run.phase ≡ b → is_committing seat_now.run.phase ≡ c → StepsNearer (b && c) old new s
+          at_same : (b c : Bool) → is_working seat.run.phase ≡ b → is_working seat_now.run.phase ≡ c → StepsNearer (b && c) old new s
           at_same true true before after = (left_is new seat_now at_now ∙ (same ∙ sym (left_is old seat at)), sooner refl)
-          at_same true false before after = absurd (other_left seat_now.run.phase (replies_left seat.run) (stages_left seat.run.phase) after (committing_left seat.run.phase before) equals)
+          at_same true false before after = absurd (other_left seat_now.run.phase (replies_left seat.run) (stages_left seat.run.phase) after (working_left seat.run.phase before) equals)
           at_same false c before after = absurd (false≢true (sym before ∙ commits))
 
-  turn_nearer : (a : Turn) → answer ≡ a → ComesNearer (CommitsSooner (left_in old.world s) (left_in new.world s) (shown_at n old.world s) seat.run) (turns_left seat.run) (turns_left seat_now.run) a → TurnsNearer old new s a
+  turn_nearer : (a : Turn) → answer ≡ a → ComesNearer (WorksSooner (left_in old.world s) (left_in new.world s) (shown_at n old.world s) seat.run) (turns_left seat.run) (turns_left seat_now.run) a → TurnsNearer old new s a
   turn_nearer (turn.Stepped k) is near = step_nearer k is near
   turn_nearer (turn.Said i) is near = subst (λ (m : ℕ). left_at new s < m) (sym (left_is old seat at)) (subst (λ (m : ℕ). m < turns_left seat.run) (sym (left_is new seat_now at_now)) near)
   turn_nearer (turn.Waiting q) is near = tt
@@ -355,7 +380,7 @@ module _ (n : GName) (s : ℕ) (old new : Stage) (seat seat_now : Seat) (answer 
       (run_new old.script.value n s old.world new.world seat seat_now.run answer stage.law stage.history seated turned) to.shape)
 
   pub has_come : (is_saving seat.run.phase ≡ true → DrawsNoOther (shown_at n old.world s) (shown_at n new.world s))
-      → ComesNearer (CommitsSooner (left_in old.world s) (left_in new.world s) (shown_at n old.world s) seat.run) (turns_left seat.run) (turns_left seat_now.run) answer → HasCome old new s answer
+      → ComesNearer (WorksSooner (left_in old.world s) (left_in new.world s) (shown_at n old.world s) seat.run) (turns_left seat.run) (turns_left seat_now.run) answer → HasCome old new s answer
   has_come draws near = record {
     script = script_same;
     stage = stage_now;

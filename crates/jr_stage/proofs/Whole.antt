@@ -181,7 +181,6 @@ answers_all script h within is run asked apart over obey answer = record {
     product_run : IsProductRun (law_of script) (live h)
     product_run = subst (λ (h : History). IsProductRun (law_of script) h) (sym is) (record {
       nodes = within_nodes script within;
-      begun = refl;
       run = subst (λ (h : History). IsRun (starts_of (law_of script)) (says_of (law_of script)) h) is run;
       typed = within.types.typed;
     })

@@ -7,7 +7,7 @@ use Rattle.oak_world.specs.Left.{left_in}
 use Rattle.oak_world.specs.Worlds.{live}
 use Rattle.jcr_law.specs.State.{Call, call_of}
 use Rattle.jcr_session.specs.Nearing.{turns_left, unread_of}
-use Rattle.jcr_session.specs.Standing.{is_committing, is_saving}
+use Rattle.jcr_session.specs.Standing.{is_saving, is_working}
 use Rattle.jcr_session.specs.declared.run.Phase.{Phase}
 use Rattle.jcr_session.specs.declared.turn.Turn.{Turn}
 use Rattle.jcr_session.specs.declared.turn.Turn.TheVariants as turn
@@ -20,9 +20,9 @@ use Rattle.jr_stage.specs.Awaited.{KeepsWaiting}
 abbrev pub phase_at : Stage → ℕ → Option Phase
 phase_at stage s = option_map (λ seat. seat.run.phase) (slice_get stage.seats.items s)
 
--- its commit is under way
-abbrev pub commits_at : Stage → ℕ → Bool
-commits_at stage s = option_map_or is_committing (phase_at stage s) false
+-- a commit or another task of its next command is under way
+abbrev pub works_at : Stage → ℕ → Bool
+works_at stage s = option_map_or is_working (phase_at stage s) false
 
 -- it has drawn, and has not replied yet
 abbrev pub saves_at : Stage → ℕ → Bool
@@ -65,7 +65,8 @@ abbrev pub ReadsThrough : (old new : Stage) → ℕ → Type 0
 ReadsThrough old new s = (unread_at new s ≤ unread_at old s)
     × (IsTrue (reads_at old s) → unread_at new s < unread_at old s)
 
--- s has less left; or its commit is under way as it was, and fewer steps of that are left
+-- s has less left; or a task of its next command is under way as it was, and fewer steps of that are
+-- left
 abbrev pub StepsNearer : (still : Bool) → (old new : Stage) → ℕ → Type 0
 StepsNearer true old new s = (left_at new s ≡ left_at old s) × (steps_at new s < steps_at old s)
 StepsNearer false old new s = left_at new s < left_at old s
@@ -73,7 +74,7 @@ StepsNearer false old new s = left_at new s < left_at old s
 -- what a turn of s brings nearer: a step, and a reply
 abbrev pub TurnsNearer : (old new : Stage) → ℕ → Turn → Type 0
 TurnsNearer old new s (turn.Stepped k) =
-    StepsNearer (commits_at old s && commits_at new s) old new s
+    StepsNearer (works_at old s && works_at new s) old new s
 TurnsNearer old new s (turn.Said i) = left_at new s < left_at old s
 TurnsNearer old new s _ = ⊤
 

@@ -14,8 +14,8 @@ use Rattle.oak_machine.specs.Sessions.{is_drawing}
 use Rattle.oak_machine.specs.Steps.{is_kind, is_on, is_one_step}
 use Rattle.jr_script.specs.declared.script.Script.{Script}
 use Rattle.jr_script.specs.declared.script.Entry.TheVariants as entry
-use Rattle.jr_stage.specs.Places.{history_at, is_commit, is_own, is_resting}
-use Rattle.jr_stage.specs.Places.{is_write_or_mark, next_of}
+use Rattle.jr_stage.specs.Places.{history_at, is_commit, is_of_turn, is_own, is_resting}
+use Rattle.jr_stage.specs.Places.{is_write_or_mark, next_of, tells_of_none}
 use Rattle.jr_stage.specs.Parts.{Rule, by_entry, Part, session_of, is_done, goes_on, events_of}
 use Rattle.jr_stage.specs.Parts.{IsCut}
 use Rattle.jr_stage.specs.Growing.{knows_next}
@@ -26,11 +26,21 @@ use Rattle.jr_stage.specs.Growing.{knows_next}
 abbrev pub is_last_due : Option StepKind → Bool
 is_last_due due = option_map_or (is_kind kind.Last) due false
 
--- one event of session s
-pub record IsSingle (past : Past) (s : ℕ) (own : Past) : Type 0 where
+-- the event tells of no session, s may make it, and nothing of s is in flight
+pub record IsUnnamed (script : Script) (past : Past) (s : ℕ) (e : Event) : Type 0 where
+  pub none : IsTrue (tells_of_none e)
+  pub made : IsTrue (is_of_turn script past s e)
+  pub idle : IsFalse (is_drawing past s)
+
+-- the event is one of session s, or one that s makes and that tells of no session
+abbrev pub IsMadeBy : Script → Past → ℕ → Event → Type 0
+IsMadeBy script past s e = IsTrue (is_own past s e) ⊎ IsUnnamed script past s e
+
+-- one event that session s makes
+pub record IsSingle (script : Script) (past : Past) (s : ℕ) (own : Past) : Type 0 where
   pub event : Event
   pub is : own ≡ event ∷ []
-  pub theirs : IsTrue (is_own past s event)
+  pub made : IsMadeBy script past s event
 
 -- the end of a revision of session s, and the head that it moved; between the two nothing of s is
 -- in flight, and s doesn't rest
@@ -44,15 +54,16 @@ pub record IsDouble (script : Script) (past : Past) (s : ℕ) (own : Past) : Typ
   pub idle : IsFalse (is_drawing (event.End revision ∷ past) s)
   pub awake : IsFalse (is_resting script (event.End revision ∷ past) s)
 
--- the events of one step of session s, the newest first, which doesn't rest: a Write or a Mark
--- where no last write is due, a Commit where it is
+-- the events of one step of session s, the newest first, which doesn't rest: a Write, a Mark or what
+-- tells of no session where no last write is due, a Commit where it is
 pub record IsStepAt (script : Script) (past : Past) (s : ℕ) (due : Option StepKind) (own : Past)
     : Type 0 where
-  pub events : IsSingle past s own ⊎ IsDouble script past s own
+  pub events : IsSingle script past s own ⊎ IsDouble script past s own
   pub step : IsTrue (is_one_step (history_at script past) s (reverse own))
   pub awake : IsFalse (is_resting script past s)
   pub written : (e : Event) → own ≡ e ∷ [] → IsTrue (is_last_due due) → IsFalse (is_write_or_mark e)
   pub committed : (e : Event) → own ≡ e ∷ [] → IsTrue (is_commit e) → IsTrue (is_last_due due)
+  pub unnamed : (e : Event) → own ≡ e ∷ [] → IsTrue (tells_of_none e) → IsFalse (is_last_due due)
 
 -- ---- closed parts
 

@@ -20,8 +20,8 @@ use Rattle.jcr_law.specs.declared.law.JcrLaw.{JcrLaw}
 use Rattle.jcr_session.specs.declared.run.SessionRun.{SessionRun}
 use Rattle.jcr_session.specs.declared.turn.Turn.{Turn}
 use Rattle.jcr_session.specs.declared.turn.Turn.TheVariants as turn
-use Rattle.jcr_session.specs.Nearing.{ComesNearer, CommitsSooner, DrawsNoOther, EndsSooner}
-use Rattle.jcr_session.specs.Nearing.{HasNeared, turns_left}
+use Rattle.jcr_session.specs.Nearing.{ComesNearer, DrawsNoOther, EndsSooner, HasNeared}
+use Rattle.jcr_session.specs.Nearing.{WorksSooner, turns_left}
 use Rattle.jcr_session.specs.Standing.{HasLooked, IsTurned, Stands, is_saving, may_read}
 use Rattle.jr_script.specs.Bounds.{IsWithin}
 use Rattle.jr_script.specs.declared.script.Entry.{Entry}
@@ -32,8 +32,8 @@ use Rattle.jr_stage.specs.declared.stage.Seat.{Seat}
 use Rattle.jr_stage.specs.declared.stage.Stage.{Stage}
 use Rattle.jr_stage.specs.Awaited.{DrawsNone, IsSeenBut, LeavesOthers}
 use Rattle.jr_stage.specs.Flights.{IsFlight, flight_with}
-use Rattle.jr_stage.specs.Nearing.{IsKeptBack, SavesOn, TurnsNearer, commits_at, left_at, phase_at}
-use Rattle.jr_stage.specs.Nearing.{saves_at, steps_at}
+use Rattle.jr_stage.specs.Nearing.{IsKeptBack, SavesOn, TurnsNearer, left_at, phase_at, saves_at}
+use Rattle.jr_stage.specs.Nearing.{steps_at, works_at}
 use Rattle.jr_stage.specs.Parts.{Part, Rule}
 use Rattle.jr_stage.specs.Schedules.{rules_of}
 use Rattle.jr_stage.specs.Places.{history_at, is_over, is_waiting}
@@ -127,7 +127,7 @@ pub record IsTurnedIn (s : ℕ) (old new : WorldOf JcrLaw) (run now : SessionRun
   pub draws : IsTrue (is_saving run.phase)
       → DrawsNoOther (shown_at name old s) (shown_at name new s)
   pub nears : ComesNearer
-      (CommitsSooner (left_in old s) (left_in new s) (shown_at name old s) run)
+      (WorksSooner (left_in old s) (left_in new s) (shown_at name old s) run)
       (turns_left run) (turns_left now) answer
 
 -- a reading step of session s, where one is due
@@ -160,7 +160,7 @@ pub record HasOnlyRead (old new : Stage) (s : ℕ) : Type 0 where
   pub last : is_last_due (due_at new.world s) ≡ is_last_due (due_at old.world s)
   pub phase : phase_at new s ≡ phase_at old s
   pub left : left_at new s ≡ left_at old s
-  pub steps : IsTrue (commits_at old s) → steps_at new s ≡ steps_at old s
+  pub steps : IsTrue (works_at old s) → steps_at new s ≡ steps_at old s
 
 -- reading steps of session s were made, with this behind them; or a turn was made, maybe behind
 -- reading steps
@@ -225,10 +225,10 @@ abbrev pub IsNearerOrCome : (old new : Stage) → ℕ → Option Entry → Type 
 IsNearerOrCome old new s until = (left_at new s < left_at old s) ⊎ IsTrue (comes_to new s until)
 
 -- s has no more left; and its commit has come to where the entry waits for it, or s has less left
--- where one was under way
+-- where a task of its next command was under way
 abbrev pub IsThrough : (old new : Stage) → ℕ → Option Entry → Type 0
 IsThrough old new s until = (left_at new s ≤ left_at old s)
-    × (IsTrue (comes_to new s until) ⊎ (IsTrue (commits_at old s) → left_at new s < left_at old s))
+    × (IsTrue (comes_to new s until) ⊎ (IsTrue (works_at old s) → left_at new s < left_at old s))
 
 -- an entry that waits for a commit of session s
 abbrev pub IsOfCommit : ℕ → Entry → Type 0

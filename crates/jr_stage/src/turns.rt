@@ -3,7 +3,7 @@ ghost use Rattle.std.specs.Prelude.{◌≡◌, ◌<◌, ◌&&◌, IfOk, IsTrue, 
 ghost use Rattle.std.specs.Borrow.{GName};
 ghost use Rattle.oak_world.specs.Seen.{shown_at};
 ghost use Rattle.jcr_session.specs.Standing.{Stands};
-ghost use Rattle.jr_stage.specs.Nearing.{ReadsNearer, ReadsThrough, commits_at, reads_at, unread_at};
+ghost use Rattle.jr_stage.specs.Nearing.{ReadsNearer, ReadsThrough, reads_at, unread_at, works_at};
 ghost use Rattle.jr_stage.specs.Stages.{HasCome, HasTurnedIn, IsNearerOrCome, IsStage, IsThrough, ReadsOrComes, StepsUntil, comes_to, flight_behind, flight_by};
 
 use crate::flight::{Flight, flight_after};
@@ -16,8 +16,9 @@ use oak_world::{SoloPort, World};
 use std::alloc::{AllocError, Global};
 
 impl Stage {
-    // A turn of a session, and where its commit is under way behind it, the turns of that: until it
-    // has ended, waits, or has come to where an entry, if one is given, waits for it.
+    // A turn of a session, and where a commit or another task of its next command is under way behind
+    // it, the turns of that: until it has ended, waits, or has come to where an entry, if one is
+    // given, waits for it.
     pub(crate) fn go_on(&mut self, s: u32, until: Option<Entry>) -> Result<Turn, AllocError>
         requires stage { IsStage self.old }
         requires there { s < length self.old.seats.items }
@@ -26,24 +27,19 @@ impl Stage {
             self.old self.new s until) }
     {
         match self.turn(s)? {
-            Turn::Stepped(kind) => self.commit_on(s, until, kind),
+            Turn::Stepped(kind) => self.work_on(s, until, kind),
             turn => Ok(turn),
         }
     }
 
-    // The turns of a commit that is under way, if one is, behind a step of this kind.
-    fn commit_on(
-        &mut self,
-        s: u32,
-        until: Option<Entry>,
-        kind: StepKind,
-    ) -> Result<Turn, AllocError>
+    // The turns of a commit or another task that is under way, if one is, behind a step of this kind.
+    fn work_on(&mut self, s: u32, until: Option<Entry>, kind: StepKind) -> Result<Turn, AllocError>
         requires stage { IsStage self.old }
         requires there { s < length self.old.seats.items }
         ensures { IfOk result (StepsUntil (IsThrough self.old self.new s until)
             self.old self.new s until) }
     {
-        'commit: while self.is_under_way(s, until) {
+        'task: while self.is_under_way(s, until) {
             match self.turn(s)? {
                 Turn::Stepped(_) => {}
                 turn => return Ok(turn),
@@ -52,13 +48,14 @@ impl Stage {
         Ok(Turn::Stepped(kind))
     }
 
-    // Whether a commit of a session is under way, and has not come to where an entry waits for it.
+    // Whether a commit or another task of a session is under way, and has not come to where an entry
+    // waits for it.
     fn is_under_way(&self, s: u32, until: Option<Entry>) -> bool
         requires there { s < length self.now.seats.items }
         requires seats { length self.now.seats.items ≡ length self.now.world.history.sessions }
-        ensures { result ≡ (commits_at self.now s && not (comes_to self.now s until)) }
+        ensures { result ≡ (works_at self.now s && not (comes_to self.now s until)) }
     {
-        if !self.is_committing(s) {
+        if !self.is_working(s) {
             return false;
         }
         match until {
@@ -67,12 +64,12 @@ impl Stage {
         }
     }
 
-    // Whether a commit of a session is under way.
-    fn is_committing(&self, s: u32) -> bool
+    // Whether a commit or another task of a session is under way.
+    fn is_working(&self, s: u32) -> bool
         requires { s < length self.now.seats.items }
-        ensures { result ≡ commits_at self.now s }
+        ensures { result ≡ works_at self.now s }
     {
-        self.seats[s as usize].run.is_committing()
+        self.seats[s as usize].run.is_working()
     }
 
     // A turn of a session: the reading steps that are due, and a counted step.

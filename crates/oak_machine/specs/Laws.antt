@@ -1,5 +1,5 @@
 -- What a law is asked: an edit may start, a text may be said; and what it owes.
-use Rattle.std.specs.Prelude.{◌≡◌, ℕ, Bool, true, false, ◌==◌, ◌++◌, List, Some, IsFalse}
+use Rattle.std.specs.Prelude.{◌≡◌, ◌≢◌, ℕ, Bool, true, false, ◌==◌, ◌++◌, List, [], Some, IsFalse}
 use Rattle.std.specs.Option.{option_map_or}
 use Rattle.std.specs.List.{filter, list_any}
 use Rattle.jr_path.specs.Lists.{Text}
@@ -77,3 +77,8 @@ AreOfWrites t edit marks = filter is_of_item marks ≡ filter is_of_item (marks_
 -- an edit that may start is proper on the tree at the base of its session, with the marks of its writes
 abbrev pub StartsProper : Starts → Type 0
 StartsProper starts = (h : History) (s : ℕ) (edit : Edit) (marks : List MarkAt) (v : RevVec) → HasBase h s v → starts h s edit marks → IsProper (tree_at h.begin h.past v) edit.writes × AreOfWrites (tree_at h.begin h.past v) edit marks
+
+-- an edit that may start writes something: of a commit that writes nothing no document would tell
+abbrev pub StartsWrite : Starts → Type 0
+StartsWrite starts = (h : History) (s : ℕ) (edit : Edit) (marks : List MarkAt) →
+    starts h s edit marks → edit.writes ≢ []

@@ -126,3 +126,23 @@ refreshed_among (_ ∷ past) s = refreshed_among past s
 
 abbrev pub refreshed_since : Past → ℕ → Option RevVec
 refreshed_since past s = refreshed_among (since past s) s
+
+-- ---- pins
+
+-- the vector of the latest Login or Refresh of s, at which its cluster node pinned it
+abbrev pub pinned_at : Past → ℕ → Option RevVec
+pinned_at [] s = None
+pinned_at (event.Login t v ∷ past) s = cond (t == s) (Some v) (pinned_at past s)
+pinned_at (event.Refresh t v ∷ past) s = cond (t == s) (Some v) (pinned_at past s)
+pinned_at (_ ∷ past) s = pinned_at past s
+
+-- the same, from the session's login until it leaves
+abbrev pub session_base : Past → ℕ → Option RevVec
+session_base past s = cond (has_login past s && not (has_left past s)) (pinned_at past s) None
+
+-- the vector at which session s pinned its cursor last, which is that of its own pin then, until it leaves
+abbrev pub cursor_at : Past → ℕ → Option RevVec
+cursor_at [] s = None
+cursor_at (event.Went t kind.Pin ∷ past) s = cond (t == s) (session_base past s) (cursor_at past s)
+cursor_at (event.Went t kind.End ∷ past) s = cond (t == s) None (cursor_at past s)
+cursor_at (_ ∷ past) s = cursor_at past s

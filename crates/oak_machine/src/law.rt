@@ -5,7 +5,7 @@ ghost use Rattle.jr_tree.specs.declared.edit.Edit.{Edit};
 ghost use Rattle.oak_clash.specs.declared.mark.MarkAt.{MarkAt};
 ghost use Rattle.oak_machine.specs.declared.event.Event.{Event};
 ghost use Rattle.oak_machine.specs.History.{History};
-ghost use Rattle.oak_machine.specs.Laws.{StartsProper};
+ghost use Rattle.oak_machine.specs.Laws.{StartsProper, StartsWrite};
 ghost use Rattle.oak_machine.specs.Runs.{IsLawful, MayFollow, StartsLast, SaysLast, SaysLastBehind, any_said, any_start};
 
 /// A law of a machine: which edits may start, which texts may be said, and for which events a command
@@ -29,6 +29,9 @@ pub trait Law {
 
     /// What may start is proper, with the marks of its writes.
     ghost proper: { (law : Self) → StartsProper (may_start law) };
+
+    /// What may start writes something.
+    ghost writes: { (law : Self) → StartsWrite (may_start law) };
 }
 
 /// The law under which nothing starts, anything may be said, and each event is asked for.
@@ -49,6 +52,8 @@ impl Law for IdleLaw {
     ghost says_last_behind = { λ law h added e s i text nodes end run later others says. says };
 
     ghost proper = { λ law h s edit marks v base starts. absurd starts };
+
+    ghost writes = { λ law h s edit marks starts. absurd starts };
 }
 
 /// An event may follow by a law just where it may whatever the law lets start and say, and where the law

@@ -24,8 +24,9 @@ use Rattle.oak_machine.specs.Heads.{head_of, local, published}
 use Rattle.oak_machine.specs.Asked.{is_of_commit}
 use Rattle.oak_machine.specs.Laws.{AreOthers, Asks, Says, Starts, after}
 use Rattle.oak_machine.specs.Runs.{IsNode, IsRun}
-use Rattle.oak_machine.specs.Sessions.{base_of, has_left, has_login, is_attached, kept_checkpoint}
-use Rattle.oak_machine.specs.Sessions.{next_index}
+use Rattle.oak_machine.specs.Changed.{changes_between}
+use Rattle.oak_machine.specs.Sessions.{base_of, has_left, has_login, is_attached}
+use Rattle.oak_machine.specs.Sessions.{kept_checkpoint, next_index}
 use Rattle.oak_machine.specs.Steps.{is_appended_by, is_kind}
 use Rattle.oak_commit.specs.declared.outcome.CommitEnd.{CommitEnd}
 use Rattle.oak_commit.specs.declared.outcome.CommitEnd.TheVariants as commit
@@ -39,8 +40,8 @@ use Rattle.oak_port.specs.declared.task.TaskEnd.TheVariants as end
 
 -- nothing; a task; a commit that has drawn its revision: it writes, or it undoes and will end so,
 -- or it is committed, or it has ended and its base doesn't see it yet; a background write that has
--- taken its notes, and will publish this revision; or a background read that has read this of the
--- root
+-- taken its notes, and will publish this revision; a background read that has read this of the
+-- root; or a detaching whose base has moved to this vector
 pub data Work : Type 0 where
   Idle : Work
   Starting : Task → Work
@@ -50,6 +51,7 @@ pub data Work : Type 0 where
   Awaiting : Revision → Work
   Publishing : Revision → Work
   Learning : RevVec → Work
+  Detaching : RevVec → Work
 
 -- what is being done for a session, how many bytes of its next reply have a place, where that has
 -- one, and the kind of its next step
@@ -185,8 +187,19 @@ Makes h s (Starting (task.Release i)) (out.Ready (end.Set None)) own now =
     (own ≡ event.Release i ∷ []) × (now ≡ Idle)
 Makes h s (Starting (task.Release i)) (out.Ready end.NoCheckpoint) own now =
     (kept_checkpoint h.past i ≡ None) × (own ≡ event.Went s kind.Settings ∷ []) × (now ≡ Idle)
+Makes h s (Starting (task.Attach i)) (out.Ready (end.Set (Some pin))) own now =
+    (kept_checkpoint h.past i ≡ Some pin.base) × (own ≡ event.Attach s i ∷ []) × (now ≡ Idle)
+Makes h s (Starting (task.Attach i)) (out.Ready end.NoCheckpoint) own now =
+    (kept_checkpoint h.past i ≡ None) × (own ≡ event.Went s kind.Settings ∷ []) × (now ≡ Idle)
+Makes h s (Starting task.Detach) (out.Went k) own now =
+    (v : RevVec) × (k ≡ kind.Pin) × (own ≡ event.Refresh s v ∷ []) × (now ≡ Detaching v)
 Makes h s (Starting task.Observe) (out.Ready (end.Pinned pin)) own now =
     (base_of h.past s ≡ Some pin.base) × (own ≡ event.Went s kind.Pin ∷ []) × (now ≡ Idle)
+Makes h s (Starting (task.Changes since)) (out.Went k) own now =
+    (k ≡ kind.Read) × (own ≡ []) × (now ≡ Starting (task.Changes since))
+Makes h s (Starting (task.Changes since)) (out.Ready (end.Changes found)) own now =
+    (v : RevVec) × (base_of h.past s ≡ Some v)
+    × (found ≡ changes_between h.begin h.past since.base v) × (own ≡ []) × (now ≡ Idle)
 Makes h s (Starting t) out.Memory own now = (own ≡ []) × (now ≡ Idle)
 Makes h s (Publishing r) (out.Went k) own now =
     (k ≡ kind.Back) × (own ≡ event.Went s kind.Back ∷ []) × (now ≡ Publishing r)
@@ -196,6 +209,9 @@ Makes h s (Publishing r) out.Memory own now = (own ≡ []) × (now ≡ Idle)
 Makes h s (Learning u) (out.Ready (end.Learnt v)) own now =
     (m : ℕ) × IsOn h s m × SeesAllOf v u × (own ≡ event.In m v ∷ []) × (now ≡ Idle)
 Makes h s (Learning u) out.Memory own now = (own ≡ []) × (now ≡ Idle)
+Makes h s (Detaching v) (out.Ready (end.Pinned pin)) own now =
+    (pin.base ≡ v) × (own ≡ event.Detach s ∷ []) × (now ≡ Idle)
+Makes h s (Detaching v) out.Memory own now = (own ≡ []) × (now ≡ Idle)
 Makes h s (Writing r) (out.Went k) own now = WritesOn s r k own now
 Makes h s (Writing r) out.Memory own now = (own ≡ []) × (now ≡ Undoing r commit.Memory)
 Makes h s (Undoing r e) (out.Went k) own now =
@@ -218,10 +234,12 @@ last_kind (Starting task.Refresh) = kind.Pin
 last_kind (Starting task.End) = kind.End
 last_kind (Starting (task.Checkpoint i)) = kind.Settings
 last_kind (Starting (task.Release i)) = kind.Settings
+last_kind (Starting (task.Attach i)) = kind.Settings
 last_kind (Starting task.Observe) = kind.Pin
 last_kind (Starting t) = kind.Read
 last_kind (Publishing r) = kind.Back
 last_kind (Learning u) = kind.Learn
+last_kind (Detaching v) = kind.Settings
 last_kind (Undoing r e) = kind.Finish
 last_kind _ = kind.Pin
 
@@ -291,8 +309,8 @@ LastsOn before now old new = (new.history ≡ old.history) → now ≡ before
 -- ---- what a task asks
 
 -- a task may start: a login first, the others of a session that has logged in and not left; an edit
--- that the law lets start. No world does these yet: splits, sweeps, collections, attached sessions,
--- what changed, stops and recoveries
+-- that the law lets start; a detaching where the session is attached, and others only where it isn't.
+-- No world does these yet: what changed, splits, sweeps, collections, stops and recoveries
 abbrev pub MayBegin : Starts → History → ℕ → Task → Type 0
 MayBegin starts h s task.Login = IsFalse (has_login h.past s)
 MayBegin starts h s (task.Commit edit marks) =
@@ -307,9 +325,11 @@ MayBegin starts h s task.Observe =
 MayBegin starts h s (task.Split p) = ⊥
 MayBegin starts h s task.Sweep = ⊥
 MayBegin starts h s task.Collect = ⊥
-MayBegin starts h s (task.Attach i) = ⊥
-MayBegin starts h s task.Detach = ⊥
-MayBegin starts h s (task.Changes pin) = ⊥
+MayBegin starts h s (task.Attach i) =
+    IsTrue (has_login h.past s) × IsFalse (has_left h.past s) × IsFalse (is_attached h.past s)
+MayBegin starts h s task.Detach =
+    IsTrue (has_login h.past s) × IsFalse (has_left h.past s) × IsTrue (is_attached h.past s)
+MayBegin starts h s (task.Changes since) = ⊥
 MayBegin starts h s (task.Stop k) = ⊥
 MayBegin starts h s (task.Recover k) = ⊥
 MayBegin starts h s _ = IsTrue (has_login h.past s) × IsFalse (has_left h.past s)
@@ -334,6 +354,10 @@ Appends task.BackRead (event.In k v) = ⊤
 Appends (task.Checkpoint i) (event.Checkpoint id v) = id ≡ i
 Appends (task.Release i) (event.Release id) = id ≡ i
 Appends (task.Release i) (event.Went s kind.Settings) = ⊤
+Appends (task.Attach i) (event.Attach s id) = id ≡ i
+Appends (task.Attach i) (event.Went s kind.Settings) = ⊤
+Appends task.Detach (event.Refresh s v) = ⊤
+Appends task.Detach (event.Detach s) = ⊤
 Appends task.Observe (event.Went s kind.Pin) = ⊤
 Appends _ _ = ⊥
 
@@ -346,6 +370,7 @@ MayAppend (Deciding r) e = IsTrue (is_of_commit e)
 MayAppend (Awaiting r) e = IsTrue (is_of_commit e)
 MayAppend (Publishing r) e = Appends task.BackWrite e
 MayAppend (Learning v) e = Appends task.BackRead e
+MayAppend (Detaching v) e = Appends task.Detach e
 MayAppend Idle e = ⊥
 
 -- the next command of session s asks for each event that the task appends

@@ -1,6 +1,6 @@
 -- Background work, and a change of the settings, keep no places of the journal.
 use Rattle.std.proofs.Common.{◌≡◌, ℕ, List, ap}
-use Rattle.std.specs.Prelude.{None}
+use Rattle.std.specs.Prelude.{None, Some}
 use Rattle.jr_path.specs.declared.path.DocId.{DocId}
 use Rattle.jr_rev.specs.declared.revision.Revision.{Revision}
 use Rattle.oak_machine.specs.declared.event.StepKind.TheVariants as kind
@@ -39,6 +39,16 @@ module _ (s k : ℕ) (p q : Parts) (v : Work) where
   keeps_free (upkeep.Release i) (answers.Ready ends.NoCheckpoint) h = ap needed h.2
   keeps_free (upkeep.Release i) answers.Memory h = ap needed h.1
   keeps_free (upkeep.Release i) _ h = absurd h
+  keeps_free (upkeep.Attach i) (answers.Ready (ends.Set (Some pin))) h = ap needed h.2
+  keeps_free (upkeep.Attach i) (answers.Ready ends.NoCheckpoint) h = ap needed h.2
+  keeps_free (upkeep.Attach i) answers.Memory h = ap needed h.1
+  keeps_free (upkeep.Attach i) _ h = absurd h
+  keeps_free upkeep.Detach (answers.Went kind.Pin) h = ap needed h.1
+  keeps_free upkeep.Detach answers.Memory h = ap needed h.1
+  keeps_free upkeep.Detach _ h = absurd h
+  keeps_free (upkeep.Detaching pin) (answers.Ready (ends.Pinned o)) h = ap needed h.2
+  keeps_free (upkeep.Detaching pin) answers.Memory h = ap needed h.1
+  keeps_free (upkeep.Detaching pin) _ h = absurd h
   keeps_free upkeep.Observe (answers.Ready (ends.Pinned pin)) h = ap needed h.2
   keeps_free upkeep.Observe answers.Memory h = ap needed h.1
   keeps_free upkeep.Observe _ h = absurd h

@@ -362,6 +362,31 @@ KeepsUp s k p (upkeep.Release i) q v (answers.Ready ends.NoCheckpoint) =
     × (v ≡ work.Rest)
 KeepsUp s k p (upkeep.Release i) q v answers.Memory = Refused p q v
 KeepsUp s k p (upkeep.Release i) q v _ = ⊥
+KeepsUp s k p (upkeep.Attach i) q v (answers.Ready (ends.Set (Some pin))) =
+    (set_checkpoint p.table i ≡ Some pin)
+    × (q ≡ parts (after_update p.table (settings_op (change.Attach s i))) p.memory
+    (p.list ++ event.Attach s i ∷ []))
+    × (v ≡ work.Rest)
+KeepsUp s k p (upkeep.Attach i) q v (answers.Ready ends.NoCheckpoint) =
+    (set_checkpoint p.table i ≡ None)
+    × (q ≡ parts (after_update p.table (settings_op (change.Attach s i))) p.memory
+    (p.list ++ event.Went s kind.Settings ∷ []))
+    × (v ≡ work.Rest)
+KeepsUp s k p (upkeep.Attach i) q v answers.Memory = Refused p q v
+KeepsUp s k p (upkeep.Attach i) q v _ = ⊥
+KeepsUp s k p upkeep.Detach q v (answers.Went kind.Pin) =
+    (q ≡ parts p.table (with_pin p.memory s (pin_now p.memory))
+    (p.list ++ event.Refresh s p.memory.head ∷ []))
+    × (v ≡ work.Upkeep (upkeep.Detaching (pin_now p.memory)))
+KeepsUp s k p upkeep.Detach q v answers.Memory = Refused p q v
+KeepsUp s k p upkeep.Detach q v _ = ⊥
+KeepsUp s k p (upkeep.Detaching pin) q v (answers.Ready (ends.Pinned o)) =
+    (o ≡ pin)
+    × (q ≡ parts (after_update p.table (settings_op (change.Detach s))) p.memory
+    (p.list ++ event.Detach s ∷ []))
+    × (v ≡ work.Rest)
+KeepsUp s k p (upkeep.Detaching pin) q v answers.Memory = Refused p q v
+KeepsUp s k p (upkeep.Detaching pin) q v _ = ⊥
 KeepsUp s k p upkeep.Observe q v (answers.Ready (ends.Pinned pin)) =
     (pin_of p.memory s ≡ Some pin)
     × (q ≡ parts p.table (with_pin p.memory (cursor_owner s) pin)
@@ -443,9 +468,10 @@ pub record CanMove (s : ℕ) (m : NodeState) (places : ℕ) (r : Revision) : Typ
   pub pinned : IsSome (pin_of m s)
   pub place : 1 ≤ places
 
--- a checkpoint is made, and a cursor pinned, where the session is pinned
+-- a checkpoint is made, a cursor pinned, and a session detached, where the session is pinned
 abbrev pub CanKeepUp : ℕ → NodeState → Upkeep → Type 0
 CanKeepUp s m (upkeep.Checkpoint i) = IsSome (pin_of m s)
+CanKeepUp s m upkeep.Detach = IsSome (pin_of m s)
 CanKeepUp s m upkeep.Observe = (s < 64) × IsSome (pin_of m s)
 CanKeepUp s m _ = Unit {0}
 

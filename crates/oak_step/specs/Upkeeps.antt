@@ -43,4 +43,7 @@ kind_kept upkeep.Read = kind.Back
 kind_kept (upkeep.Learn last sweep) = kind.Learn
 kind_kept (upkeep.Checkpoint i) = kind.Settings
 kind_kept (upkeep.Release i) = kind.Settings
+kind_kept (upkeep.Attach i) = kind.Settings
+kind_kept upkeep.Detach = kind.Pin
+kind_kept (upkeep.Detaching pin) = kind.Settings
 kind_kept upkeep.Observe = kind.Pin

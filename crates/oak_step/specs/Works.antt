@@ -29,6 +29,8 @@ Begins pin task.BackWrite v = v ≡ work.Upkeep upkeep.Write
 Begins pin task.BackRead v = v ≡ work.Upkeep upkeep.Read
 Begins pin (task.Checkpoint i) v = v ≡ work.Upkeep (upkeep.Checkpoint i)
 Begins pin (task.Release i) v = v ≡ work.Upkeep (upkeep.Release i)
+Begins pin (task.Attach i) v = v ≡ work.Upkeep (upkeep.Attach i)
+Begins pin task.Detach v = v ≡ work.Upkeep upkeep.Detach
 Begins pin task.Observe v = v ≡ work.Upkeep upkeep.Observe
 Begins pin _ v = ⊥
 
@@ -39,8 +41,6 @@ CanBegin pin (task.List p) = IsSome pin
 CanBegin pin (task.Split p) = ⊥
 CanBegin pin task.Sweep = ⊥
 CanBegin pin task.Collect = ⊥
-CanBegin pin (task.Attach i) = ⊥
-CanBegin pin task.Detach = ⊥
 CanBegin pin (task.Changes since) = ⊥
 CanBegin pin (task.Stop k) = ⊥
 CanBegin pin (task.Recover k) = ⊥

@@ -4,6 +4,7 @@
 mod commit;
 mod load;
 mod session;
+mod settings;
 mod step;
 mod store;
 mod upkeep;

@@ -1,13 +1,16 @@
 // Updates of the documents, which keep them in store order.
-ghost use Rattle.std.specs.Prelude.{◌≡◌};
+ghost use Rattle.std.specs.Prelude.{◌≡◌, ◌∷◌, ◌++◌, [], OnErr, OnOk};
 ghost use Rattle.oak_read.specs.Reading.{IsTable};
 ghost use Rattle.oak_store.specs.Tables.{Updates, after_undo};
+ghost use Rattle.core_world.specs.Steps.{after_update};
 ghost use Rattle.oak_step.specs.Parts.{HasNames};
 
 use jr_path::DocId;
 use jr_rev::Revision;
 use oak_doc::{Document, OpFault, UpdateOp};
+use oak_machine::{Event, Events};
 use oak_store::DocTable;
+use std::alloc::AllocError;
 
 // One update of one document. Answers the document before; a refusal changes nothing.
 pub(crate) fn update(table: &mut DocTable, op: &UpdateOp) -> Result<Option<Document>, OpFault>
@@ -17,6 +20,49 @@ pub(crate) fn update(table: &mut DocTable, op: &UpdateOp) -> Result<Option<Docum
 {
     in_grammar(&op.id);
     table.update(op)
+}
+
+// An update with its event. An update that is refused for another cause than memory changes nothing,
+// and has its event too.
+pub(crate) fn change(
+    table: &mut DocTable,
+    events: &mut Events,
+    op: &UpdateOp,
+    told: Event,
+) -> Result<(), AllocError>
+    requires table { IsTable table.old.documents }
+    ensures table { OnOk result (table.new ≡ after_update table.old op.now) }
+    ensures list { OnOk result (events.new.list ≡ events.old.list ++ told ∷ []) }
+    ensures kept { OnErr result (table.new ≡ table.old) }
+    ensures err { OnErr result (events.new.list ≡ events.old.list) }
+    ensures places { events.new.places ≡ events.old.places }
+    ensures order { IsTable table.new.documents }
+{
+    if events.keep(1).is_err() {
+        drop(told);
+        return Err(AllocError);
+    }
+    match update(table, op) {
+        Err(OpFault::Memory) => {
+            drop(told);
+            events.give_back(1);
+            Err(AllocError)
+        }
+        Ok(before) => {
+            drop(before);
+            events.push_kept(told);
+            Ok(())
+        }
+        Err(OpFault::Absent) => {
+            events.push_kept(told);
+            Ok(())
+        }
+        Err(OpFault::Unmet(_, kept)) => {
+            drop(kept);
+            events.push_kept(told);
+            Ok(())
+        }
+    }
 }
 
 // Drops the entries of a revision from a document.

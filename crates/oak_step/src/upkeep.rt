@@ -1,7 +1,6 @@
 // Background work of a cluster node, and the settings.
-ghost use Rattle.std.specs.Prelude.{◌≡◌, ◌<◌, ◌∷◌, ◌++◌, [], ℕ, false, IfOk, IsSome, None, OnErr, OnOk, Some, cond, is_some};
+ghost use Rattle.std.specs.Prelude.{◌≡◌, ◌<◌, ◌∷◌, ◌++◌, [], ℕ, false, IfOk, IsSome, None, OnErr, OnOk, Some};
 ghost use Rattle.jr_path.specs.Ids.{names_of};
-ghost use Rattle.oak_doc.specs.declared.update.Change.TheVariants as change;
 ghost use Rattle.oak_machine.specs.declared.event.Event.TheVariants as event;
 ghost use Rattle.oak_machine.specs.declared.event.StepKind.TheVariants as kind;
 ghost use Rattle.oak_node.specs.Notes.{IsPending, without_seen};
@@ -10,17 +9,17 @@ ghost use Rattle.core_nodes.specs.Nodes.{cursor_owner};
 ghost use Rattle.oak_node.specs.Memory.{NodeState};
 ghost use Rattle.oak_read.specs.Reading.{IsTable};
 ghost use Rattle.oak_store.specs.Tables.{Table};
-ghost use Rattle.core_world.specs.Steps.{after_update, back_op, settings_op};
-ghost use Rattle.oak_port.specs.declared.task.TaskEnd.TheVariants as ends;
+ghost use Rattle.core_world.specs.Steps.{after_update, back_op};
 ghost use Rattle.oak_step.specs.Parts.{CanKeepUp, HasRoot, KeepsUp, PublishesOn, parts};
 ghost use Rattle.oak_step.specs.declared.upkeep.Upkeep.TheVariants as upkeep;
-ghost use Rattle.oak_step.specs.Upkeeps.{kind_kept, set_checkpoint, told_above, told_ids};
+ghost use Rattle.oak_step.specs.Upkeeps.{kind_kept, told_above, told_ids};
 
-use crate::store;
+use crate::session::refresh;
 use crate::work::Work;
-use jr_path::{DeepCopy, DocId, Keyed, List, Path, Text};
+use crate::{settings, store};
+use jr_path::{DocId, Keyed, List, Path, Text};
 use jr_rev::{Pin, RevVec, Revision};
-use oak_doc::{Change, OpFault, UpdateOp};
+use oak_doc::{Change, UpdateOp};
 use oak_machine::{Event, Events, StepKind};
 use oak_node::{NodeMem, Pending};
 use oak_port::{StepOut, TaskEnd};
@@ -43,6 +42,12 @@ pub enum Upkeep {
     Learn(RevVec, RevVec),
     Checkpoint(Text),
     Release(Text),
+    /// The session is to read at the checkpoint of that name.
+    Attach(Text),
+    /// A detaching whose base has not moved to the head.
+    Detach,
+    /// The session is pinned there, at the head, and is to be no reader any more.
+    Detaching(Pin),
     /// The session's cursor is to be pinned at the session's own pin.
     Observe,
 }
@@ -56,8 +61,9 @@ impl Upkeep {
             Upkeep::Write | Upkeep::Noted(_) | Upkeep::Publish(_, _) | Upkeep::Read =>
                 StepKind::Back,
             Upkeep::Learn(_, _) => StepKind::Learn,
-            Upkeep::Checkpoint(_) | Upkeep::Release(_) => StepKind::Settings,
-            Upkeep::Observe => StepKind::Pin,
+            Upkeep::Checkpoint(_) | Upkeep::Release(_) | Upkeep::Attach(_) | Upkeep::Detaching(_) =>
+                StepKind::Settings,
+            Upkeep::Detach | Upkeep::Observe => StepKind::Pin,
         }
     }
 }
@@ -86,8 +92,11 @@ pub(crate) fn keep_up(
         Upkeep::Publish(ids, r) => publish(alloc, table, events, node, s, ids, r),
         Upkeep::Read => read_root(alloc, table, events, s),
         Upkeep::Learn(last, sweep) => learn(memory, events, node, &last, &sweep),
-        Upkeep::Checkpoint(name) => checkpoint_on(alloc, table, memory, events, s, &name),
-        Upkeep::Release(name) => release_on(alloc, table, events, s, &name),
+        Upkeep::Checkpoint(name) => settings::checkpoint(alloc, table, memory, events, s, &name),
+        Upkeep::Release(name) => settings::release(alloc, table, events, s, &name),
+        Upkeep::Attach(name) => settings::attach(alloc, table, events, s, &name),
+        Upkeep::Detach => pin_on(memory, events, s),
+        Upkeep::Detaching(pin) => settings::detach(alloc, table, events, s, pin),
         Upkeep::Observe => observe_on(memory, events, s),
     }
 }
@@ -211,7 +220,7 @@ fn tell(
 {
     match op_of(alloc, DocId::Node(path), Change::LastRev(r)) {
         Ok(op) => {
-            let done = change(table, events, &op, told);
+            let done = store::change(table, events, &op, told);
             drop(op);
             done
         }
@@ -235,48 +244,6 @@ fn op_of(alloc: Global, id: DocId, change: Change) -> Result<UpdateOp, AllocErro
         cond: None,
         changes,
     })
-}
-
-// An update with its event. An update that is refused for another cause than memory changes nothing, and has its event too.
-fn change(
-    table: &mut DocTable,
-    events: &mut Events,
-    op: &UpdateOp,
-    told: Event,
-) -> Result<(), AllocError>
-    requires table { IsTable table.old.documents }
-    ensures table { OnOk result (table.new ≡ after_update table.old op.now) }
-    ensures list { OnOk result (events.new.list ≡ events.old.list ++ told ∷ []) }
-    ensures kept { OnErr result (table.new ≡ table.old) }
-    ensures err { OnErr result (events.new.list ≡ events.old.list) }
-    ensures places { events.new.places ≡ events.old.places }
-    ensures order { IsTable table.new.documents }
-{
-    if events.keep(1).is_err() {
-        drop(told);
-        return Err(AllocError);
-    }
-    match store::update(table, op) {
-        Err(OpFault::Memory) => {
-            drop(told);
-            events.give_back(1);
-            Err(AllocError)
-        }
-        Ok(before) => {
-            drop(before);
-            events.push_kept(told);
-            Ok(())
-        }
-        Err(OpFault::Absent) => {
-            events.push_kept(told);
-            Ok(())
-        }
-        Err(OpFault::Unmet(_, kept)) => {
-            drop(kept);
-            events.push_kept(told);
-            Ok(())
-        }
-    }
 }
 
 // The ids of the documents of these paths and of those above them but the root, each once, in store order.
@@ -343,135 +310,19 @@ fn learn(
     (Work::Rest, StepOut::Ready(TaskEnd::Learnt(head)))
 }
 
-// A checkpoint is made at the session's pin.
-fn checkpoint_on(
-    alloc: Global,
-    table: &mut DocTable,
-    memory: &NodeMem,
-    events: &mut Events,
-    s: u32,
-    name: &Text,
-) -> (Work, StepOut)
-    requires pinned { IsSome (pin_of memory.now s) }
-    requires table { IsTable table.old.documents }
-    ensures made { (k : ℕ) → KeepsUp s k (parts table.old memory.now events.old.list)
-        (upkeep.Checkpoint name.now) (parts table.new memory.now events.new.list)
-        result.0 result.1 }
+// The first step of a detaching: the session is pinned at the head, and reads there from then on.
+fn pin_on(memory: &mut NodeMem, events: &mut Events, s: u32) -> (Work, StepOut)
+    requires pinned { IsSome (pin_of memory.old s) }
+    ensures made { (k : ℕ) (t : Table) → KeepsUp s k (parts t memory.old events.old.list)
+        upkeep.Detach (parts t memory.new events.new.list) result.0 result.1 }
     ensures places { events.new.places ≡ events.old.places }
-    ensures order { IsTable table.new.documents }
 {
-    match memory.pin_of(s) {
-        Some(pin) => match checkpoint(alloc, table, events, name, pin) {
-            Ok(()) => (Work::Rest, StepOut::Ready(TaskEnd::Set(None))),
-            Err(AllocError) => (Work::Rest, StepOut::Memory),
-        },
-        None => unreachable!(),
-    }
-}
-
-fn checkpoint(
-    alloc: Global,
-    table: &mut DocTable,
-    events: &mut Events,
-    name: &Text,
-    pin: Pin,
-) -> Result<(), AllocError>
-    requires table { IsTable table.old.documents }
-    ensures table { OnOk result
-        (table.new ≡ after_update table.old (settings_op (change.Checkpoint name.now pin))) }
-    ensures list { OnOk result
-        (events.new.list ≡ events.old.list ++ event.Checkpoint name.now pin.base ∷ []) }
-    ensures kept { OnErr result (table.new ≡ table.old) }
-    ensures err { OnErr result (events.new.list ≡ events.old.list) }
-    ensures places { events.new.places ≡ events.old.places }
-    ensures order { IsTable table.new.documents }
-{
-    let told = name.copy()?;
-    let op = op_of(
-        alloc,
-        DocId::Settings,
-        Change::Checkpoint(name.copy()?, pin),
-    )?;
-    let done = change(table, events, &op, Event::Checkpoint(told, pin.base));
-    drop(op);
-    done
-}
-
-// A checkpoint is released, where the settings have it.
-fn release_on(
-    alloc: Global,
-    table: &mut DocTable,
-    events: &mut Events,
-    s: u32,
-    name: &Text,
-) -> (Work, StepOut)
-    requires table { IsTable table.old.documents }
-    ensures made { (k : ℕ) (m : NodeState) → KeepsUp s k (parts table.old m events.old.list)
-        (upkeep.Release name.now) (parts table.new m events.new.list) result.0 result.1 }
-    ensures places { events.new.places ≡ events.old.places }
-    ensures order { IsTable table.new.documents }
-{
-    let there = has_checkpoint(table, name);
-    match release(alloc, table, events, s, name, there) {
-        Ok(()) => (Work::Rest, StepOut::Ready(released(there))),
+    match refresh(memory, events, s) {
+        Ok(pin) => {
+            let work = Work::Upkeep(Upkeep::Detaching(pin));
+            (work, StepOut::Went(StepKind::Pin))
+        }
         Err(AllocError) => (Work::Rest, StepOut::Memory),
-    }
-}
-
-// How a release ends.
-fn released(there: bool) -> TaskEnd
-    ensures { result ≡ cond there (ends.Set None) ends.NoCheckpoint }
-{
-    if there {
-        TaskEnd::Set(None)
-    } else {
-        TaskEnd::NoCheckpoint
-    }
-}
-
-fn release(
-    alloc: Global,
-    table: &mut DocTable,
-    events: &mut Events,
-    s: u32,
-    name: &Text,
-    there: bool,
-) -> Result<(), AllocError>
-    requires table { IsTable table.old.documents }
-    ensures table { OnOk result
-        (table.new ≡ after_update table.old (settings_op (change.Release name.now))) }
-    ensures list { OnOk result (events.new.list ≡ events.old.list
-        ++ cond there (event.Release name.now) (event.Went s kind.Settings) ∷ []) }
-    ensures kept { OnErr result (table.new ≡ table.old) }
-    ensures err { OnErr result (events.new.list ≡ events.old.list) }
-    ensures places { events.new.places ≡ events.old.places }
-    ensures order { IsTable table.new.documents }
-{
-    let told = name.copy()?;
-    let op = op_of(alloc, DocId::Settings, Change::Release(name.copy()?))?;
-    let done = change(table, events, &op, release_event(s, told, there));
-    drop(op);
-    done
-}
-
-// The event of a release, or of a step that found nothing to release.
-fn release_event(s: u32, name: Text, there: bool) -> Event
-    ensures { result ≡ cond there (event.Release name) (event.Went s kind.Settings) }
-{
-    if there {
-        Event::Release(name)
-    } else {
-        Event::Went(s, StepKind::Settings)
-    }
-}
-
-// Whether the settings have a checkpoint of that name.
-fn has_checkpoint(table: &DocTable, name: &Text) -> bool
-    ensures { result ≡ is_some (set_checkpoint table.now name.now) }
-{
-    match table.find(&DocId::Settings) {
-        Some(settings) => settings.checkpoints.contains(name),
-        None => false,
     }
 }
 

@@ -56,16 +56,13 @@ impl Work {
             Task::BackRead => Ok(Work::Upkeep(Upkeep::Read)),
             Task::Checkpoint(name) => Ok(Work::Upkeep(Upkeep::Checkpoint(name))),
             Task::Release(name) => Ok(Work::Upkeep(Upkeep::Release(name))),
+            Task::Attach(name) => Ok(Work::Upkeep(Upkeep::Attach(name))),
+            Task::Detach => Ok(Work::Upkeep(Upkeep::Detach)),
             Task::Observe => Ok(Work::Upkeep(Upkeep::Observe)),
             // No world does these yet.
             Task::Split(_path) => unreachable!(),
-            Task::Attach(_name) => unreachable!(),
-            Task::Sweep
-            | Task::Collect
-            | Task::Detach
-            | Task::Changes(_)
-            | Task::Stop(_)
-            | Task::Recover(_) => unreachable!(),
+            Task::Sweep | Task::Collect | Task::Changes(_) | Task::Stop(_) | Task::Recover(_) =>
+                unreachable!(),
         }
     }
 

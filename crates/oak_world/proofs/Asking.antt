@@ -29,7 +29,7 @@ use Rattle.oak_port.specs.declared.task.StepOut.TheVariants as out
 use Rattle.oak_port.specs.declared.task.Task.{Task}
 use Rattle.oak_port.specs.declared.task.Task.TheVariants as task
 use Rattle.oak_port.specs.declared.task.TaskEnd.TheVariants as end
-use Rattle.oak_port.specs.Ports.{AreOfStep, Awaiting, Deciding, Idle, IsAskedOf, IsFinish, Learning, Makes, MayAppend, Publishing, Starting, Undoing, Work as Shows, Writing, WritesOn, last_kind}
+use Rattle.oak_port.specs.Ports.{AreOfStep, Awaiting, Deciding, Detaching, Idle, IsAskedOf, IsFinish, Learning, Makes, MayAppend, Publishing, Starting, Undoing, Work as Shows, Writing, WritesOn, last_kind}
 use Rattle.oak_step.specs.declared.work.Work.{Work}
 use Rattle.oak_step.specs.declared.work.Work.TheVariants as work
 use Rattle.oak_step.specs.Works.{Begins}
@@ -96,6 +96,11 @@ adds h s (Starting task.BackRead) (out.Went k) own now m = (inr (inl (event.Went
 adds h s (Starting (task.Checkpoint i)) (out.Ready (end.Set None)) own now m = (inr (inl (event.Checkpoint i m.0, m.2, refl, refl)), no_more (Starting (task.Checkpoint i)) now m.3)
 adds h s (Starting (task.Release i)) (out.Ready (end.Set None)) own now m = (inr (inl (event.Release i, m.0, refl, refl)), no_more (Starting (task.Release i)) now m.1)
 adds h s (Starting (task.Release i)) (out.Ready end.NoCheckpoint) own now m = (inr (inl (event.Went s kind.Settings, m.1, tt, refl)), no_more (Starting (task.Release i)) now m.2)
+adds h s (Starting (task.Attach i)) (out.Ready (end.Set (Some pin))) own now m = (inr (inl (event.Attach s i, m.1, refl, refl)), no_more (Starting (task.Attach i)) now m.2)
+adds h s (Starting (task.Attach i)) (out.Ready end.NoCheckpoint) own now m = (inr (inl (event.Went s kind.Settings, m.1, tt, refl)), no_more (Starting (task.Attach i)) now m.2)
+adds h s (Starting task.Detach) (out.Went k) own now m = (inr (inl (event.Refresh s m.0, m.2, tt, refl)), less_by (Starting task.Detach) now _ m.3 (λ e may. may))
+adds h s (Starting (task.Changes since)) (out.Went k) own now m = (inl m.1, less_by (Starting (task.Changes since)) now _ m.2 (λ e may. may))
+adds h s (Starting (task.Changes since)) (out.Ready (end.Changes found)) own now m = (inl m.3, no_more (Starting (task.Changes since)) now m.4)
 adds h s (Starting task.Observe) (out.Ready (end.Pinned pin)) own now m = (inr (inl (event.Went s kind.Pin, m.1, tt, refl)), no_more (Starting task.Observe) now m.2)
 adds h s (Starting t) out.Memory own now m = (inl m.0, no_more (Starting t) now m.1)
 adds h s (Publishing r) (out.Went k) own now m = (inr (inl (event.Went s kind.Back, m.1, tt, refl)), less_by (Publishing r) now _ m.2 (λ e may. may))
@@ -103,6 +108,8 @@ adds h s (Publishing r) (out.Ready (end.Published o)) own now m = (inr (inl (eve
 adds h s (Publishing r) out.Memory own now m = (inl m.0, no_more (Publishing r) now m.1)
 adds h s (Learning u) (out.Ready (end.Learnt v)) own now m = (inr (inl (event.In m.0 v, m.3, tt, refl)), no_more (Learning u) now m.4)
 adds h s (Learning u) out.Memory own now m = (inl m.0, no_more (Learning u) now m.1)
+adds h s (Detaching v) (out.Ready (end.Pinned pin)) own now m = (inr (inl (event.Detach s, m.1, tt, refl)), no_more (Detaching v) now m.2)
+adds h s (Detaching v) out.Memory own now m = (inl m.0, no_more (Detaching v) now m.1)
 adds h s (Writing r) (out.Went k) own now m = (writes s r k own now m, writes_less s r k own now m)
 adds h s (Writing r) out.Memory own now m = (inl m.0, less_by (Writing r) now _ m.1 (λ e may. may))
 adds h s (Undoing r e) (out.Went k) own now m = (inr (inl (event.Went s kind.Undo, m.1, refl, refl)), less_by (Undoing r e) now _ m.2 (λ e may. may))

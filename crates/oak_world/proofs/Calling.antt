@@ -14,10 +14,9 @@ use Rattle.oak_machine.specs.Laws.{Asks, Says, Starts, StartsProper}
 use Rattle.oak_machine.specs.Runs.{StartsLast}
 use Rattle.oak_machine.specs.Sessions.{next_index}
 use Rattle.oak_node.specs.Memory.{NodeState}
-use Rattle.oak_node.specs.Pins.{pin_of}
 use Rattle.oak_read.specs.Reading.{IsTable}
 use Rattle.oak_store.specs.Tables.{Table}
-use Rattle.core_world.specs.States.{memory_at, memory_of}
+use Rattle.core_world.specs.States.{actor_pin, memory_at}
 use Rattle.oak_port.specs.declared.task.StepOut.{StepOut}
 use Rattle.oak_port.specs.declared.task.Task.{Task}
 use Rattle.oak_port.specs.declared.task.Task.TheVariants as task
@@ -29,7 +28,7 @@ use Rattle.oak_world.specs.Kept.{ArePlaced, IsAskedWorld, IsPlaced, IsWorld}
 use Rattle.oak_step.specs.Parts.{CanStep, Steps, needed, parts}
 use Rattle.oak_world.specs.Seen.{shown_at}
 use Rattle.oak_step.specs.Works.{Begins}
-use Rattle.oak_world.specs.Steps.{StepsIn, reads_after}
+use Rattle.oak_world.specs.Steps.{StepsIn, attached_after, reads_after}
 use Rattle.oak_world.specs.Worlds.{ActorState, WorldOf, actor_in, live, said_in, shown_actor, shown_world, state_of, with_reply, with_work, work_in}
 use Rattle.oak_world.proofs.Asking.{reply_asked, said_asked, start_asked, step_keeps_asked}
 use Rattle.oak_world.proofs.Calls.{actor_shown, begun_is, can, its_placed, own_are, replied_is, said_is, same_is, seen, set_placed, step_keeps_all, steps_in}
@@ -48,6 +47,8 @@ begins_free pin task.BackWrite v h = ap needed h
 begins_free pin task.BackRead v h = ap needed h
 begins_free pin (task.Checkpoint i) v h = ap needed h
 begins_free pin (task.Release i) v h = ap needed h
+begins_free pin (task.Attach i) v h = ap needed h
+begins_free pin task.Detach v h = ap needed h
 begins_free pin task.Observe v h = ap needed h
 begins_free pin _ v h = absurd h
 
@@ -131,7 +132,7 @@ module _ (starts : Starts) (says : Says) (proper : StartsProper starts) (last : 
     pub starting_is : shown_world law j t ms (slice_set actors s begun) ≡ with_work w s v
     starting_is = begun_is starts says proper last law j t ms actors is placed s k on a here begun j.events v (ap (λ (c : ℕ). record (shown_actor a) { work = v; began = c }) count) refl
 
-    pub start_stands : (asks : Asks) → IsAskedWorld asks w → IsAskedOf asks (live w.history) s x → work_in w.actors s ≡ work.Rest → MayBegin starts (live w.history) s x → pin ≡ pin_of (memory_of (state_of w) s) s
+    pub start_stands : (asks : Asks) → IsAskedWorld asks w → IsAskedOf asks (live w.history) s x → work_in w.actors s ≡ work.Rest → MayBegin starts (live w.history) s x → pin ≡ actor_pin (state_of w) s
         → (IsWorld starts says (shown_world law j t ms (slice_set actors s begun)) × ArePlaced (slice_set actors s begun) j.events.places) × IsAskedWorld asks (shown_world law j t ms (slice_set actors s begun))
     start_stands asks asked so idle may same = (
       (
@@ -151,18 +152,18 @@ module _ (starts : Starts) (says : Says) (proper : StartsProper starts) (last : 
     step_can busy short = can starts says proper last law j t ms actors is placed s k on a here m remembered busy short
 
     module _ (u : Table) (n : NodeState) (es : Recorded) (b : Actor) (o : StepOut) (busy : work_in w.actors s ≢ work.Rest) (made : Steps s k (parts t m j.events.list) a.work (parts u n es.list) b.work o)
-        (began : b.began ≡ a.began) (reply : b.reply ≡ a.reply) (reads : b.reads ≡ reads_after a.work o a.reads) where
+        (began : b.began ≡ a.began) (reply : b.reply ≡ a.reply) (reads : b.reads ≡ reads_after a.work o a.reads) (attached : b.attached ≡ attached_after a.work o a.attached) where
       abbrev stepped : WorldOf L
       stepped = shown_world law (record j { events = es }) u (slice_set ms (k - 1) n) (slice_set actors s b)
 
       pub step_made : StepsIn w s stepped o
-      step_made = steps_in starts says proper last law j t ms actors is placed s k on a here m remembered u n es b o (seat_busy busy) made began reply reads
+      step_made = steps_in starts says proper last law j t ms actors is placed s k on a here m remembered u n es b o (seat_busy busy) made began reply reads attached
 
       pub step_stands : (asks : Asks) → IsAskedWorld asks w → IsTable u.documents → IsPlaced b → es.places + a.places ≡ j.events.places + b.places → (IsWorld starts says stepped × ArePlaced (slice_set actors s b) es.places) × IsAskedWorld asks stepped
       step_stands asks asked table its places = (
-        step_keeps_all starts says proper last law j t ms actors is placed s k on a here m remembered u n es b o (seat_busy busy) made began reply reads table its places,
+        step_keeps_all starts says proper last law j t ms actors is placed s k on a here m remembered u n es b o (seat_busy busy) made began reply reads attached table its places,
         step_keeps_asked starts says proper last w is s there stepped o step_made asks asked,
       )
 
       pub step_shown : (name : GName) → StepSeen starts says (shown_at name w s) (shown_at name stepped s) o
-      step_shown name = seen starts says proper last law j t ms actors is placed s k on a here m remembered u n es b o (seat_busy busy) made began reply reads name
+      step_shown name = seen starts says proper last law j t ms actors is placed s k on a here m remembered u n es b o (seat_busy busy) made began reply reads attached name

@@ -1,5 +1,5 @@
 -- What a world keeps, by its fields, after the calls of one of its sessions.
-use Rattle.std.proofs.Common.{◌≡◌, ◌≢◌, ℕ, zero, suc, ◌+◌, ◌-◌, ◌^◌, ◌<◌, ◌≤◌, true, cond, Option, Some, None, List, [], ◌∷◌, ◌++◌, length, map, is_some, refl, sym, ap, subst, ◌∙◌, arith}
+use Rattle.std.proofs.Common.{◌≡◌, ◌≢◌, ℕ, zero, suc, ◌+◌, ◌-◌, ◌^◌, ◌<◌, ◌≤◌, Bool, true, cond, Option, Some, None, List, [], ◌∷◌, ◌++◌, length, map, is_some, refl, sym, ap, subst, ◌∙◌, arith}
 use Rattle.std.specs.Prelude.{reverse, slice_get, slice_set}
 use Rattle.std.specs.Option.{option_map, unwrap_or}
 use Rattle.std.specs.Borrow.{GName}
@@ -27,7 +27,7 @@ use Rattle.oak_step.specs.declared.work.Work.{Work}
 use Rattle.oak_step.specs.declared.work.Work.TheVariants as work
 use Rattle.oak_world.specs.Kept.{ArePlaced, IsPlaced, IsWorld, May}
 use Rattle.oak_step.specs.Parts.{CanStep, Parts, Steps, needed, parts}
-use Rattle.oak_world.specs.Steps.{Makes, StepsIn, reads_after}
+use Rattle.oak_world.specs.Steps.{Makes, StepsIn, attached_after, reads_after}
 use Rattle.oak_world.specs.Seen.{shown_at}
 use Rattle.oak_world.specs.Worlds.{ActorState, WorldOf, actor_in, idle, live, node_in, parts_at, said_in, shown_actor, shown_world, state_of, with_parts, with_reply, with_work, work_in}
 use Rattle.oak_world.proofs.Keeping.{can_step, seat, step_keeps, step_seen}
@@ -128,26 +128,27 @@ module _ (starts : Starts) (says : Says) (proper : StartsProper starts) (last : 
         makes_now = subst (λ (x : WorldOf L). Makes s (state_of w) (work_in w.actors s) (state_of x) b.work o) same_world
             (makes w s seated after b.work (shown_actor b) refl is.unsplit (work_in w.actors s) refl (λ e. busy (sym work_is ∙ e)) roots o made_there)
 
-        pub steps_in : b.began ≡ a.began → b.reply ≡ a.reply → b.reads ≡ reads_after a.work o a.reads → StepsIn w s now o
-        steps_in began reply reads = record {
+        pub steps_in : b.began ≡ a.began → b.reply ≡ a.reply → b.reads ≡ reads_after a.work o a.reads → b.attached ≡ attached_after a.work o a.attached → StepsIn w s now o
+        steps_in began reply reads attached = record {
           does = b.work;
           makes = makes_now;
           actors = map_set shown_actor actors s b ∙ ap (slice_set (map shown_actor actors) s) shown;
           law = refl;
         }
           where
-            shown : shown_actor b ≡ record (actor_in w.actors s) { work = b.work; reads = reads_after (work_in w.actors s) o (actor_in w.actors s).reads }
+            shown : shown_actor b ≡ record (actor_in w.actors s) { work = b.work; reads = reads_after (work_in w.actors s) o (actor_in w.actors s).reads; attached = attached_after (work_in w.actors s) o (actor_in w.actors s).attached }
             shown =
                 ap (λ (x : ℕ). record (shown_actor b) { began = x }) began
                 ∙ (ap (λ (x : Option ℕ). record (shown_actor b) { began = a.began; reply = x }) reply
                 ∙ (ap (λ (x : ℕ). record (shown_actor b) { began = a.began; reply = a.reply; reads = x }) reads
-                ∙ sym (ap (λ (x : ActorState). record x { work = b.work; reads = reads_after x.work o x.reads }) actor_is)))
+                ∙ (ap (λ (x : Bool). record (shown_actor b) { began = a.began; reply = a.reply; reads = reads_after a.work o a.reads; attached = x }) attached
+                ∙ sym (ap (λ (x : ActorState). record x { work = b.work; reads = reads_after x.work o x.reads; attached = attached_after x.work o x.attached }) actor_is))))
 
-        pub step_keeps_all : b.began ≡ a.began → b.reply ≡ a.reply → b.reads ≡ reads_after a.work o a.reads → IsTable u.documents → IsPlaced b → es.places + a.places ≡ j.events.places + b.places → IsWorld starts says now × ArePlaced (slice_set actors s b) es.places
-        step_keeps_all began reply reads table its places = (step_keeps starts says proper last w is s there now o (steps_in began reply reads) table, set_placed b es.places its places)
+        pub step_keeps_all : b.began ≡ a.began → b.reply ≡ a.reply → b.reads ≡ reads_after a.work o a.reads → b.attached ≡ attached_after a.work o a.attached → IsTable u.documents → IsPlaced b → es.places + a.places ≡ j.events.places + b.places → IsWorld starts says now × ArePlaced (slice_set actors s b) es.places
+        step_keeps_all began reply reads attached table its places = (step_keeps starts says proper last w is s there now o (steps_in began reply reads attached) table, set_placed b es.places its places)
 
-        pub seen : b.began ≡ a.began → b.reply ≡ a.reply → b.reads ≡ reads_after a.work o a.reads → (name : GName) → StepSeen starts says (shown_at name w s) (shown_at name now s) o
-        seen began reply reads name = step_seen starts says proper last w is s there now o (steps_in began reply reads) name
+        pub seen : b.began ≡ a.began → b.reply ≡ a.reply → b.reads ≡ reads_after a.work o a.reads → b.attached ≡ attached_after a.work o a.attached → (name : GName) → StepSeen starts says (shown_at name w s) (shown_at name now s) o
+        seen began reply reads attached name = step_seen starts says proper last w is s there now o (steps_in began reply reads attached) name
 
   -- ---- other calls
 

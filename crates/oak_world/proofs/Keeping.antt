@@ -2,7 +2,7 @@
 use Rattle.jr_path.specs.declared.path.Path.{Path}
 use Rattle.oak_doc.specs.declared.document.PrevEntry.{PrevEntry}
 use mathlib.Core.Bool.{false≢true}
-use Rattle.std.proofs.Common.{◌≡◌, ◌≢◌, ◌↔◌, cond, ℕ, zero, suc, ◌^◌, ◌<◌, ◌≤◌, Bool, true, false, ◌||◌, Option, Some, None, List, [], ◌∷◌, length, map, is_some, refl, sym, ap, subst, ◌∙◌, arith}
+use Rattle.std.proofs.Common.{◌≡◌, ◌≢◌, ◌↔◌, ℕ, zero, suc, ◌^◌, ◌<◌, ◌≤◌, Bool, true, false, ◌||◌, Option, Some, None, List, [], ◌∷◌, ◌++◌, length, map, is_some, refl, sym, ap, subst, ◌∙◌, arith}
 use Rattle.std.specs.Prelude.{◌==◌, slice_get, slice_set, IsSome}
 use Rattle.std.specs.Borrow.{GName}
 use Rattle.std.proofs.lemmas.List.{length-set}
@@ -32,7 +32,7 @@ use Rattle.core_nodes.specs.Nodes.{cursor_owner}
 use Rattle.core_nodes.proofs.Pasts.{ended_was_drawn}
 use Rattle.core_nodes.proofs.Waits.{has_ended}
 use Rattle.core_world.specs.Kept.{IsKept}
-use Rattle.core_world.specs.States.{State, actor_pin, memory_of, reader_pin, with_session}
+use Rattle.core_world.specs.States.{State, actor_pin, memory_of, with_session}
 use Rattle.core_world.specs.Steps.{after_said, with_reader}
 use Rattle.core_world.proofs.Flights.{other_number, same_number}
 use Rattle.core_world.proofs.Lives.{its_node, on_node}
@@ -50,10 +50,12 @@ use Rattle.oak_world.specs.Kept.{IsWorld, May, MayKeepUp}
 use Rattle.oak_step.specs.Parts.{CanKeepUp, CanStep, HasRoot, needed}
 use Rattle.oak_world.specs.Seen.{no_seat, seat_of, shown_at, shown_by, shown_upkeep, shown_work}
 use Rattle.oak_step.specs.Works.{Begins, CanBegin, kind_due, kind_of}
-use Rattle.oak_world.specs.Steps.{HasCome, StepsIn}
+use Rattle.oak_world.specs.Steps.{HasCome, StepsIn, attached_after}
 use Rattle.oak_world.specs.Worlds.{ActorState, Story, WorldOf, actor_in, live, node_in, reading_of, running_as, running_of, said_in, state_of, state_with, with_reply, with_work, work_in}
 use Rattle.oak_world.proofs.States.{actor_other, actor_set, session_same, session_set}
 use Rattle.oak_step.proofs.Stages.{counted_stage, done_stage}
+use Rattle.oak_world.proofs.Others.{attached_left}
+use Rattle.oak_world.proofs.Pinning.{actor_there}
 use Rattle.oak_world.proofs.Staying.{may_last}
 use Rattle.oak_world.proofs.StepsOf.{IsStepOf, none_stopped}
 use Rattle.oak_world.proofs.Walking.{any_step}
@@ -133,6 +135,9 @@ upkeep_shown upkeep.Read h = cc
 upkeep_shown (upkeep.Learn last sweep) h = cc
 upkeep_shown (upkeep.Checkpoint i) h = cc
 upkeep_shown (upkeep.Release i) h = cc
+upkeep_shown (upkeep.Attach i) h = cc
+upkeep_shown upkeep.Detach h = cc
+upkeep_shown (upkeep.Detaching pin) h = cc
 upkeep_shown upkeep.Observe h = cc
 
 -- a session that is shown to do nothing does nothing
@@ -187,6 +192,8 @@ begins_shown pin task.BackWrite v h = ap shown_work h
 begins_shown pin task.BackRead v h = ap shown_work h
 begins_shown pin (task.Checkpoint i) v h = ap shown_work h
 begins_shown pin (task.Release i) v h = ap shown_work h
+begins_shown pin (task.Attach i) v h = ap shown_work h
+begins_shown pin task.Detach v h = ap shown_work h
 begins_shown pin task.Observe v h = ap shown_work h
 begins_shown pin _ v h = absurd h
 
@@ -216,9 +223,9 @@ module _ (starts : Starts) (says : Says) (proper : StartsProper starts) (last : 
 
   moved_ended : (r : Revision) → May starts (live w.history) s (work.Move r) → HasEnded (memory_of (state_of w) s) r
   moved_ended r may =
-      has_ended w.history.clusters w.history.sessions is.kept.sessions.nodes w.history.past (sound_run w.history.clusters w.history.sessions is.kept.sessions.nodes None starts says w.history.past is.kept.sessions.run) (node_in w.history s) node (memory_of (state_of w) s) (is.kept.sessions.memories.memory (node_in w.history s) node) r
+      has_ended None w.history.clusters w.history.sessions is.kept.sessions.nodes w.history.past (sound_run w.history.clusters w.history.sessions is.kept.sessions.nodes None starts says w.history.past is.kept.sessions.run) (node_in w.history s) node (memory_of (state_of w) s) (is.kept.sessions.memories.memory (node_in w.history s) node) r
       (let k : Some r.cluster ≡ Some (node_in w.history s) = sym may.2 ∙ on in cc)
-      (ended_was_drawn starts says w.history.clusters w.history.sessions w.history.past is.kept.sessions.run r may.1) may.1
+      (ended_was_drawn None starts says w.history.clusters w.history.sessions w.history.past is.kept.sessions.run r may.1) may.1
 
   below_few : s < 64
   below_few =
@@ -228,6 +235,7 @@ module _ (starts : Starts) (says : Says) (proper : StartsProper starts) (last : 
 
   can_keep_up : (u : Upkeep) → HasCome (live w.history) s → CanKeepUp s (memory_of (state_of w) s) u
   can_keep_up (upkeep.Checkpoint i) come = come_pinned come
+  can_keep_up upkeep.Detach come = come_pinned come
   can_keep_up upkeep.Observe come = (below_few, come_pinned come)
   can_keep_up _ come = tt
 
@@ -238,7 +246,7 @@ module _ (starts : Starts) (says : Says) (proper : StartsProper starts) (last : 
       let k : s < length w.history.sessions = slice_get_within w.history.sessions s (node_in w.history s) on in
       let few : length w.history.sessions ≤ 64 = is.few in
       omega arith
-  can_by work.Refresh busy at may places kept short = come_pinned may
+  can_by work.Refresh busy at may places kept short = come_pinned may.0
   can_by (work.Read r) busy at may places kept short = tt
   can_by (work.Plan edit marks) busy at may places kept short = let t : known_time (memory_of (state_of w) s) ≤ length w.history.past = time_known starts says proper (state_of w) is.kept.sessions (node_in w.history s) node in omega arith
   can_by (work.Commit c) busy at may places kept short = record { flying = flies_there starts says proper (state_of w) is.kept.sessions s (running_as s c) (ap (running_of s) at); unended = may.unended; counted = counted_stage c may.looked; kept = kept }
@@ -253,14 +261,12 @@ module _ (starts : Starts) (says : Says) (proper : StartsProper starts) (last : 
   has_root = ap is_some is.kept.root.there
 
   -- the session may be told to do the task
-  pub can_begin : (t : Task) → MayBegin starts (live w.history) s t → CanBegin (pin_of (memory_of (state_of w) s) s) t
-  can_begin (task.Load p) may = come_pinned (record { login = may.0; stays = may.1 })
-  can_begin (task.List p) may = come_pinned (record { login = may.0; stays = may.1 })
+  pub can_begin : (t : Task) → MayBegin starts (live w.history) s t → CanBegin (actor_pin (state_of w) s) t
+  can_begin (task.Load p) may = actor_there starts says proper (state_of w) is.kept s there is.unstopped may.0 may.1
+  can_begin (task.List p) may = actor_there starts says proper (state_of w) is.kept s there is.unstopped may.0 may.1
   can_begin (task.Split p) may = may
   can_begin task.Sweep may = may
   can_begin task.Collect may = may
-  can_begin (task.Attach i) may = may
-  can_begin task.Detach may = may
   can_begin (task.Changes since) may = may
   can_begin (task.Stop k) may = may
   can_begin (task.Recover k) may = may
@@ -274,7 +280,7 @@ module _ (starts : Starts) (says : Says) (proper : StartsProper starts) (last : 
 
   module _ (u : WorldOf L) (o : StepOut) (m : StepsIn w s u o) where
     pub step_is : IsStepOf starts says s (state_of w) (work_in w.actors s) (state_of u) m.does o
-    step_is = any_step starts says proper (state_of w) is.kept s there few_sessions (is.detached s) is.unstopped is.table (work_in w.actors s) refl refl (is.may s) (state_of u) m.does o m.makes
+    step_is = any_step starts says proper (state_of w) is.kept s there few_sessions refl is.unstopped is.table (work_in w.actors s) refl refl (is.may s) (state_of u) m.does o m.makes
 
     pub grown : (live u.history) ≡ after step_is.own (live w.history)
     grown = step_is.grown
@@ -291,12 +297,18 @@ module _ (starts : Starts) (says : Says) (proper : StartsProper starts) (last : 
     may_by q false apart = subst (λ (h : History). May starts h q (work_in u.actors q)) (sym grown)
         (subst (λ (v : Work). May starts (after step_is.own (live w.history)) q v) (sym (ap (λ (a : ActorState). a.work) (others_are w s seat u.actors _ m.actors q apart))) (others_may q step_is.own (step_is.apart q apart) run_now))
 
+    -- each session is attached as the journal tells
+    attached_by : (q : ℕ) (b : Bool) → (q == s) ≡ b → (actor_in u.actors q).attached ≡ is_attached (step_is.own ++ w.history.past) q
+    attached_by q true same = subst (λ (n : ℕ). (actor_in u.actors n).attached ≡ is_attached (step_is.own ++ w.history.past) n) (sym (same_number q s same))
+        (ap (λ (a : ActorState). a.attached) (set_is w s seat u.actors _ m.actors) ∙ (ap (attached_after (work_in w.actors s) o) (is.attached s) ∙ step_is.attached))
+    attached_by q false apart = ap (λ (a : ActorState). a.attached) (others_are w s seat u.actors _ m.actors q apart) ∙ (is.attached q ∙ sym (attached_left q step_is.own w.history.past (step_is.apart q apart)))
+
     pub step_keeps : IsTable u.table.documents → IsWorld starts says u
     step_keeps table = record {
       kept = step_is.kept;
       table = table;
       few = subst (λ (h : History). length h.sessions ≤ 64) (sym grown) is.few;
-      detached = λ q. subst (λ (h : History). is_attached h.past q ≡ false) (sym grown) (step_is.detached q (is.detached q));
+      attached = λ q. attached_by q (q == s) refl ∙ ap (λ (h : History). is_attached h.past q) (sym grown);
       unstopped = λ k. subst (λ (h : History). is_stopped h.past k ≡ false) (sym grown) (step_is.unstopped k (is.unstopped k));
       unsplit = λ p. ap (λ (f : Path → List PrevEntry). f p) step_is.same ∙ is.unsplit p;
       seats = ap length m.actors ∙ (length-set w.actors s _ ∙ (is.seats ∙ sym (ap (λ (h : History). length h.sessions) grown)));
@@ -320,18 +332,22 @@ module _ (starts : Starts) (says : Says) (proper : StartsProper starts) (last : 
   -- ---- other calls
 
   -- a session does something else, and no event is added
-  set_keeps : (a : ActorState) → IsKept starts says (state_with w.history w.table w.memories (slice_set w.actors s a)) → May starts (live w.history) s a.work → IsWorld starts says (record w { actors = slice_set w.actors s a })
-  set_keeps a kept may = record {
+  set_keeps : (a : ActorState) → a.attached ≡ (actor_in w.actors s).attached → IsKept starts says (state_with w.history w.table w.memories (slice_set w.actors s a)) → May starts (live w.history) s a.work → IsWorld starts says (record w { actors = slice_set w.actors s a })
+  set_keeps a same_attached kept may = record {
     kept = kept;
     table = is.table;
     few = is.few;
-    detached = is.detached;
+    attached = λ q. attached_too q (q == s) refl;
     unstopped = is.unstopped;
     unsplit = is.unsplit;
     seats = length-set w.actors s a ∙ is.seats;
     may = λ q. by q (q == s) refl;
   }
     where
+      attached_too : (q : ℕ) (b : Bool) → (q == s) ≡ b → (actor_in (slice_set w.actors s a) q).attached ≡ is_attached w.history.past q
+      attached_too q true same = subst (λ (n : ℕ). (actor_in (slice_set w.actors s a) n).attached ≡ is_attached w.history.past n) (sym (same_number q s same)) (ap (λ (b : ActorState). b.attached) (set_is w s seat (slice_set w.actors s a) a refl) ∙ (same_attached ∙ is.attached s))
+      attached_too q false apart = ap (λ (b : ActorState). b.attached) (others_are w s seat (slice_set w.actors s a) a refl q apart) ∙ is.attached q
+
       by : (q : ℕ) (b : Bool) → (q == s) ≡ b → May starts (live w.history) q (work_in (slice_set w.actors s a) q)
       by q true same = subst (λ (n : ℕ). May starts (live w.history) n (work_in (slice_set w.actors s a) n)) (sym (same_number q s same)) (subst (λ (b : ActorState). May starts (live w.history) s b.work) (sym (set_is w s seat (slice_set w.actors s a) a refl)) may)
       by q false apart = subst (λ (b : ActorState). May starts (live w.history) q b.work) (sym (others_are w s seat (slice_set w.actors s a) a refl q apart)) (is.may q)
@@ -352,7 +368,7 @@ module _ (starts : Starts) (says : Says) (proper : StartsProper starts) (last : 
   same_state a running reading = reader_state a running ∙ ap (λ (f : ℕ → Option Reader). record (state_of w) { reading = f }) (session_same (state_of w).reading s (reading_of a.work) reading)
 
   pub reply_keeps : (room : Option ℕ) → IsWorld starts says (with_reply w s room)
-  reply_keeps room = set_keeps (record (actor_in w.actors s) { reply = room }) (subst (λ (t : State). IsKept starts says t) (sym (same_state (record (actor_in w.actors s) { reply = room }) refl refl)) is.kept) (is.may s)
+  reply_keeps room = set_keeps (record (actor_in w.actors s) { reply = room }) refl (subst (λ (t : State). IsKept starts says t) (sym (same_state (record (actor_in w.actors s) { reply = room }) refl refl)) is.kept) (is.may s)
 
   module _ (idle : work_in w.actors s ≡ work.Rest) where
     abbrev begun : Work → ActorState
@@ -360,30 +376,28 @@ module _ (starts : Starts) (says : Says) (proper : StartsProper starts) (last : 
 
     -- a task that reads nothing
     quiet_keeps : (v : Work) → running_of s v ≡ None → reading_of v ≡ None → May starts (live w.history) s v → IsWorld starts says (with_work w s v)
-    quiet_keeps v running reading may = set_keeps (begun v) (subst (λ (t : State). IsKept starts says t) (sym (same_state (begun v) (ap (running_of s) idle ∙ sym running) (ap reading_of idle ∙ sym reading))) is.kept) may
+    quiet_keeps v running reading may = set_keeps (begun v) refl (subst (λ (t : State). IsKept starts says t) (sym (same_state (begun v) (ap (running_of s) idle ∙ sym running) (ap reading_of idle ∙ sym reading))) is.kept) may
 
     reads_keeps : (r : Reader) → IsKept starts says (with_reader (state_of w) s (Some r)) → HasCome (live w.history) s → IsWorld starts says (with_work w s (work.Read r))
-    reads_keeps r kept come = set_keeps (begun (work.Read r)) (subst (λ (t : State). IsKept starts says t) (sym (reader_state (begun (work.Read r)) (ap (running_of s) idle))) kept) come
+    reads_keeps r kept come = set_keeps (begun (work.Read r)) refl (subst (λ (t : State). IsKept starts says t) (sym (reader_state (begun (work.Read r)) (ap (running_of s) idle))) kept) come
 
     upkeep_keeps : (u : Upkeep) (v : Work) → v ≡ work.Upkeep u → HasCome (live w.history) s → MayKeepUp (live w.history) s u → IsWorld starts says (with_work w s v)
     upkeep_keeps u v is come may = subst (λ (x : Work). IsWorld starts says (with_work w s x)) (sym is) (quiet_keeps (work.Upkeep u) refl refl (come, may))
 
-    -- a session reads at the pin of its node's memory
-    reads_at_pin : (pin : Pin) → pin_of (memory_of (state_of w) s) s ≡ Some pin → actor_pin (state_of w) s ≡ Some pin
-    reads_at_pin pin has = ap (λ b. cond b (reader_pin w.table s) (pin_of (memory_of (state_of w) s) s)) (is.detached s) ∙ has
-
-    pub start_keeps : (t : Task) (v : Work) → MayBegin starts (live w.history) s t → Begins (pin_of (memory_of (state_of w) s) s) t v → IsWorld starts says (with_work w s v)
+    pub start_keeps : (t : Task) (v : Work) → MayBegin starts (live w.history) s t → Begins (actor_pin (state_of w) s) t v → IsWorld starts says (with_work w s v)
     start_keeps task.Login v may h = subst (λ (x : Work). IsWorld starts says (with_work w s x)) (sym h) (quiet_keeps work.Login refl refl may)
     start_keeps task.End v may h = subst (λ (x : Work). IsWorld starts says (with_work w s x)) (sym h) (quiet_keeps work.End refl refl (record { login = may.0; stays = may.1 }))
-    start_keeps task.Refresh v may h = subst (λ (x : Work). IsWorld starts says (with_work w s x)) (sym h) (quiet_keeps work.Refresh refl refl (record { login = may.0; stays = may.1 }))
-    start_keeps (task.Load p) v may h = subst (λ (x : Work). IsWorld starts says (with_work w s x)) (sym h.3) (reads_keeps (node_reader h.0 h.1 p) (load_whole starts says proper (state_of w) is.kept s h.0 h.1 p (none_stopped w.history.sessions w.history.past is.unstopped s) may.0 may.1 (reads_at_pin h.1 h.2)) (record { login = may.0; stays = may.1 }))
-    start_keeps (task.List p) v may h = subst (λ (x : Work). IsWorld starts says (with_work w s x)) (sym h.3) (reads_keeps (children_reader h.0 h.1 p) (list_whole starts says proper (state_of w) is.kept s h.0 h.1 p (none_stopped w.history.sessions w.history.past is.unstopped s) may.0 may.1 (reads_at_pin h.1 h.2)) (record { login = may.0; stays = may.1 }))
-    start_keeps (task.Commit edit marks) v may h = subst (λ (x : Work). IsWorld starts says (with_work w s x)) (sym h) (quiet_keeps (work.Plan edit marks) refl refl (record { login = may.0; stays = may.1 }, may.3))
+    start_keeps task.Refresh v may h = subst (λ (x : Work). IsWorld starts says (with_work w s x)) (sym h) (quiet_keeps work.Refresh refl refl (record { login = may.0; stays = may.1 }, may.2))
+    start_keeps (task.Load p) v may h = subst (λ (x : Work). IsWorld starts says (with_work w s x)) (sym h.3) (reads_keeps (node_reader h.0 h.1 p) (load_whole starts says proper (state_of w) is.kept s h.0 h.1 p (none_stopped w.history.sessions w.history.past is.unstopped s) may.0 may.1 h.2) (record { login = may.0; stays = may.1 }))
+    start_keeps (task.List p) v may h = subst (λ (x : Work). IsWorld starts says (with_work w s x)) (sym h.3) (reads_keeps (children_reader h.0 h.1 p) (list_whole starts says proper (state_of w) is.kept s h.0 h.1 p (none_stopped w.history.sessions w.history.past is.unstopped s) may.0 may.1 h.2) (record { login = may.0; stays = may.1 }))
+    start_keeps (task.Commit edit marks) v may h = subst (λ (x : Work). IsWorld starts says (with_work w s x)) (sym h) (quiet_keeps (work.Plan edit marks) refl refl (record { login = may.0; stays = may.1 }, may.2, may.3))
     start_keeps task.BackWrite v may h = upkeep_keeps upkeep.Write v h (record { login = may.0; stays = may.1 }) tt
     start_keeps task.BackRead v may h = upkeep_keeps upkeep.Read v h (record { login = may.0; stays = may.1 }) tt
-    start_keeps (task.Checkpoint i) v may h = upkeep_keeps (upkeep.Checkpoint i) v h (record { login = may.0; stays = may.1 }) tt
+    start_keeps (task.Checkpoint i) v may h = upkeep_keeps (upkeep.Checkpoint i) v h (record { login = may.0; stays = may.1 }) may.2
     start_keeps (task.Release i) v may h = upkeep_keeps (upkeep.Release i) v h (record { login = may.0; stays = may.1 }) tt
-    start_keeps task.Observe v may h = upkeep_keeps upkeep.Observe v h (record { login = may.0; stays = may.1 }) tt
+    start_keeps (task.Attach i) v may h = upkeep_keeps (upkeep.Attach i) v h (record { login = may.0; stays = may.1 }) may.2
+    start_keeps task.Detach v may h = upkeep_keeps upkeep.Detach v h (record { login = may.0; stays = may.1 }) may.2
+    start_keeps task.Observe v may h = upkeep_keeps upkeep.Observe v h (record { login = may.0; stays = may.1 }) may.2
     start_keeps _ v may h = absurd h
 
     -- a reply is said
@@ -409,13 +423,17 @@ module _ (starts : Starts) (says : Says) (proper : StartsProper starts) (last : 
         kept = subst (λ (t : State). IsKept starts says t) (sym said_state) kept_said;
         table = is.table;
         few = is.few;
-        detached = is.detached;
+        attached = λ q. attached_too q (q == s) refl;
         unstopped = is.unstopped;
         unsplit = is.unsplit;
         seats = length-set w.actors s (record (actor_in w.actors s) { reply = None }) ∙ is.seats;
         may = λ q. by q (q == s) refl;
       }
         where
+          attached_too : (q : ℕ) (b : Bool) → (q == s) ≡ b → (actor_in (slice_set w.actors s (record (actor_in w.actors s) { reply = None })) q).attached ≡ is_attached w.history.past q
+          attached_too q true same = subst (λ (n : ℕ). (actor_in (slice_set w.actors s (record (actor_in w.actors s) { reply = None })) n).attached ≡ is_attached w.history.past n) (sym (same_number q s same)) (ap (λ (b : ActorState). b.attached) (set_is w s seat (slice_set w.actors s (record (actor_in w.actors s) { reply = None })) (record (actor_in w.actors s) { reply = None }) refl) ∙ is.attached s)
+          attached_too q false apart = ap (λ (b : ActorState). b.attached) (others_are w s seat (slice_set w.actors s (record (actor_in w.actors s) { reply = None })) (record (actor_in w.actors s) { reply = None }) refl q apart) ∙ is.attached q
+
           by : (q : ℕ) (b : Bool) → (q == s) ≡ b → May starts (after (said ∷ []) (live w.history)) q (work_in (slice_set w.actors s (record (actor_in w.actors s) { reply = None })) q)
           by q true same = subst (λ (n : ℕ). May starts (after (said ∷ []) (live w.history)) n (work_in (slice_set w.actors s (record (actor_in w.actors s) { reply = None })) n)) (sym (same_number q s same))
               (subst (λ (v : Work). May starts (after (said ∷ []) (live w.history)) s v) (sym (ap (λ (a : ActorState). a.work) (set_is w s seat (slice_set w.actors s (record (actor_in w.actors s) { reply = None })) (record (actor_in w.actors s) { reply = None }) refl) ∙ idle)) tt)

@@ -1,13 +1,14 @@
 -- What background work has read, and what it publishes, stands after later events.
-use Rattle.std.proofs.Common.{◌≡◌, ℕ, suc, true, List, [], ◌∷◌, ◌++◌}
+use Rattle.std.proofs.Common.{◌≡◌, ℕ, Bool, suc, true, false, List, [], ◌∷◌, ◌++◌, ◌∙◌}
 use Rattle.std.specs.Prelude.{None}
 use Rattle.jr_rev.specs.declared.revision.Revision.{Revision}
 use Rattle.jr_rev.specs.declared.vector.RevVec.{RevVec}
 use Rattle.jr_rev.specs.Revisions.{is_at_most}
 use Rattle.oak_machine.specs.Heads.{local}
 use Rattle.oak_machine.specs.History.{Past}
-use Rattle.oak_machine.specs.Laws.{Says, Starts, after}
+use Rattle.oak_machine.specs.Laws.{AreOthers, Says, Starts, after}
 use Rattle.oak_machine.specs.Runs.{AreNodes, IsRunOf}
+use Rattle.oak_machine.specs.Sessions.{is_attached}
 use Rattle.core_heads.proofs.Runs.{later_run}
 use Rattle.core_read.proofs.Latest.{at_most_trans}
 use Rattle.core_world.specs.Kept.{WereOnRoot}
@@ -15,6 +16,7 @@ use Rattle.oak_step.specs.declared.upkeep.Upkeep.{Upkeep}
 use Rattle.oak_step.specs.declared.upkeep.Upkeep.TheVariants as upkeep
 use Rattle.oak_world.specs.Kept.{IsOwn, MayKeepUp}
 use Rattle.oak_world.specs.Worlds.{Story, live}
+use Rattle.oak_world.proofs.Others.{attached_left, reader_left}
 
 -- local revisions rise
 pub local_lasts : (starts : Starts) (says : Says) (clusters : ℕ) (sessions : List ℕ) → AreNodes clusters sessions → (own before : Past) → IsRunOf starts says clusters sessions None (own ++ before) → (r : Revision) (k : ℕ) → is_at_most r (local None before k) ≡ true → is_at_most r (local None (own ++ before) k) ≡ true
@@ -32,12 +34,20 @@ module _ (starts : Starts) (says : Says) (h : Story) (nodes : AreNodes h.cluster
   pub own_lasts : (r : Revision) → IsOwn (live h) q r → IsOwn (after own (live h)) q r
   own_lasts r m = (m.0, local_lasts starts says h.clusters h.sessions nodes own h.past run r r.cluster m.1)
 
-  pub upkeep_lasts : (u : Upkeep) → MayKeepUp (live h) q u → MayKeepUp (after own (live h)) q u
-  upkeep_lasts upkeep.Write m = tt
-  upkeep_lasts (upkeep.Noted n) m = own_lasts n.upto m
-  upkeep_lasts (upkeep.Publish ids r) m = (own_lasts r m.0, m.1)
-  upkeep_lasts upkeep.Read m = tt
-  upkeep_lasts (upkeep.Learn last sweep) m = were_lasts h.clusters own h.past last sweep m
-  upkeep_lasts (upkeep.Checkpoint i) m = tt
-  upkeep_lasts (upkeep.Release i) m = tt
-  upkeep_lasts upkeep.Observe m = tt
+  module _ (others : AreOthers q own h.past) where
+    -- it is attached as before, or not
+    pub still : (b : Bool) → is_attached h.past q ≡ b → is_attached (own ++ h.past) q ≡ b
+    still b m = attached_left q own h.past others ∙ m
+
+    pub upkeep_lasts : (u : Upkeep) → MayKeepUp (live h) q u → MayKeepUp (after own (live h)) q u
+    upkeep_lasts upkeep.Write m = tt
+    upkeep_lasts (upkeep.Noted n) m = own_lasts n.upto m
+    upkeep_lasts (upkeep.Publish ids r) m = (own_lasts r m.0, m.1)
+    upkeep_lasts upkeep.Read m = tt
+    upkeep_lasts (upkeep.Learn last sweep) m = were_lasts h.clusters own h.past last sweep m
+    upkeep_lasts (upkeep.Checkpoint i) m = still false m
+    upkeep_lasts (upkeep.Release i) m = tt
+    upkeep_lasts (upkeep.Attach i) m = still false m
+    upkeep_lasts upkeep.Detach m = still true m
+    upkeep_lasts (upkeep.Detaching pin) m = (still false m.0, reader_left q own h.past others ∙ m.1)
+    upkeep_lasts upkeep.Observe m = still false m

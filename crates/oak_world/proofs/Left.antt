@@ -350,6 +350,16 @@ module _ (s : ℕ) (w u : State) (m n : NodeState) (x : Work) where
   upkeep_less (upkeep.Release i) (answers.Ready ends.NoCheckpoint) h = rest_less 0 h.2
   upkeep_less (upkeep.Release i) answers.Memory h = rest_less 0 h.1
   upkeep_less (upkeep.Release i) _ h = absurd h
+  upkeep_less (upkeep.Attach i) (answers.Ready (ends.Set (Some pin))) h = rest_less 0 h.2
+  upkeep_less (upkeep.Attach i) (answers.Ready ends.NoCheckpoint) h = rest_less 0 h.2
+  upkeep_less (upkeep.Attach i) answers.Memory h = rest_less 0 h.1
+  upkeep_less (upkeep.Attach i) _ h = absurd h
+  upkeep_less upkeep.Detach (answers.Went kind.Pin) h = let z : now ≡ 1 = ap (left_of s u.table n) h.1 in omega (arith, z)
+  upkeep_less upkeep.Detach answers.Memory h = rest_less 1 h.1
+  upkeep_less upkeep.Detach _ h = absurd h
+  upkeep_less (upkeep.Detaching pin) (answers.Ready (ends.Pinned o)) h = rest_less 0 h.2
+  upkeep_less (upkeep.Detaching pin) answers.Memory h = rest_less 0 h.1
+  upkeep_less (upkeep.Detaching pin) _ h = absurd h
   upkeep_less upkeep.Observe (answers.Ready (ends.Pinned pin)) h = rest_less 0 h.2
   upkeep_less upkeep.Observe answers.Memory h = rest_less 0 h.1
   upkeep_less upkeep.Observe _ h = absurd h
@@ -417,6 +427,9 @@ over s t m (work.Upkeep u) h = absurd (by u h)
     by (upkeep.Learn last sweep) h = omega (arith, h)
     by (upkeep.Checkpoint i) h = omega (arith, h)
     by (upkeep.Release i) h = omega (arith, h)
+    by (upkeep.Attach i) h = omega (arith, h)
+    by upkeep.Detach h = omega (arith, h)
+    by (upkeep.Detaching pin) h = omega (arith, h)
     by upkeep.Observe h = omega (arith, h)
 
 -- in worlds with the same documents and memories a session that does one thing has as many steps left

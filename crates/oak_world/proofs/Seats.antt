@@ -1,7 +1,7 @@
 -- The seat of a session, its cluster node and that node's memory, by the fields of a world.
-use Rattle.std.proofs.Common.{◌≡◌, ℕ, zero, suc, ◌-◌, ◌<◌, ◌≤◌, true, Option, Some, List, [], ◌∷◌, length, map, is_some, refl, sym, ap, subst, ◌∙◌, arith}
+use Rattle.std.proofs.Common.{◌≡◌, ℕ, zero, suc, ◌-◌, ◌<◌, ◌≤◌, Bool, true, cond, Option, Some, List, [], ◌∷◌, length, map, is_some, refl, sym, ap, subst, ◌∙◌, arith}
 use Rattle.std.proofs.Math.ListN.{get_or}
-use Rattle.std.specs.Prelude.{slice_get, slice_index_or}
+use Rattle.std.specs.Prelude.{reverse, slice_get, slice_index_or}
 use Rattle.std.specs.Option.{unwrap_or}
 use Rattle.std.proofs.lemmas.List.{length-map}
 use Rattle.std.proofs.lemmas.Option.{slice_get-get_or, slice_get_within}
@@ -10,10 +10,11 @@ use Rattle.oak_machine.specs.declared.event.Journal.{Journal}
 use Rattle.oak_machine.specs.Asked.{AreAsked}
 use Rattle.oak_machine.specs.Laws.{Asks, Says, Starts, StartsProper}
 use Rattle.oak_machine.specs.Runs.{IsNode}
+use Rattle.oak_machine.specs.Sessions.{is_attached}
 use Rattle.oak_node.specs.Memory.{NodeState, begun}
 use Rattle.oak_node.specs.Pins.{pin_of}
 use Rattle.oak_store.specs.Tables.{Table}
-use Rattle.core_world.specs.States.{memory_at, memory_of}
+use Rattle.core_world.specs.States.{actor_pin, memory_at, memory_of, reader_pin}
 use Rattle.core_world.proofs.Lives.{its_node, on_node}
 use Rattle.oak_world.specs.declared.actor.Actor.{Actor}
 use Rattle.oak_world.specs.Kept.{IsAskedWorld, IsWorld}
@@ -101,10 +102,14 @@ module _ (starts : Starts) (says : Says) (proper : StartsProper starts) {L : Typ
   on_node_there : slice_get j.sessions s ≡ Some k
   on_node_there = on_by (shown_world law j t ms actors) w s k same on
 
+  pub seat_there : s < length actors
+  seat_there = actor_within starts says proper law j t ms actors is s (ap is_some on_node_there)
+
   pub memory_there : k - 1 < length ms
   memory_there = memory_within starts says proper law j t ms actors is s (ap is_some on_node_there) k on_node_there
 
-  pub pin_is : (m : NodeState) → m ≡ get_or ms (k - 1) m → pin_of m s ≡ pin_of (memory_of (state_of w) s) s
-  pin_is m at =
-      ap (λ (n : NodeState). pin_of n s) (sym (memory_of_is starts says proper law j t ms actors is s (ap is_some on_node_there) k on_node_there m m at))
-      ∙ ap (λ (x : WorldOf L). pin_of (memory_of (state_of x) s) s) same
+  pub pin_is : (m : NodeState) → m ≡ get_or ms (k - 1) m → (a : Actor) → a ≡ get_or actors s a → cond a.attached (reader_pin t s) (pin_of m s) ≡ actor_pin (state_of w) s
+  pin_is m at a seat =
+      ap (λ (b : Bool). cond b (reader_pin t s) (pin_of m s)) (sym (ap (λ (b : ActorState). b.attached) (actor_there actors s a a seat_there seat)) ∙ is.attached s)
+      ∙ (ap (λ (n : NodeState). cond (is_attached (reverse j.events.list) s) (reader_pin t s) (pin_of n s)) (sym (memory_of_is starts says proper law j t ms actors is s (ap is_some on_node_there) k on_node_there m m at))
+      ∙ ap (λ (x : WorldOf L). actor_pin (state_of x) s) same)

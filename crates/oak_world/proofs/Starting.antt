@@ -1,7 +1,7 @@
 -- The world before any step.
 use Rattle.jr_path.specs.declared.path.Path.{Path}
 use Rattle.core_world.proofs.Begun.{start_lists}
-use Rattle.std.proofs.Common.{◌≡◌, ℕ, zero, suc, ◌+◌, ◌-◌, ◌≤◌, List, [], ◌∷◌, ◌++◌, length, map, Option, Some, None, refl, sym, ap, subst, ◌∙◌, arith}
+use Rattle.std.proofs.Common.{◌≡◌, ℕ, zero, suc, ◌+◌, ◌-◌, ◌≤◌, false, List, [], ◌∷◌, ◌++◌, length, map, Option, Some, None, refl, sym, ap, subst, ◌∙◌, arith}
 use Rattle.std.specs.Prelude.{reverse, slice_get, sum_by}
 use Rattle.std.specs.List.{range_with_len}
 use Rattle.std.specs.Option.{IsSomeAnd}
@@ -33,11 +33,11 @@ use Rattle.oak_step.specs.declared.work.Work.{Work}
 use Rattle.oak_step.specs.declared.work.Work.TheVariants as work
 use Rattle.oak_world.specs.Kept.{ArePlaced, IsAskedWorld, IsPlaced, IsWorld, May}
 use Rattle.oak_world.specs.Seen.{shown_work}
-use Rattle.oak_world.specs.Worlds.{ActorState, WorldOf, idle, live, reading_of, running_of, shown_actor, shown_world, start_world, state_of, work_in}
+use Rattle.oak_world.specs.Worlds.{ActorState, WorldOf, actor_in, idle, live, reading_of, running_of, shown_actor, shown_world, start_world, state_of, work_in}
 
 -- the seat of a session that does nothing
 abbrev pub idle_actor : Actor
-idle_actor = record { work = work.Rest; began = 0; reply = None; places = 0; reads = 0 }
+idle_actor = record { work = work.Rest; began = 0; reply = None; places = 0; reads = 0; attached = false }
 
 -- ---- documents
 
@@ -58,6 +58,11 @@ idle_works [] s = refl
 idle_works (k ∷ ks) zero = refl
 idle_works (k ∷ ks) (suc s) = idle_works ks s
 
+idle_attached : (sessions : List ℕ) (s : ℕ) → (actor_in (map (λ k. idle) sessions) s).attached ≡ false
+idle_attached [] s = refl
+idle_attached (k ∷ ks) zero = refl
+idle_attached (k ∷ ks) (suc s) = idle_attached ks s
+
 start_same : {L : Type 0} (law : L) (clusters : ℕ) (sessions : List ℕ) → state_of (start_world law clusters sessions) ≡ start_state clusters sessions
 start_same law clusters sessions =
     ap (λ (f : ℕ → Option Running). record (start_state clusters sessions) { running = f; reading = λ s. reading_of (work_in (map (λ k. idle) sessions) s) }) (fun_ext (λ s. ap (running_of s) (idle_works sessions s)))
@@ -68,7 +73,7 @@ start_is_world starts says law clusters sessions few nodes = record {
   kept = subst (λ (t : State). IsKept starts says t) (sym (start_same law clusters sessions)) (start_whole starts says clusters sessions nodes);
   table = start_in_order clusters (length sessions);
   few = few;
-  detached = λ s. refl;
+  attached = idle_attached sessions;
   unstopped = λ k. refl;
   unsplit = λ p. ap (λ (f : Path → List PrevEntry). f p) (start_lists clusters (length sessions));
   seats = length-map sessions (λ k. idle);

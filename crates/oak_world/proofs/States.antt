@@ -75,6 +75,7 @@ module _ {L : Type 0} (w : WorldOf L) (s : ℕ) (there : s < length w.actors) wh
     memories = with_memory w.memories (node_in w.history s) m;
     running = with_session (state_of w).running s x;
     reading = with_session (state_of w).reading s r;
+    observing = (state_of w).observing;
     formers = (state_of w).formers;
   }
 

@@ -13,6 +13,7 @@ use Rattle.oak_machine.specs.Commits.{is_drawn, is_ended}
 use Rattle.oak_machine.specs.Laws.{AreOthers, Says, Starts, after, is_event_of}
 use Rattle.oak_machine.specs.Runs.{AreNodes, IsRun, IsRunOf, StartsLast}
 use Rattle.oak_machine.specs.Sessions.{has_left, has_login, is_end_of_session, is_login_of}
+use Rattle.oak_machine.proofs.Induction.{neither}
 use Rattle.core_clash.specs.Core.{root_of}
 use Rattle.core_clash.specs.Views.{In}
 use Rattle.core_clash.proofs.Basics.{or_right}
@@ -22,12 +23,9 @@ use Rattle.oak_step.specs.declared.work.Work.{Work}
 use Rattle.oak_step.specs.declared.work.Work.TheVariants as work
 use Rattle.oak_world.specs.Kept.{May}
 use Rattle.oak_world.proofs.Lasting.{upkeep_lasts}
+use Rattle.oak_world.proofs.Others.{attached_left}
 use Rattle.oak_world.specs.Steps.{HasCome}
 use Rattle.oak_world.specs.Worlds.{Story, live}
-
-neither : (a b : Bool) → (a || b) ≡ false → (a ≡ false) × (b ≡ false)
-neither true b h = cc
-neither false b h = (refl, h)
 
 -- ---- events of others
 
@@ -82,14 +80,14 @@ module _ (starts : Starts) (says : Says) (last : StartsLast starts says) (h : St
   may_last work.Rest drawn may = tt
   may_last work.Login drawn may = login_left q own h.past others ∙ may
   may_last work.End drawn may = come_left (live h) q own others may
-  may_last work.Refresh drawn may = come_left (live h) q own others may
+  may_last work.Refresh drawn may = (come_left (live h) q own others may.0, attached_left q own h.past others ∙ may.1)
   may_last (work.Read r) drawn may = come_left (live h) q own others may
-  may_last (work.Plan edit marks) drawn may = (come_left (live h) q own others may.0, last (live h) own q edit marks nodes run now others may.1)
+  may_last (work.Plan edit marks) drawn may = (come_left (live h) q own others may.0, attached_left q own h.past others ∙ may.1, last (live h) own q edit marks nodes run now others may.2)
   may_last (work.Commit c) drawn may = record {
     come = come_left (live h) q own others may.come;
     unended = may.unended;
     roots = may.roots ∙ sym (same_roots (λ f. root_of (own ++ h.past) f.other) (λ f. root_of h.past f.other) c.writer.due (λ f i. roots_last starts says h.clusters h.sessions nodes own h.past f.other now (drawn c refl f i)));
     looked = may.looked;
   }
-  may_last (work.Upkeep u) drawn may = (come_left (live h) q own others may.0, upkeep_lasts starts says h nodes q own now u may.1)
+  may_last (work.Upkeep u) drawn may = (come_left (live h) q own others may.0, upkeep_lasts starts says h nodes q own now others u may.1)
   may_last (work.Move r) drawn may = (come_left (live h) q own others may.0, ended_lasts r own h.past may.1, may.2)

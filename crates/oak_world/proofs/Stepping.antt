@@ -192,6 +192,16 @@ module _ {L : Type 0} (w : WorldOf L) (s : ℕ) (there : s < length w.actors) (q
   upkeep_makes (upkeep.Release i) here (answers.Ready ends.NoCheckpoint) h = (h.0, sets (work.Upkeep (upkeep.Release i)) work.Rest here h.2 refl refl (event.Went s kind.Settings) (after_update w.table (settings_op (change.Release i))) h.1, h.2)
   upkeep_makes (upkeep.Release i) here answers.Memory h = (still (work.Upkeep (upkeep.Release i)) work.Rest here h.1 refl refl h.0, h.1)
   upkeep_makes (upkeep.Release i) here _ h = absurd h
+  upkeep_makes (upkeep.Attach i) here (answers.Ready (ends.Set (Some pin))) h = (h.0, sets (work.Upkeep (upkeep.Attach i)) work.Rest here h.2 refl refl (event.Attach s i) (after_update w.table (settings_op (change.Attach s i))) h.1, h.2)
+  upkeep_makes (upkeep.Attach i) here (answers.Ready ends.NoCheckpoint) h = (h.0, sets (work.Upkeep (upkeep.Attach i)) work.Rest here h.2 refl refl (event.Went s kind.Settings) (after_update w.table (settings_op (change.Attach s i))) h.1, h.2)
+  upkeep_makes (upkeep.Attach i) here answers.Memory h = (still (work.Upkeep (upkeep.Attach i)) work.Rest here h.1 refl refl h.0, h.1)
+  upkeep_makes (upkeep.Attach i) here _ h = absurd h
+  upkeep_makes upkeep.Detach here (answers.Went kind.Pin) h = (tells (work.Upkeep upkeep.Detach) (work.Upkeep (upkeep.Detaching (pin_now memory))) here h.1 refl refl (event.Refresh s memory.head) (with_pin memory s (pin_now memory)) h.0, h.1)
+  upkeep_makes upkeep.Detach here answers.Memory h = (still (work.Upkeep upkeep.Detach) work.Rest here h.1 refl refl h.0, h.1)
+  upkeep_makes upkeep.Detach here _ h = absurd h
+  upkeep_makes (upkeep.Detaching pin) here (answers.Ready (ends.Pinned o)) h = (h.0, sets (work.Upkeep (upkeep.Detaching pin)) work.Rest here h.2 refl refl (event.Detach s) (after_update w.table (settings_op (change.Detach s))) h.1, h.2)
+  upkeep_makes (upkeep.Detaching pin) here answers.Memory h = (still (work.Upkeep (upkeep.Detaching pin)) work.Rest here h.1 refl refl h.0, h.1)
+  upkeep_makes (upkeep.Detaching pin) here _ h = absurd h
   upkeep_makes upkeep.Observe here (answers.Ready (ends.Pinned pin)) h = (h.0, tells (work.Upkeep upkeep.Observe) work.Rest here h.2 refl refl (event.Went s kind.Pin) (with_pin memory (cursor_owner s) pin) h.1, h.2)
   upkeep_makes upkeep.Observe here answers.Memory h = (still (work.Upkeep upkeep.Observe) work.Rest here h.1 refl refl h.0, h.1)
   upkeep_makes upkeep.Observe here _ h = absurd h

@@ -1,5 +1,5 @@
 -- What a step of a session owes: the events that it adds, what is kept, and what is told of it.
-use Rattle.std.proofs.Common.{◌≡◌, ℕ, Bool, true, false, ◌&&◌, ◌||◌, Option, Some, None, List, [], ◌∷◌, ◌++◌, refl, sym, ap, ◌∙◌}
+use Rattle.std.proofs.Common.{◌≡◌, ℕ, Bool, true, false, cond, ◌&&◌, ◌||◌, Option, Some, None, List, [], ◌∷◌, ◌++◌, refl, sym, ap, ◌∙◌}
 use Rattle.std.specs.Prelude.{◌==◌, slice_get}
 use Rattle.std.specs.Option.{option_map_or}
 use Rattle.std.specs.List.{list_any}
@@ -13,20 +13,22 @@ use Rattle.core_world.specs.Kept.{IsKept}
 use Rattle.core_world.specs.States.{State, history_in, listed_at}
 use Rattle.core_world.proofs.Flights.{number_itself, other_number, same_number}
 use Rattle.oak_port.specs.declared.task.StepOut.{StepOut}
+use Rattle.oak_port.specs.declared.task.StepOut.TheVariants as answers
 use Rattle.oak_port.specs.Ports.{AreOfStep, Makes as Tells, is_by_due}
 use Rattle.oak_step.specs.declared.work.Work.{Work}
 use Rattle.oak_world.specs.Kept.{May}
 use Rattle.oak_world.specs.Seen.{shown_work}
 use Rattle.oak_step.specs.Works.{kind_due}
+use Rattle.oak_world.specs.Steps.{attached_after, attaching, is_made}
 
--- a step of session s, from one state to the next: the events that it adds, which are of no other session; the state is kept, the session may do what it does then, and it is told so
+-- a step of session s, from one state to the next: the events that it adds, which are of no other session; the state is kept, the session may do what it does then, it is attached then as the journal tells, and it is told so
 pub record IsStepOf (starts : Starts) (says : Says) (s : ℕ) (w : State) (v : Work) (u : State) (x : Work) (o : StepOut) : Type 0 where
   pub own : Past
   pub grown : history_in u ≡ after own (history_in w)
   pub kept : IsKept starts says u
   pub may : May starts (after own (history_in w)) s x
   pub apart : (q : ℕ) → (q == s) ≡ false → AreOthers q own w.past
-  pub detached : (q : ℕ) → is_attached w.past q ≡ false → is_attached (own ++ w.past) q ≡ false
+  pub attached : attached_after v o (is_attached w.past s) ≡ is_attached (own ++ w.past) s
   pub unstopped : (k : ℕ) → is_stopped w.past k ≡ false → is_stopped (own ++ w.past) k ≡ false
   pub same : listed_at u.table ≡ listed_at w.table
   pub tells : Tells (history_in w) s (shown_work v) o own (shown_work x)
@@ -48,6 +50,18 @@ kind_told k b h = ap (λ t. list_any (is_kind k) (where_test t (k ∷ []))) h �
 
 pub with_true : (b : Bool) → b ≡ true → (b && true) ≡ true
 with_true b h = ap (λ t. t && true) h
+
+-- an event of the session itself that attaches it, or takes its base to the head
+pub chosen : (s : ℕ) (b was : Bool) → b ≡ cond (s == s) b was
+chosen s b was = ap (λ t. cond t b was) (sym (number_itself s))
+
+-- where memory was refused a session is attached as before
+pub refused_stays : (v : Work) (was : Bool) → attached_after v answers.Memory was ≡ was
+refused_stays v was = by (attaching v)
+  where
+    by : (o : Option Bool) → option_map_or (λ now. cond (is_made answers.Memory) now was) o was ≡ was
+    by None = refl
+    by (Some now) = refl
 
 -- where no cluster node is stopped, no session's is
 pub none_stopped : (sessions : List ℕ) (past : Past) → ((k : ℕ) → is_stopped past k ≡ false) → (s : ℕ) → is_stopped_under sessions past s ≡ false

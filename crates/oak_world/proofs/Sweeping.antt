@@ -1,17 +1,29 @@
--- The sweep vector of a session's pin is at most its base.
-use Rattle.std.proofs.Common.{◌≡◌, ℕ, true, Some, is_some}
-use Rattle.std.specs.Prelude.{slice_get}
+-- What is so of a pair that is held: its sweep vector is at most its vector, and the documents show
+-- the journal's tree there.
+use Rattle.std.proofs.Common.{◌≡◌, true}
+use Rattle.std.specs.Prelude.{None}
+use Rattle.jr_path.specs.declared.path.Path.{Path}
 use Rattle.jr_rev.specs.declared.vector.Pin.{Pin}
 use Rattle.jr_rev.specs.Vectors.{is_below}
-use Rattle.oak_machine.specs.Laws.{Says, Starts, StartsProper}
-use Rattle.oak_node.specs.Pins.{pin_of}
+use Rattle.jr_tree.specs.Trees.{node_at}
+use Rattle.oak_machine.specs.Commits.{tree_at}
+use Rattle.oak_machine.specs.Laws.{Says, Starts}
+use Rattle.oak_read.specs.Meaning.{documents_in, found_node}
+use Rattle.core_heads.specs.Sound.{IsHeld}
 use Rattle.core_heads.proofs.Below.{seen_below}
+use Rattle.core_heads.proofs.Runs.{held_in_use}
+use Rattle.core_keep.proofs.Journal.{reading}
 use Rattle.core_nodes.specs.Nodes.{IsPair}
-use Rattle.core_world.specs.Kept.{AreSessionsKept}
-use Rattle.core_world.specs.States.{State, memory_of}
-use Rattle.core_world.proofs.Draws.{its_pair}
+use Rattle.core_world.specs.Kept.{AreSessionsKept, IsAboveBounds}
+use Rattle.core_world.specs.States.{State}
+use Rattle.core_world.proofs.Readers.{pair_held}
 
-pub pin_below : (starts : Starts) (says : Says) (proper : StartsProper starts) (w : State) (kept : AreSessionsKept starts says w) (s : ℕ) → is_some (slice_get w.sessions s) ≡ true → (pin : Pin) → pin_of (memory_of w s) s ≡ Some pin → is_below pin.sweep pin.base ≡ true
-pin_below starts says proper w kept s there pin has =
-    let pair : IsPair pin.base pin.sweep = its_pair starts says proper w kept s there pin has in
-    seen_below pin.sweep pin.base pair.vector.stands pair.below
+pub pair_below : (pin : Pin) → IsPair pin.base pin.sweep → is_below pin.sweep pin.base ≡ true
+pair_below pin pair = seen_below pin.sweep pin.base pair.vector.stands pair.below
+
+pub pair_shows : (starts : Starts) (says : Says) (w : State) (kept : AreSessionsKept starts says w) (pin : Pin) → IsHeld None w.past pin.base → IsPair pin.base pin.sweep → IsAboveBounds w.past pin
+    → (p : Path) → found_node (documents_in w.table.documents) pin.sweep pin.base p ≡ node_at (tree_at None w.past pin.base) p
+pair_shows starts says w kept pin held pair above p =
+    let world = kept.committing.kept in
+    reading (documents_in w.table.documents) w.past pin.base pin.sweep world.keeps world.told world.separate world.bounded world.swept
+    (pair_held w.past pin (held_in_use None w.past pin.base held) pair above) p

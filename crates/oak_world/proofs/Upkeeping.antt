@@ -1,6 +1,6 @@
 -- The steps of background work and on the settings, from one state to the next.
 use Rattle.core_world.proofs.Unsplit.{back_lists, settings_lists}
-use Rattle.std.proofs.Common.{◌≡◌, ℕ, true, false, ◌&&◌, Option, Some, None, List, [], ◌∷◌, is_some, refl, sym, ap, subst, ◌∙◌}
+use Rattle.std.proofs.Common.{◌≡◌, ℕ, Bool, true, false, cond, ◌&&◌, Option, Some, None, List, [], ◌∷◌, is_some, refl, sym, ap, subst, ◌∙◌}
 use Rattle.std.specs.Prelude.{◌==◌, IsSome, slice_get}
 use Rattle.std.specs.BTreeMap.{is_at}
 use Rattle.std.specs.Map.{lookup}
@@ -23,22 +23,22 @@ use Rattle.oak_machine.specs.Heads.{local}
 use Rattle.oak_machine.specs.History.{History}
 use Rattle.oak_machine.specs.Laws.{Says, Starts, StartsProper}
 use Rattle.oak_machine.specs.Runs.{IsNode}
-use Rattle.oak_machine.specs.Sessions.{is_attached, is_stopped, is_stopped_under, kept_checkpoint}
+use Rattle.oak_machine.specs.Sessions.{has_reader, is_attached, is_stopped, is_stopped_under, kept_checkpoint}
 use Rattle.oak_machine.specs.Steps.{is_on}
 use Rattle.oak_node.specs.declared.pending.Pending.{Pending}
 use Rattle.oak_node.specs.Heads.{learned}
 use Rattle.oak_node.specs.Notes.{IsPending}
-use Rattle.oak_node.specs.Pins.{pin_of}
+use Rattle.oak_node.specs.Pins.{pin_now, pin_of}
 use Rattle.core_heads.proofs.Orders.{at_most_itself}
 use Rattle.core_nodes.specs.Nodes.{IsMemoryOf, base_of_pin, cursor_owner}
 use Rattle.core_world.specs.Kept.{IsKept, WereOnRoot}
 use Rattle.core_world.specs.States.{State, history_in, memory_of, node_of, nodes_in}
-use Rattle.core_world.specs.Steps.{after_back, after_checkpoint, after_learn, after_observe, after_out, after_pending, after_release, after_unfound, after_went}
+use Rattle.core_world.specs.Steps.{after_attach, after_back, after_checkpoint, after_detach, after_learn, after_observe, after_out, after_pending, after_refresh, after_release, after_unfound, after_went}
 use Rattle.core_world.proofs.Backs.{heard, own_entry_is, told_now}
 use Rattle.core_world.proofs.Draws.{base_is}
 use Rattle.core_world.proofs.Flights.{number_itself}
 use Rattle.core_world.proofs.Lives.{its_node, on_node, node_alive}
-use Rattle.core_world.proofs.Whole.{back_keeps, checkpoint_keeps, layers_of, learn_keeps, observe_whole, out_keeps, pending_keeps, release_keeps, release_unfound_keeps, went_whole}
+use Rattle.core_world.proofs.Whole.{attach_keeps, attach_unfound_keeps, back_keeps, checkpoint_keeps, detach_keeps, layers_of, learn_keeps, observe_whole, out_keeps, pending_keeps, refresh_whole, release_keeps, release_unfound_keeps, went_whole}
 use Rattle.oak_port.specs.declared.task.StepOut.{StepOut}
 use Rattle.oak_port.specs.declared.task.StepOut.TheVariants as answers
 use Rattle.oak_port.specs.declared.task.TaskEnd.TheVariants as ends
@@ -49,13 +49,14 @@ use Rattle.oak_step.specs.declared.upkeep.Upkeep.{Upkeep}
 use Rattle.oak_step.specs.declared.upkeep.Upkeep.TheVariants as upkeep
 use Rattle.oak_world.specs.Kept.{AreBelow, IsOwn, MayKeepUp}
 use Rattle.oak_world.specs.Seen.{shown_upkeep, shown_work}
-use Rattle.oak_world.specs.Steps.{HasCome, MakesUpkeep, Publishes}
+use Rattle.oak_world.specs.Steps.{HasCome, MakesUpkeep, Publishes, attached_after, attaching, is_made}
 use Rattle.oak_step.specs.Upkeeps.{set_checkpoint, told_ids}
 use Rattle.oak_world.proofs.Below.{below_parts, told_below}
 use Rattle.oak_world.proofs.Lasting.{local_lasts}
-use Rattle.oak_world.proofs.StepsOf.{IsStepOf, apart_one, flipped, kind_told, none_stopped, with_true}
+use Rattle.oak_world.proofs.Attached.{attached_reads}
+use Rattle.oak_world.proofs.StepsOf.{IsStepOf, apart_one, chosen, flipped, kind_told, none_stopped, refused_stays, with_true}
 
-module _ (starts : Starts) (says : Says) (proper : StartsProper starts) (w : State) (kept : IsKept starts says w) (s : ℕ) (there : is_some (slice_get w.sessions s) ≡ true) (detached : is_attached w.past s ≡ false) (none_halted : (k : ℕ) → is_stopped w.past k ≡ false) where
+module _ (starts : Starts) (says : Says) (proper : StartsProper starts) (w : State) (kept : IsKept starts says w) (s : ℕ) (there : is_some (slice_get w.sessions s) ≡ true) (none_halted : (k : ℕ) → is_stopped w.past k ≡ false) where
   -- its cluster node isn't stopped
   on_now : is_stopped_under w.sessions w.past s ≡ false
   on_now = none_stopped w.sessions w.past none_halted s
@@ -81,9 +82,9 @@ module _ (starts : Starts) (says : Says) (proper : StartsProper starts) (w : Sta
 
   -- memory was refused
   refused_step : (k : Upkeep) → Tells (history_in w) s (shown_upkeep k) answers.Memory [] Idle → (u : State) (x : Work) → u ≡ w → x ≡ work.Rest → StepOf (work.Upkeep k) u x answers.Memory
-  refused_step k tells u x same is = at_those (work.Upkeep k) answers.Memory w work.Rest u x same is (record { own = []; grown = refl; kept = kept; may = tt; apart = λ q m. refl; detached = λ q m. m; unstopped = λ q m. m; same = refl; tells = tells; of_step = refl; as_due = refl })
+  refused_step k tells u x same is = at_those (work.Upkeep k) answers.Memory w work.Rest u x same is (record { own = []; grown = refl; kept = kept; may = tt; apart = λ q m. refl; attached = refused_stays (work.Upkeep k) (is_attached w.past s); unstopped = λ q m. m; same = refl; tells = tells; of_step = refl; as_due = refl })
 
-  module _ (come : HasCome (history_in w) s) (few : slice_get w.sessions (cursor_owner s) ≡ None) (unread : w.reading s ≡ None) where
+  module _ (come : HasCome (history_in w) s) (few : slice_get w.sessions (cursor_owner s) ≡ None) (unobserved : w.observing s ≡ None) (idle : w.running s ≡ None) (unread : w.reading s ≡ None) where
     -- ---- a background write
 
     write_step : (n : Pending) → IsPending (memory_of w s) n → StepOf (work.Upkeep upkeep.Write) (after_pending w s) (work.Upkeep (upkeep.Noted n)) (answers.Went kind.Back)
@@ -93,7 +94,7 @@ module _ (starts : Starts) (says : Says) (proper : StartsProper starts) (w : Sta
       kept = kept_then;
       may = (record { login = come.login; stays = come.stays }, (on ∙ ap Some (sym cluster_is), local_lasts starts says w.clusters w.sessions kept.sessions.nodes (event.Went s kind.Back ∷ []) w.past kept_then.sessions.run n.upto n.upto.cluster low));
       apart = apart_one w.past s (event.Went s kind.Back) (λ q m. flipped q s m);
-      detached = λ q m. m;
+      attached = refl;
       unstopped = λ q k. k;
       same = refl;
       tells = (node_of w s, on, refl, refl, ap Publishing upto_is);
@@ -107,7 +108,7 @@ module _ (starts : Starts) (says : Says) (proper : StartsProper starts) (w : Sta
         upto_is : n.upto ≡ local None w.past (node_of w s)
         upto_is = pending.upto ∙ own_entry_is starts says proper w (layers_of starts says w kept) s come.login
 
-        is : IsMemoryOf w.clusters w.past (node_of w s) (memory_of w s)
+        is : IsMemoryOf None w.clusters w.past (node_of w s) (memory_of w s)
         is = kept.sessions.memories.memory (node_of w s) node
 
         cluster_is : n.upto.cluster ≡ node_of w s
@@ -116,7 +117,11 @@ module _ (starts : Starts) (says : Says) (proper : StartsProper starts) (w : Sta
         low : is_at_most n.upto (local None w.past n.upto.cluster) ≡ true
         low = subst (λ (r : Revision). is_at_most n.upto r ≡ true) (upto_is ∙ ap (local None w.past) (sym cluster_is)) (at_most_itself n.upto)
 
-    module _ (v : Work) (r : Revision) (shown : shown_work v ≡ Publishing r) (own : IsOwn (history_in w) s r) where
+    module _ (v : Work) (r : Revision) (shown : shown_work v ≡ Publishing r) (unmoved : attaching v ≡ None) (own : IsOwn (history_in w) s r) where
+      -- the session is attached as before
+      still : (o : StepOut) → attached_after v o (is_attached w.past s) ≡ is_attached w.past s
+      still o = ap (λ (x : Option Bool). option_map_or (λ now. cond (is_made o) now (is_attached w.past s)) x (is_attached w.past s)) unmoved
+
       -- its revision is of the session's node
       of_node : r.cluster ≡ node_of w s
       of_node = let k : Some r.cluster ≡ Some (node_of w s) = sym own.0 ∙ on in ap (λ (o : Option ℕ). option_map_or (λ m. m) o r.cluster) k
@@ -128,7 +133,7 @@ module _ (starts : Starts) (says : Says) (proper : StartsProper starts) (w : Sta
         kept = kept_then;
         may = (record { login = come.login; stays = come.stays }, ((own.0, local_lasts starts says w.clusters w.sessions kept.sessions.nodes (event.Went s kind.Back ∷ []) w.past kept_then.sessions.run r r.cluster own.1), below));
         apart = apart_one w.past s (event.Went s kind.Back) (λ q m. flipped q s m);
-        detached = λ q m. m;
+        attached = still (answers.Went kind.Back);
         unstopped = λ q k. k;
         same = back_lists w.table (names_of i) r;
         tells = subst (λ (y : Shows). Tells (history_in w) s y (answers.Went kind.Back) (event.Went s kind.Back ∷ []) (Publishing r)) (sym shown) (refl, refl, refl);
@@ -146,7 +151,7 @@ module _ (starts : Starts) (says : Says) (proper : StartsProper starts) (w : Sta
         kept = out_keeps starts says proper w kept s come.login r of_node (subst (λ (k : ℕ). is_at_most r (local None w.past k) ≡ true) of_node own.1);
         may = tt;
         apart = apart_one w.past s (event.Out (node_of w s) r) (λ q m. refl);
-        detached = λ q m. m;
+        attached = still (answers.Ready (ends.Published r));
         unstopped = λ q k. k;
         same = back_lists w.table [] r;
         tells = subst (λ (y : Shows). Tells (history_in w) s y (answers.Ready (ends.Published r)) (event.Out (node_of w s) r ∷ []) Idle) (sym shown) (node_of w s, on, refl, refl, refl);
@@ -155,7 +160,7 @@ module _ (starts : Starts) (says : Says) (proper : StartsProper starts) (w : Sta
       }
 
       still_step : (u : State) (x : Work) → u ≡ w → x ≡ work.Rest → StepOf v u x answers.Memory
-      still_step u x same is = at_those v answers.Memory w work.Rest u x same is (record { own = []; grown = refl; kept = kept; may = tt; apart = λ q m. refl; detached = λ q m. m; unstopped = λ q m. m; same = refl; tells = subst (λ (y : Shows). Tells (history_in w) s y answers.Memory [] Idle) (sym shown) (refl, refl); of_step = refl; as_due = refl })
+      still_step u x same is = at_those v answers.Memory w work.Rest u x same is (record { own = []; grown = refl; kept = kept; may = tt; apart = λ q m. refl; attached = refused_stays v (is_attached w.past s); unstopped = λ q m. m; same = refl; tells = subst (λ (y : Shows). Tells (history_in w) s y answers.Memory [] Idle) (sym shown) (refl, refl); of_step = refl; as_due = refl })
 
       publish_step : (ids : List DocId) → AreBelow ids → (u : State) (x : Work) (o : StepOut) → Publishes s w ids r u x o → StepOf v u x o
       publish_step ids below u x (answers.Went kind.Back) m =
@@ -177,7 +182,7 @@ module _ (starts : Starts) (says : Says) (proper : StartsProper starts) (w : Sta
           kept = went_whole starts says proper w kept s kind.Back refl refl come.login come.stays;
           may = (record { login = come.login; stays = come.stays }, (1, told));
           apart = apart_one w.past s (event.Went s kind.Back) (λ q m. flipped q s m);
-          detached = λ q m. m;
+          attached = refl;
           unstopped = λ q k. k;
           same = refl;
           tells = (d.last_rev, told.public, refl, refl, refl);
@@ -192,7 +197,7 @@ module _ (starts : Starts) (says : Says) (proper : StartsProper starts) (w : Sta
       kept = learn_keeps starts says proper w kept s on_now come.login last sweep were;
       may = tt;
       apart = apart_one w.past s (event.In (node_of w s) (learned (memory_of w s) last sweep).head) (λ q m. refl);
-      detached = λ q m. m;
+      attached = refl;
       unstopped = λ q k. k;
       same = refl;
       tells = (node_of w s, on, λ r seen. heard starts says proper w (layers_of starts says w kept) s come.login last sweep were r seen, refl, refl);
@@ -202,14 +207,14 @@ module _ (starts : Starts) (says : Says) (proper : StartsProper starts) (w : Sta
 
     -- ---- the settings
 
-    checkpoint_step : (i : Text) (pin : Pin) → pin_of (memory_of w s) s ≡ Some pin → StepOf (work.Upkeep (upkeep.Checkpoint i)) (after_checkpoint w s i pin) work.Rest (answers.Ready (ends.Set None))
-    checkpoint_step i pin has = record {
+    checkpoint_step : (i : Text) (pin : Pin) → is_attached w.past s ≡ false → pin_of (memory_of w s) s ≡ Some pin → StepOf (work.Upkeep (upkeep.Checkpoint i)) (after_checkpoint w s i pin) work.Rest (answers.Ready (ends.Set None))
+    checkpoint_step i pin detached has = record {
       own = event.Checkpoint i pin.base ∷ [];
       grown = refl;
       kept = checkpoint_keeps starts says proper w kept s i pin on_now come.login come.stays detached has;
       may = tt;
       apart = apart_one w.past s (event.Checkpoint i pin.base) (λ q m. refl);
-      detached = λ q m. m;
+      attached = refl;
       unstopped = λ q k. k;
       same = settings_lists w.table (change.Checkpoint i pin);
       tells = (pin.base, base_is starts says proper w kept.sessions s (node_alive starts says proper w kept.sessions s there on_now) come.login come.stays detached ∙ ap (λ (o : Option Pin). Some (option_map_or (λ (p : Pin). p.base) o (memory_of w s).head)) has, refl, refl);
@@ -235,7 +240,7 @@ module _ (starts : Starts) (says : Says) (proper : StartsProper starts) (w : Sta
       kept = release_keeps starts says proper w kept i (some_kept i has);
       may = tt;
       apart = apart_one w.past s (event.Release i) (λ q m. refl);
-      detached = λ q m. m;
+      attached = refl;
       unstopped = λ q k. k;
       same = settings_lists w.table (change.Release i);
       tells = (refl, refl);
@@ -252,7 +257,7 @@ module _ (starts : Starts) (says : Says) (proper : StartsProper starts) (w : Sta
           kept = release_unfound_keeps starts says proper w kept s come.login come.stays i gone;
           may = tt;
           apart = apart_one w.past s (event.Went s kind.Settings) (λ q m. flipped q s m);
-          detached = λ q m. m;
+          attached = refl;
           unstopped = λ q k. k;
           same = settings_lists w.table (change.Release i);
           tells = (gone, refl, refl);
@@ -260,16 +265,86 @@ module _ (starts : Starts) (says : Says) (proper : StartsProper starts) (w : Sta
           as_due = refl;
         }
 
+    -- ---- attaching
+
+    attach_step : (i : Text) (pin : Pin) → is_attached w.past s ≡ false → set_checkpoint w.table i ≡ Some pin → StepOf (work.Upkeep (upkeep.Attach i)) (after_attach w s i) work.Rest (answers.Ready (ends.Set (Some pin)))
+    attach_step i pin detached has =
+        let there_is : kept_checkpoint w.past i ≡ Some pin.base = sym (set_is i) ∙ ap base_of_pin has in
+        record {
+          own = event.Attach s i ∷ [];
+          grown = refl;
+          kept = attach_keeps starts says proper w kept s on_now come.login come.stays i pin.base detached unread there_is;
+          may = tt;
+          apart = apart_one w.past s (event.Attach s i) (λ q m. flipped q s m);
+          attached = chosen s true (is_attached w.past s);
+          unstopped = λ q k. k;
+          same = settings_lists w.table (change.Attach s i);
+          tells = (there_is, refl, refl);
+          of_step = kind_told kind.Settings (s == s) (number_itself s);
+          as_due = refl;
+        }
+
+    attach_unfound_step : (i : Text) → set_checkpoint w.table i ≡ None → StepOf (work.Upkeep (upkeep.Attach i)) (after_unfound w s (change.Attach s i)) work.Rest (answers.Ready ends.NoCheckpoint)
+    attach_unfound_step i none =
+        let gone : kept_checkpoint w.past i ≡ None = sym (set_is i) ∙ ap base_of_pin none in
+        record {
+          own = event.Went s kind.Settings ∷ [];
+          grown = refl;
+          kept = attach_unfound_keeps starts says proper w kept s come.login come.stays i gone;
+          may = tt;
+          apart = apart_one w.past s (event.Went s kind.Settings) (λ q m. flipped q s m);
+          attached = refl;
+          unstopped = λ q k. k;
+          same = settings_lists w.table (change.Attach s i);
+          tells = (gone, refl, refl);
+          of_step = kind_told kind.Settings (s == s && true) (with_true (s == s) (number_itself s));
+          as_due = refl;
+        }
+
+    -- ---- detaching
+
+    -- first the session is pinned at the head
+    detach_step : is_attached w.past s ≡ true → StepOf (work.Upkeep upkeep.Detach) (after_refresh w s) (work.Upkeep (upkeep.Detaching (pin_now (memory_of w s)))) (answers.Went kind.Pin)
+    detach_step attached = record {
+      own = event.Refresh s (memory_of w s).head ∷ [];
+      grown = refl;
+      kept = refresh_whole starts says proper w kept s on_now come.login come.stays idle unread unobserved;
+      may = (record { login = come.login; stays = come.stays }, (sym (chosen s false (is_attached w.past s)), attached_reads starts says w.clusters w.sessions w.past kept.sessions.run s attached));
+      apart = apart_one w.past s (event.Refresh s (memory_of w s).head) (λ q m. flipped q s m);
+      attached = chosen s false (is_attached w.past s);
+      unstopped = λ q k. k;
+      same = refl;
+      tells = ((memory_of w s).head, refl, refl, refl);
+      of_step = kind_told kind.Pin (s == s) (number_itself s);
+      as_due = refl;
+    }
+
+    -- and then it is no reader any more
+    detaching_step : (pin : Pin) → is_attached w.past s ≡ false → has_reader w.past s ≡ true → StepOf (work.Upkeep (upkeep.Detaching pin)) (after_detach w s) work.Rest (answers.Ready (ends.Pinned pin))
+    detaching_step pin detached reads = record {
+      own = event.Detach s ∷ [];
+      grown = refl;
+      kept = detach_keeps starts says proper w kept s come.login come.stays detached reads;
+      may = tt;
+      apart = apart_one w.past s (event.Detach s) (λ q m. flipped q s m);
+      attached = refl;
+      unstopped = λ q k. k;
+      same = settings_lists w.table (change.Detach s);
+      tells = (refl, refl, refl);
+      of_step = kind_told kind.Settings (s == s) (number_itself s);
+      as_due = refl;
+    }
+
     -- ---- the cursor
 
-    observe_step : (pin : Pin) → pin_of (memory_of w s) s ≡ Some pin → StepOf (work.Upkeep upkeep.Observe) (after_observe w s pin) work.Rest (answers.Ready (ends.Pinned pin))
-    observe_step pin has = record {
+    observe_step : (pin : Pin) → is_attached w.past s ≡ false → pin_of (memory_of w s) s ≡ Some pin → StepOf (work.Upkeep upkeep.Observe) (after_observe w s pin) work.Rest (answers.Ready (ends.Pinned pin))
+    observe_step pin detached has = record {
       own = event.Went s kind.Pin ∷ [];
       grown = refl;
-      kept = observe_whole starts says proper w kept s pin few come.login come.stays unread has;
+      kept = observe_whole starts says proper w kept s pin few come.login come.stays unread unobserved has;
       may = tt;
       apart = apart_one w.past s (event.Went s kind.Pin) (λ q m. flipped q s m);
-      detached = λ q m. m;
+      attached = refl;
       unstopped = λ q k. k;
       same = refl;
       tells = (base_is starts says proper w kept.sessions s (node_alive starts says proper w kept.sessions s there on_now) come.login come.stays detached ∙ ap (λ (o : Option Pin). Some (option_map_or (λ (p : Pin). p.base) o (memory_of w s).head)) has, refl, refl);
@@ -283,8 +358,8 @@ module _ (starts : Starts) (says : Says) (proper : StartsProper starts) (w : Sta
     upkeep_step upkeep.Write may u x (answers.Went kind.Back) m = at_those (work.Upkeep upkeep.Write) (answers.Went kind.Back) (after_pending w s) (work.Upkeep (upkeep.Noted m.0)) u x m.2 m.3 (write_step m.0 m.1)
     upkeep_step upkeep.Write may u x answers.Memory m = refused_step upkeep.Write (refl, refl) u x m.0 m.1
     upkeep_step upkeep.Write may u x _ m = absurd m
-    upkeep_step (upkeep.Noted n) may u x o m = publish_step (work.Upkeep (upkeep.Noted n)) n.upto refl may (told_ids n.paths) (told_below n.paths) u x o m
-    upkeep_step (upkeep.Publish ids r) may u x o m = publish_step (work.Upkeep (upkeep.Publish ids r)) r refl may.0 ids may.1 u x o m
+    upkeep_step (upkeep.Noted n) may u x o m = publish_step (work.Upkeep (upkeep.Noted n)) n.upto refl refl may (told_ids n.paths) (told_below n.paths) u x o m
+    upkeep_step (upkeep.Publish ids r) may u x o m = publish_step (work.Upkeep (upkeep.Publish ids r)) r refl refl may.0 ids may.1 u x o m
     upkeep_step upkeep.Read may u x (answers.Went kind.Back) m = at_those (work.Upkeep upkeep.Read) (answers.Went kind.Back) (after_went w s kind.Back) (work.Upkeep (upkeep.Learn (m.0).last_rev (m.0).sweep_rev)) u x m.2 m.3 (read_step m.0 m.1)
     upkeep_step upkeep.Read may u x answers.Memory m = refused_step upkeep.Read (refl, refl) u x m.0 m.1
     upkeep_step upkeep.Read may u x _ m = absurd m
@@ -293,13 +368,25 @@ module _ (starts : Starts) (says : Says) (proper : StartsProper starts) (w : Sta
         (at_those (work.Upkeep (upkeep.Learn last sweep)) (answers.Ready (ends.Learnt (learned (memory_of w s) last sweep).head)) (after_learn w s last sweep) work.Rest u x m.1 m.2 (learn_step last sweep may))
     upkeep_step (upkeep.Learn last sweep) may u x answers.Memory m = refused_step (upkeep.Learn last sweep) (refl, refl) u x m.0 m.1
     upkeep_step (upkeep.Learn last sweep) may u x _ m = absurd m
-    upkeep_step (upkeep.Checkpoint i) may u x (answers.Ready (ends.Set None)) m = at_those (work.Upkeep (upkeep.Checkpoint i)) (answers.Ready (ends.Set None)) (after_checkpoint w s i m.0) work.Rest u x m.2 m.3 (checkpoint_step i m.0 m.1)
+    upkeep_step (upkeep.Checkpoint i) may u x (answers.Ready (ends.Set None)) m = at_those (work.Upkeep (upkeep.Checkpoint i)) (answers.Ready (ends.Set None)) (after_checkpoint w s i m.0) work.Rest u x m.2 m.3 (checkpoint_step i m.0 may m.1)
     upkeep_step (upkeep.Checkpoint i) may u x answers.Memory m = refused_step (upkeep.Checkpoint i) (refl, refl) u x m.0 m.1
     upkeep_step (upkeep.Checkpoint i) may u x _ m = absurd m
     upkeep_step (upkeep.Release i) may u x (answers.Ready (ends.Set None)) m = at_those (work.Upkeep (upkeep.Release i)) (answers.Ready (ends.Set None)) (after_release w i) work.Rest u x m.1 m.2 (release_step i m.0)
     upkeep_step (upkeep.Release i) may u x (answers.Ready ends.NoCheckpoint) m = at_those (work.Upkeep (upkeep.Release i)) (answers.Ready ends.NoCheckpoint) (after_unfound w s (change.Release i)) work.Rest u x m.1 m.2 (unfound_step i m.0)
     upkeep_step (upkeep.Release i) may u x answers.Memory m = refused_step (upkeep.Release i) (refl, refl) u x m.0 m.1
     upkeep_step (upkeep.Release i) may u x _ m = absurd m
-    upkeep_step upkeep.Observe may u x (answers.Ready (ends.Pinned pin)) m = at_those (work.Upkeep upkeep.Observe) (answers.Ready (ends.Pinned pin)) (after_observe w s pin) work.Rest u x m.1 m.2 (observe_step pin m.0)
+    upkeep_step (upkeep.Attach i) may u x (answers.Ready (ends.Set (Some pin))) m = at_those (work.Upkeep (upkeep.Attach i)) (answers.Ready (ends.Set (Some pin))) (after_attach w s i) work.Rest u x m.1 m.2 (attach_step i pin may m.0)
+    upkeep_step (upkeep.Attach i) may u x (answers.Ready ends.NoCheckpoint) m = at_those (work.Upkeep (upkeep.Attach i)) (answers.Ready ends.NoCheckpoint) (after_unfound w s (change.Attach s i)) work.Rest u x m.1 m.2 (attach_unfound_step i m.0)
+    upkeep_step (upkeep.Attach i) may u x answers.Memory m = refused_step (upkeep.Attach i) (refl, refl) u x m.0 m.1
+    upkeep_step (upkeep.Attach i) may u x _ m = absurd m
+    upkeep_step upkeep.Detach may u x (answers.Went kind.Pin) m = at_those (work.Upkeep upkeep.Detach) (answers.Went kind.Pin) (after_refresh w s) (work.Upkeep (upkeep.Detaching (pin_now (memory_of w s)))) u x m.0 m.1 (detach_step may)
+    upkeep_step upkeep.Detach may u x answers.Memory m = refused_step upkeep.Detach (refl, refl) u x m.0 m.1
+    upkeep_step upkeep.Detach may u x _ m = absurd m
+    upkeep_step (upkeep.Detaching pin) may u x (answers.Ready (ends.Pinned o)) m =
+        subst (λ (y : Pin). StepOf (work.Upkeep (upkeep.Detaching pin)) u x (answers.Ready (ends.Pinned y))) (sym m.0)
+        (at_those (work.Upkeep (upkeep.Detaching pin)) (answers.Ready (ends.Pinned pin)) (after_detach w s) work.Rest u x m.1 m.2 (detaching_step pin may.0 may.1))
+    upkeep_step (upkeep.Detaching pin) may u x answers.Memory m = refused_step (upkeep.Detaching pin) (refl, refl) u x m.0 m.1
+    upkeep_step (upkeep.Detaching pin) may u x _ m = absurd m
+    upkeep_step upkeep.Observe may u x (answers.Ready (ends.Pinned pin)) m = at_those (work.Upkeep upkeep.Observe) (answers.Ready (ends.Pinned pin)) (after_observe w s pin) work.Rest u x m.1 m.2 (observe_step pin may m.0)
     upkeep_step upkeep.Observe may u x answers.Memory m = refused_step upkeep.Observe (refl, refl) u x m.0 m.1
     upkeep_step upkeep.Observe may u x _ m = absurd m

@@ -75,7 +75,7 @@ use Rattle.core_world.specs.States.{State, base_in, history_in, memory_at, memor
 use Rattle.core_world.specs.Steps.{IsThrough, after_draw, after_finish, after_last, after_leave, after_login, after_mark, after_refresh, after_undoing, after_want, after_write, after_write_in_want, draw_in, lasted_by, marked_by, with_reader}
 use Rattle.core_world.proofs.Commits.{its, on_its_node}
 use Rattle.core_world.proofs.Flights.{number_itself}
-use Rattle.core_world.proofs.Lives.{chosen_false, its_head}
+use Rattle.core_world.proofs.Lives.{its_head}
 use Rattle.core_world.proofs.Loads.{children_given, node_given}
 use Rattle.core_world.proofs.Readers.{live_is}
 use Rattle.core_world.proofs.Truths.{met_here}
@@ -96,7 +96,7 @@ use Rattle.oak_world.specs.Steps.{HasCome, Makes, MakesCommit, MakesUpdate}
 use Rattle.oak_world.specs.Worlds.{reading_of, running_as, running_of}
 use Rattle.oak_step.proofs.Feeding.{stage_last, stage_mark, stage_write}
 use Rattle.oak_step.proofs.Stages.{finish_stage}
-use Rattle.oak_world.proofs.StepsOf.{IsStepOf, apart_one, flipped, kind_told, none_stopped, with_true}
+use Rattle.oak_world.proofs.StepsOf.{IsStepOf, apart_one, chosen, flipped, kind_told, none_stopped, refused_stays, with_true}
 use Rattle.oak_world.proofs.Upkeeping.{upkeep_step}
 use Rattle.oak_world.proofs.Staying.{come_left, same_roots}
 
@@ -118,9 +118,9 @@ ends_apart : (b : Bool) (k : ℕ) (v : RevVec) (r : Revision) (past : Past) (q :
 ends_apart true k v r past q = refl
 ends_apart false k v r past q = refl
 
-ends_detached : (b : Bool) (k : ℕ) (v : RevVec) (r : Revision) (past : Past) (q : ℕ) → is_attached past q ≡ false → is_attached (ends_with b k v r ++ past) q ≡ false
-ends_detached true k v r past q h = h
-ends_detached false k v r past q h = h
+ends_attached : (b : Bool) (k : ℕ) (v : RevVec) (r : Revision) (past : Past) (q : ℕ) → is_attached past q ≡ is_attached (ends_with b k v r ++ past) q
+ends_attached true k v r past q = refl
+ends_attached false k v r past q = refl
 
 ends_unstopped : (b : Bool) (k : ℕ) (v : RevVec) (r : Revision) (past : Past) (q : ℕ) → is_stopped past q ≡ false → is_stopped (ends_with b k v r ++ past) q ≡ false
 ends_unstopped true k v r past q h = h
@@ -199,7 +199,7 @@ same_end a b h = cc
 
 -- ---- a step
 
-module _ (starts : Starts) (says : Says) (proper : StartsProper starts) (w : State) (kept : IsKept starts says w) (s : ℕ) (there : is_some (slice_get w.sessions s) ≡ true) (few : slice_get w.sessions (cursor_owner s) ≡ None) (apart_now : is_attached w.past s ≡ false) (none_halted : (k : ℕ) → is_stopped w.past k ≡ false) where
+module _ (starts : Starts) (says : Says) (proper : StartsProper starts) (w : State) (kept : IsKept starts says w) (s : ℕ) (there : is_some (slice_get w.sessions s) ≡ true) (few : slice_get w.sessions (cursor_owner s) ≡ None) (unobserved : w.observing s ≡ None) (none_halted : (k : ℕ) → is_stopped w.past k ≡ false) where
   -- its cluster node isn't stopped
   on_now : is_stopped_under w.sessions w.past s ≡ false
   on_now = none_stopped w.sessions w.past none_halted s
@@ -219,7 +219,7 @@ module _ (starts : Starts) (says : Says) (proper : StartsProper starts) (w : Sta
     kept = login_whole starts says proper w kept s on_now there first;
     may = tt;
     apart = apart_one w.past s (event.Login s (memory_of w s).head) (λ q k. flipped q s k);
-    detached = λ q k. chosen_false (s == q) (is_attached w.past q) k;
+    attached = chosen s false (is_attached w.past s);
     unstopped = λ q k. k;
     same = refl;
     tells = (ap (λ (p : Pin). event.Login s p.base ∷ []) (sym is), refl);
@@ -231,10 +231,10 @@ module _ (starts : Starts) (says : Says) (proper : StartsProper starts) (w : Sta
   leave_step come idle unread = record {
     own = event.Went s kind.End ∷ [];
     grown = refl;
-    kept = leave_whole starts says proper w kept s on_now few come.login come.stays idle unread;
+    kept = leave_whole starts says proper w kept s on_now few come.login come.stays idle unread unobserved;
     may = tt;
     apart = apart_one w.past s (event.Went s kind.End) (λ q k. flipped q s k);
-    detached = λ q k. k;
+    attached = refl;
     unstopped = λ q k. k;
     same = refl;
     tells = (refl, refl);
@@ -246,10 +246,10 @@ module _ (starts : Starts) (says : Says) (proper : StartsProper starts) (w : Sta
   refresh_step pin is come idle unread = record {
     own = event.Refresh s (memory_of w s).head ∷ [];
     grown = refl;
-    kept = refresh_whole starts says proper w kept s on_now come.login come.stays idle unread;
+    kept = refresh_whole starts says proper w kept s on_now come.login come.stays idle unread unobserved;
     may = tt;
     apart = apart_one w.past s (event.Refresh s (memory_of w s).head) (λ q k. flipped q s k);
-    detached = λ q k. chosen_false (s == q) (is_attached w.past q) k;
+    attached = chosen s false (is_attached w.past s);
     unstopped = λ q k. k;
     same = refl;
     tells = (ap (λ (p : Pin). event.Refresh s p.base ∷ []) (sym is), refl);
@@ -262,13 +262,13 @@ module _ (starts : Starts) (says : Says) (proper : StartsProper starts) (w : Sta
   head_is r on = its_head starts says proper w kept.sessions s there ∙ ap (head_of w.clusters None w.past) (ap (λ o. unwrap_or o 0) on)
 
   -- and its memory is that of the past
-  memory_is : (r : Revision) → slice_get w.sessions s ≡ Some r.cluster → IsMemoryOf w.clusters w.past r.cluster (memory_of w s)
-  memory_is r on = subst (λ (j : ℕ). IsMemoryOf w.clusters w.past r.cluster (memory_at w.memories j)) (sym (ap (λ o. unwrap_or o 0) on)) (kept.sessions.memories.memory r.cluster (kept.sessions.nodes.node s r.cluster on))
+  memory_is : (r : Revision) → slice_get w.sessions s ≡ Some r.cluster → IsMemoryOf None w.clusters w.past r.cluster (memory_of w s)
+  memory_is r on = subst (λ (j : ℕ). IsMemoryOf None w.clusters w.past r.cluster (memory_at w.memories j)) (sym (ap (λ o. unwrap_or o 0) on)) (kept.sessions.memories.memory r.cluster (kept.sessions.nodes.node s r.cluster on))
 
   -- what r awaits by the memory is in flight by the past
   held_back : (r q : Revision) → AwaitsEarlier (memory_of w s) r q → slice_get w.sessions s ≡ Some r.cluster → HoldsBack w.past q r
   held_back r q awaits on =
-      let flies = (flying_is w.clusters w.sessions kept.sessions.nodes w.past (sound_run w.clusters w.sessions kept.sessions.nodes None starts says w.past kept.sessions.run) r.cluster (kept.sessions.nodes.node s r.cluster on) (memory_of w s) (memory_is r on) q).0 awaits.flying in
+      let flies = (flying_is None w.clusters w.sessions kept.sessions.nodes w.past (sound_run w.clusters w.sessions kept.sessions.nodes None starts says w.past kept.sessions.run) r.cluster (kept.sessions.nodes.node s r.cluster on) (memory_of w s) (memory_is r on) q).0 awaits.flying in
       record { node = flies.0; earlier = awaits.earlier; flying = flies.1 }
 
   waits_step : (r q : Revision) → AwaitsEarlier (memory_of w s) r q → HasCome h s → is_ended w.past r ≡ true → slice_get w.sessions s ≡ Some r.cluster → StepOf (work.Move r) w (work.Move r) (answers.Wait q)
@@ -278,7 +278,7 @@ module _ (starts : Starts) (says : Says) (proper : StartsProper starts) (w : Sta
     kept = kept;
     may = (come, ended, on);
     apart = λ q k. refl;
-    detached = λ q k. k;
+    attached = refl;
     unstopped = λ q k. k;
     same = refl;
     tells = (refl, refl, ap (λ (v : RevVec). sees v r) (sym (head_is r on)) ∙ awaits.unseen, held_back r q awaits on);
@@ -290,10 +290,10 @@ module _ (starts : Starts) (says : Says) (proper : StartsProper starts) (w : Sta
   moves_step r o is seen come on idle unread = record {
     own = event.Refresh s (memory_of w s).head ∷ [];
     grown = refl;
-    kept = refresh_whole starts says proper w kept s on_now come.login come.stays idle unread;
+    kept = refresh_whole starts says proper w kept s on_now come.login come.stays idle unread unobserved;
     may = tt;
     apart = apart_one w.past s (event.Refresh s (memory_of w s).head) (λ q k. flipped q s k);
-    detached = λ q k. chosen_false (s == q) (is_attached w.past q) k;
+    attached = chosen s false (is_attached w.past s);
     unstopped = λ q k. k;
     same = refl;
     tells = (ap end.Committed is, ap (λ (v : RevVec). sees v r) (sym (head_is r on)) ∙ seen, (memory_of w s).head, seen, refl, refl);
@@ -327,7 +327,7 @@ module _ (starts : Starts) (says : Says) (proper : StartsProper starts) (w : Sta
       kept = read_kept;
       may = come;
       apart = λ q k. refl;
-      detached = λ q k. k;
+      attached = refl;
       unstopped = λ q k. k;
       same = refl;
       tells = goes_on r.parent (path_read r) (shown_work (work.Read next)) same_task;
@@ -346,7 +346,7 @@ module _ (starts : Starts) (says : Says) (proper : StartsProper starts) (w : Sta
       kept = gone_whole starts says proper w kept s;
       may = tt;
       apart = λ q k. refl;
-      detached = λ q k. k;
+      attached = refl;
       unstopped = λ q k. k;
       same = refl;
       tells = gone_tells r.parent (path_read r);
@@ -394,7 +394,7 @@ module _ (starts : Starts) (says : Says) (proper : StartsProper starts) (w : Sta
         kept = gone_whole starts says proper w kept s;
         may = tt;
         apart = λ q k. refl;
-        detached = λ q k. k;
+        attached = refl;
         unstopped = λ q k. k;
         same = refl;
         tells = given r.parent for_same.same_kind next.step refl gives;
@@ -404,15 +404,15 @@ module _ (starts : Starts) (says : Says) (proper : StartsProper starts) (w : Sta
 
   -- ---- the draw of a commit
 
-  draw_step : (edit : Edit) (marks : List MarkAt) → HasCome h s → starts h s edit marks → w.running s ≡ None
+  draw_step : (edit : Edit) (marks : List MarkAt) → HasCome h s → is_attached w.past s ≡ false → starts h s edit marks → w.running s ≡ None
       → StepOf (work.Plan edit marks) (after_draw w s edit marks (marked_paths marks)) (work.Commit (begun (next_draw (memory_of w s)) (base_in w s) edit marks)) (answers.Went kind.Draw)
-  draw_step edit marks come lawful idle = record {
+  draw_step edit marks come apart_now lawful idle = record {
     own = event.Draw (draw_in w s edit marks) ∷ [];
     grown = refl;
     kept = draw_whole starts says proper w kept s edit marks (marked_paths marks) on_now come.login come.stays apart_now idle lawful;
     may = record { come = record { login = come.login; stays = come.stays }; unended = refl; roots = refl; looked = refl };
     apart = apart_one w.past s (event.Draw (draw_in w s edit marks)) (λ q k. flipped q s k);
-    detached = λ q k. k;
+    attached = refl;
     unstopped = λ q k. k;
     same = refl;
     tells = (draw_in w s edit marks, record { session = refl; edit_is = refl; marks_are = refl }, refl, refl, refl);
@@ -469,7 +469,7 @@ module _ (starts : Starts) (says : Says) (proper : StartsProper starts) (w : Sta
         kept = want_whole starts says proper w kept s x here uncommitted unundone;
         may = record { come = at.come; unended = at.unended; roots = refl; looked = refl };
         apart = λ q k. refl;
-        detached = λ q k. k;
+        attached = refl;
         unstopped = λ q k. k;
         same = refl;
         tells = writing answers.Memory [] (shown_work (work.Commit (wanting c))) (refl, refl);
@@ -496,7 +496,7 @@ module _ (starts : Starts) (says : Says) (proper : StartsProper starts) (w : Sta
           kept = mark_kept;
           may = record { come = record { login = at.come.login; stays = at.come.stays }; unended = at.unended; roots = ap (drop 1) at.roots ∙ ap (λ (fs : List Met). drop 1 (map (λ m. root_of w.past m.other) fs)) due_is; looked = at.looked };
           apart = apart_went kind.Mark;
-          detached = λ q k. k;
+          attached = refl;
           unstopped = λ q k. k;
           same = mark_lists w s x f rest;
           tells = writing (answers.Went kind.Mark) (event.Went s kind.Mark ∷ []) (shown_work (work.Commit (marked c rest))) (inr (inl (refl, refl, still_writing (marked c rest) refl refl)));
@@ -511,7 +511,7 @@ module _ (starts : Starts) (says : Says) (proper : StartsProper starts) (w : Sta
           kept = mark_kept;
           may = record { come = record { login = at.come.login; stays = at.come.stays }; unended = at.unended; roots = refl; looked = at.looked };
           apart = apart_refusal f.mine f.other;
-          detached = λ q k. k;
+          attached = refl;
           unstopped = λ q k. k;
           same = mark_lists w s x f rest;
           tells = refusal_tells kind.Mark f.mine f.other (refused c f.mine f.other) refl;
@@ -531,7 +531,7 @@ module _ (starts : Starts) (says : Says) (proper : StartsProper starts) (w : Sta
           kept = write_whole starts says proper w kept s x p rest here uncommitted unundone unmet left;
           may = record { come = record { login = at.come.login; stays = at.come.stays }; unended = at.unended; roots = roots_met c.base c.revision p c.marks (root_of w.past) (nodes_in w.table p) (λ f i. met_here starts says proper w kept.sessions s x here p f i); looked = refl };
           apart = apart_went kind.Write;
-          detached = λ q k. k;
+          attached = refl;
           unstopped = λ q k. k;
           same = write_lists w s x p rest;
           tells = writing (answers.Went kind.Write) (event.Went s kind.Write ∷ []) (shown_work (work.Commit (written_alone c p rest (nodes_in w.table p)))) (inl (refl, refl, inl (still_writing (written_alone c p rest (nodes_in w.table p)) refl refl)));
@@ -546,7 +546,7 @@ module _ (starts : Starts) (says : Says) (proper : StartsProper starts) (w : Sta
           kept = write_in_want_whole starts says proper w kept s x p rest here uncommitted unundone unmet left;
           may = record { come = record { login = at.come.login; stays = at.come.stays }; unended = at.unended; roots = refl; looked = refl };
           apart = apart_went kind.Write;
-          detached = λ q k. k;
+          attached = refl;
           unstopped = λ q k. k;
           same = want_lists w s x p rest;
           tells = writing (answers.Went kind.Write) (event.Went s kind.Write ∷ []) (shown_work (work.Commit (wanting (written_alone c p rest (nodes_in w.table p))))) (inl (refl, refl, inr refl));
@@ -577,7 +577,7 @@ module _ (starts : Starts) (says : Says) (proper : StartsProper starts) (w : Sta
           kept = last_kept;
           may = record { come = record { login = at.come.login; stays = at.come.stays }; unended = at.unended; roots = at.roots; looked = at.looked };
           apart = apart_one w.past s (event.Commit c.revision) (λ q k. its_session q false (flipped q s k));
-          detached = λ q k. k;
+          attached = refl;
           unstopped = λ q k. k;
           same = last_lists w s x;
           tells = writing (answers.Went kind.Last) (event.Commit c.revision ∷ []) (shown_work (work.Commit (committed c))) (inr (inr (inl (refl, refl, refl))));
@@ -592,7 +592,7 @@ module _ (starts : Starts) (says : Says) (proper : StartsProper starts) (w : Sta
           kept = last_kept;
           may = record { come = record { login = at.come.login; stays = at.come.stays }; unended = at.unended; roots = refl; looked = at.looked };
           apart = apart_refusal item o;
-          detached = λ q k. k;
+          attached = refl;
           unstopped = λ q k. k;
           same = last_lists w s x;
           tells = refusal_tells kind.Last item o (refused c item o) refl;
@@ -609,7 +609,7 @@ module _ (starts : Starts) (says : Says) (proper : StartsProper starts) (w : Sta
       kept = undo_whole starts says proper w kept s x p rest here (not_past c.outcome undoing) undoing next;
       may = record { come = record { login = at.come.login; stays = at.come.stays }; unended = at.unended; roots = at.roots; looked = at.looked };
       apart = apart_went kind.Undo;
-      detached = λ q k. k;
+      attached = refl;
       unstopped = λ q k. k;
       same = undoing_lists w s x p rest;
       tells = undoing_tells h s c.revision c.outcome undoing;
@@ -663,13 +663,13 @@ module _ (starts : Starts) (says : Says) (proper : StartsProper starts) (w : Sta
           sound : IsSound w.clusters w.sessions None w.past
           sound = sound_run w.clusters w.sessions kept.sessions.nodes None starts says w.past kept.sessions.run
 
-          its_memory : IsMemoryOf w.clusters w.past k memory
-          its_memory = subst (λ (j : ℕ). IsMemoryOf w.clusters w.past k (memory_at w.memories j)) (sym at_node) (kept.sessions.memories.memory k is_node)
+          its_memory : IsMemoryOf None w.clusters w.past k memory
+          its_memory = subst (λ (j : ℕ). IsMemoryOf None w.clusters w.past k (memory_at w.memories j)) (sym at_node) (kept.sessions.memories.memory k is_node)
 
           rises : moved ≡ is_before (local None w.past k) (local None later k)
           rises =
-              ap (λ e. is_before e (own_entry done)) (own_is w.clusters w.sessions kept.sessions.nodes w.past sound k is_node memory its_memory)
-              ∙ ap (is_before (local None w.past k)) (own_is w.clusters w.sessions kept.sessions.nodes later (sound_run w.clusters w.sessions kept.sessions.nodes None starts says later run) k is_node done (end_run starts says w.clusters w.sessions kept.sessions.nodes c.revision w.past run memory its_memory))
+              ap (λ e. is_before e (own_entry done)) (own_is None w.clusters w.sessions kept.sessions.nodes w.past sound k is_node memory its_memory)
+              ∙ ap (is_before (local None w.past k)) (own_is None w.clusters w.sessions kept.sessions.nodes later (sound_run w.clusters w.sessions kept.sessions.nodes None starts says later run) k is_node done (end_run None starts says w.clusters w.sessions kept.sessions.nodes c.revision w.past run memory its_memory))
 
           before : (b : Bool) → is_before (local None w.past k) (local None later k) ≡ b → is_same (local None later k) (local None w.past k) ≡ false → b ≡ true
           before true e apart = refl
@@ -700,7 +700,7 @@ module _ (starts : Starts) (says : Says) (proper : StartsProper starts) (w : Sta
         kept = finish_kept;
         may = (come_on, ended_now moved (node_of w s) done.head c.revision w.past, on);
         apart = λ q k. ends_apart moved (node_of w s) done.head c.revision w.past q;
-        detached = ends_detached moved (node_of w s) done.head c.revision w.past;
+        attached = ends_attached moved (node_of w s) done.head c.revision w.past s;
         unstopped = ends_unstopped moved (node_of w s) done.head c.revision w.past;
         same = refl;
         tells = deciding_tells h s c.revision c.outcome own_ends ends_so.0 (is_finish moved (node_of w s) done.head c.revision);
@@ -715,7 +715,7 @@ module _ (starts : Starts) (says : Says) (proper : StartsProper starts) (w : Sta
             kept = finish_kept;
             may = tt;
             apart = λ q k. ends_apart moved (node_of w s) done.head c.revision w.past q;
-            detached = ends_detached moved (node_of w s) done.head c.revision w.past;
+            attached = ends_attached moved (node_of w s) done.head c.revision w.past s;
             unstopped = ends_unstopped moved (node_of w s) done.head c.revision w.past;
             same = refl;
             tells = subst (λ (y : Option CommitEnd). Tells h s (shown_by c.revision y) (answers.Ready (ends.Commit e)) own_ends Idle) (sym ends_so.0) (undone_tells h s c.revision e own_ends past (is_finish moved (node_of w s) done.head c.revision));
@@ -772,7 +772,7 @@ module _ (starts : Starts) (says : Says) (proper : StartsProper starts) (w : Sta
 
   -- nothing is done
   still_step : (v : Work) → Tells h s (shown_work v) answers.Memory [] Idle → is_by_due (kind_due v) [] ≡ true → (u : State) (x : Work) → u ≡ w → x ≡ work.Rest → StepOf v u x answers.Memory
-  still_step v tells due u x same is = at_those v answers.Memory w work.Rest u x same is (record { own = []; grown = refl; kept = kept; may = tt; apart = λ q k. refl; detached = λ q k. k; unstopped = λ q k. k; same = refl; tells = tells; of_step = refl; as_due = due })
+  still_step v tells due u x same is = at_those v answers.Memory w work.Rest u x same is (record { own = []; grown = refl; kept = kept; may = tt; apart = λ q k. refl; attached = refused_stays v (is_attached w.past s); unstopped = λ q k. k; same = refl; tells = tells; of_step = refl; as_due = due })
 
   -- a step of a session that may do what it does
   pub any_step : IsTable w.table.documents → (v : Work) → w.running s ≡ running_of s v → w.reading s ≡ reading_of v → May starts h s v → (u : State) (x : Work) (o : StepOut) → Makes s w v u x o → StepOf v u x o
@@ -782,7 +782,7 @@ module _ (starts : Starts) (says : Says) (proper : StartsProper starts) (w : Sta
   any_step table work.End runs reads may u x (answers.Ready ends.Ended) m = at_those work.End (answers.Ready ends.Ended) (after_leave w s) work.Rest u x m.0 m.1 (leave_step may runs reads)
   any_step table work.End runs reads may u x answers.Memory m = still_step work.End (refl, refl) refl u x m.0 m.1
   any_step table work.End runs reads may u x _ m = absurd m
-  any_step table work.Refresh runs reads may u x (answers.Ready (ends.Pinned pin)) m = at_those work.Refresh (answers.Ready (ends.Pinned pin)) (after_refresh w s) work.Rest u x m.0 m.1 (refresh_step pin m.2 may runs reads)
+  any_step table work.Refresh runs reads may u x (answers.Ready (ends.Pinned pin)) m = at_those work.Refresh (answers.Ready (ends.Pinned pin)) (after_refresh w s) work.Rest u x m.0 m.1 (refresh_step pin m.2 may.0 runs reads)
   any_step table work.Refresh runs reads may u x answers.Memory m = still_step work.Refresh (refl, refl) refl u x m.0 m.1
   any_step table work.Refresh runs reads may u x _ m = absurd m
   any_step table (work.Read r) runs reads may u x (answers.Went kind.Read) m = at_those (work.Read r) (answers.Went kind.Read) (with_reader w s (Some (read_on w.table r))) (work.Read (read_on w.table r)) u x m.0 m.1 (read_step table r reads may)
@@ -790,12 +790,12 @@ module _ (starts : Starts) (says : Says) (proper : StartsProper starts) (w : Sta
   any_step table (work.Read r) runs reads may u x answers.Memory m = at_those (work.Read r) answers.Memory (with_reader w s None) work.Rest u x m.0 m.1 (gone_step table r reads may)
   any_step table (work.Read r) runs reads may u x _ m = absurd m
   any_step table (work.Plan edit marks) runs reads may u x (answers.Went kind.Draw) m =
-      at_those (work.Plan edit marks) (answers.Went kind.Draw) (after_draw w s edit marks (marked_paths marks)) (work.Commit (begun (next_draw (memory_of w s)) (base_in w s) edit marks)) u x m.0 m.1 (draw_step edit marks may.0 may.1 runs)
+      at_those (work.Plan edit marks) (answers.Went kind.Draw) (after_draw w s edit marks (marked_paths marks)) (work.Commit (begun (next_draw (memory_of w s)) (base_in w s) edit marks)) u x m.0 m.1 (draw_step edit marks may.0 may.1 may.2 runs)
   any_step table (work.Plan edit marks) runs reads may u x answers.Memory m = still_step (work.Plan edit marks) (refl, refl) refl u x m.0 m.1
   any_step table (work.Plan edit marks) runs reads may u x _ m = absurd m
   any_step table (work.Commit c) runs reads may u x o m = commit_step c runs may u x o m
   any_step table (work.Move r) runs reads may u x (answers.Wait q) m = at_those (work.Move r) (answers.Wait q) w (work.Move r) u x m.0 m.1 (waits_step r q m.2 may.0 may.1 may.2)
   any_step table (work.Move r) runs reads may u x (answers.Ready (ends.Commit (end.Committed o))) m = at_those (work.Move r) (answers.Ready (ends.Commit (end.Committed o))) (after_refresh w s) work.Rest u x m.0 m.1 (moves_step r o m.2 m.3 may.0 may.2 runs reads)
   any_step table (work.Move r) runs reads may u x _ m = absurd m
-  any_step table (work.Upkeep k) runs reads may u x o m = upkeep_step starts says proper w kept s there apart_now none_halted may.0 few reads k may.1 u x o m
+  any_step table (work.Upkeep k) runs reads may u x o m = upkeep_step starts says proper w kept s there none_halted may.0 few unobserved runs reads k may.1 u x o m
   any_step table work.Rest runs reads may u x o m = absurd m

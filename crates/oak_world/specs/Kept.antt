@@ -8,7 +8,7 @@ use Rattle.oak_machine.specs.Commits.{is_ended}
 use Rattle.oak_machine.specs.declared.event.Event.{Event}
 use Rattle.oak_machine.specs.Asked.{AreAsked}
 use Rattle.oak_machine.specs.Laws.{Asks, Says, Starts}
-use Rattle.oak_machine.specs.Sessions.{has_login, is_attached, is_stopped, next_index}
+use Rattle.oak_machine.specs.Sessions.{has_login, has_reader, is_attached, is_stopped, next_index}
 use Rattle.oak_read.specs.Reading.{IsTable}
 use Rattle.core_clash.specs.Core.{root_of}
 use Rattle.core_world.specs.Kept.{IsKept, WereOnRoot}
@@ -26,7 +26,7 @@ use Rattle.oak_world.specs.declared.actor.Actor.{Actor}
 use Rattle.oak_step.specs.declared.work.Work.{Work}
 use Rattle.oak_step.specs.declared.work.Work.TheVariants as work
 use Rattle.oak_step.specs.Parts.{needed}
-use Rattle.oak_world.specs.Worlds.{WorldOf, live, state_of, work_in}
+use Rattle.oak_world.specs.Worlds.{WorldOf, actor_in, live, state_of, work_in}
 use Rattle.oak_world.specs.Seen.{shown_work}
 use Rattle.oak_world.specs.Steps.{HasCome}
 
@@ -47,11 +47,19 @@ abbrev pub AreBelow : List DocId → Type 0
 AreBelow [] = Unit {0}
 AreBelow (i ∷ ids) = IsFalse (eq_by_cmp path_cmp [] (names_of i)) × AreBelow ids
 
--- what is published is the node's own, and what is learned the root told
+-- what is published is the node's own, and what is learned the root told; at an attached session no
+-- checkpoint is made, no cursor is pinned, and no further checkpoint is taken; it is detached, and
+-- once it is at the head, its reader goes
 abbrev pub MayKeepUp : History → ℕ → Upkeep → Type 0
 MayKeepUp h s (upkeep.Noted n) = IsOwn h s n.upto
 MayKeepUp h s (upkeep.Publish ids r) = IsOwn h s r × AreBelow ids
 MayKeepUp h s (upkeep.Learn last sweep) = WereOnRoot h.clusters h.past last sweep
+MayKeepUp h s (upkeep.Checkpoint i) = IsFalse (is_attached h.past s)
+MayKeepUp h s (upkeep.Attach i) = IsFalse (is_attached h.past s)
+MayKeepUp h s upkeep.Detach = IsTrue (is_attached h.past s)
+MayKeepUp h s (upkeep.Detaching pin) =
+    IsFalse (is_attached h.past s) × IsTrue (has_reader h.past s)
+MayKeepUp h s upkeep.Observe = IsFalse (is_attached h.past s)
 MayKeepUp h s _ = Unit {0}
 
 -- what a session does, it may do
@@ -59,20 +67,23 @@ abbrev pub May : Starts → History → ℕ → Work → Type 0
 May starts h s work.Rest = Unit {0}
 May starts h s work.Login = IsFalse (has_login h.past s)
 May starts h s work.End = HasCome h s
-May starts h s work.Refresh = HasCome h s
+May starts h s work.Refresh = HasCome h s × IsFalse (is_attached h.past s)
 May starts h s (work.Read r) = HasCome h s
-May starts h s (work.Plan edit marks) = HasCome h s × starts h s edit marks
+May starts h s (work.Plan edit marks) =
+    HasCome h s × IsFalse (is_attached h.past s) × starts h s edit marks
 May starts h s (work.Commit c) = IsAtWork h s c
 May starts h s (work.Upkeep u) = HasCome h s × MayKeepUp h s u
 May starts h s (work.Move r) =
     HasCome h s × IsTrue (is_ended h.past r) × (slice_get h.sessions s ≡ Some r.cluster)
 
--- the state is kept by its law, the documents are in store order, there are at most 64 sessions, none is attached to a checkpoint, no cluster node is stopped, no document lists a previous one, and each may do what it does
+-- the state is kept by its law, the documents are in store order, there are at most 64 sessions, of
+-- each it is known whether it is attached to a checkpoint, no cluster node is stopped, no document
+-- lists a previous one, and each may do what it does
 pub record IsWorld (starts : Starts) (says : Says) {L : Type 0} (w : WorldOf L) : Type 0 where
   pub kept : IsKept starts says (state_of w)
   pub table : IsTable w.table.documents
   pub few : length w.history.sessions ≤ 64
-  pub detached : (s : ℕ) → IsFalse (is_attached w.history.past s)
+  pub attached : (s : ℕ) → (actor_in w.actors s).attached ≡ is_attached w.history.past s
   pub unstopped : (k : ℕ) → IsFalse (is_stopped w.history.past k)
   pub unsplit : (p : Path) → listed_at w.table p ≡ []
   pub seats : length w.actors ≡ length w.history.sessions

@@ -120,6 +120,7 @@ upkeep_left m upkeep.Write = suc (suc (names_in (seen_paths m.head m.notes)))
 upkeep_left m (upkeep.Noted n) = suc (length (told_ids n.paths))
 upkeep_left m (upkeep.Publish ids r) = suc (length ids)
 upkeep_left m upkeep.Read = 2
+upkeep_left m upkeep.Detach = 2
 upkeep_left m _ = 1
 
 -- ---- all

@@ -5,3 +5,4 @@ pub mod Kept
 pub mod Seen
 pub mod Clashes
 pub mod Left
+pub mod Pairs

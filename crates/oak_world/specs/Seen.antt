@@ -10,7 +10,7 @@ use Rattle.oak_port.specs.declared.task.Task.{Task}
 use Rattle.oak_port.specs.declared.task.Task.TheVariants as task
 use Rattle.oak_step.specs.declared.upkeep.Upkeep.{Upkeep}
 use Rattle.oak_step.specs.declared.upkeep.Upkeep.TheVariants as upkeep
-use Rattle.oak_port.specs.Ports.{Awaiting, Deciding, Idle, Learning, Publishing, Seat, Shown, Starting, Undoing, Work as Shows, Writing}
+use Rattle.oak_port.specs.Ports.{Awaiting, Deciding, Detaching, Idle, Learning, Publishing, Seat, Shown, Starting, Undoing, Work as Shows, Writing}
 use Rattle.oak_step.specs.declared.work.Work.{Work}
 use Rattle.oak_step.specs.declared.work.Work.TheVariants as work
 use Rattle.oak_step.specs.Works.{kind_due}
@@ -36,6 +36,9 @@ shown_upkeep upkeep.Read = Starting task.BackRead
 shown_upkeep (upkeep.Learn last sweep) = Learning last
 shown_upkeep (upkeep.Checkpoint i) = Starting (task.Checkpoint i)
 shown_upkeep (upkeep.Release i) = Starting (task.Release i)
+shown_upkeep (upkeep.Attach i) = Starting (task.Attach i)
+shown_upkeep upkeep.Detach = Starting task.Detach
+shown_upkeep (upkeep.Detaching pin) = Detaching pin.base
 shown_upkeep upkeep.Observe = Starting task.Observe
 
 -- what is shown of what a session does

@@ -1,6 +1,6 @@
 -- What sessions do, and what a step makes of a world.
-use Rattle.std.specs.Prelude.{◌≡◌, ◌≢◌, ◌⊎◌, ◌≤◌, ◌+◌, ◌-◌, ◌^◌, ℕ, min, List, [], ◌∷◌, ◌++◌, length, slice_get, slice_set, Option, Some, None, is_some, IsTrue, IsFalse}
-use Rattle.std.specs.Option.{IsSomeAnd}
+use Rattle.std.specs.Prelude.{◌≡◌, ◌≢◌, ◌⊎◌, ◌≤◌, ◌+◌, ◌-◌, ◌^◌, ℕ, Bool, true, false, cond, min, List, [], ◌∷◌, ◌++◌, length, slice_get, slice_set, Option, Some, None, is_some, IsTrue, IsFalse}
+use Rattle.std.specs.Option.{IsSomeAnd, option_map_or}
 use Rattle.jr_path.specs.declared.path.Path.{Path}
 use Rattle.jr_path.specs.declared.path.Item.{Item}
 use Rattle.jr_path.specs.Lists.{Text}
@@ -32,7 +32,7 @@ use Rattle.oak_node.specs.Heads.{AwaitsEarlier, learned, next_draw}
 use Rattle.oak_node.specs.Pins.{pin_now}
 use Rattle.oak_read.specs.Reading.{due}
 use Rattle.core_world.specs.States.{State, base_in, memory_of, nodes_in}
-use Rattle.core_world.specs.Steps.{after_back, after_checkpoint, after_learn, after_observe, after_out, after_pending, after_release, after_unfound, after_went, after_draw, after_finish, after_last, after_leave, after_login, after_mark, after_refresh, after_undoing, after_want, after_write, after_write_in_want, with_reader}
+use Rattle.core_world.specs.Steps.{after_attach, after_back, after_checkpoint, after_detach, after_learn, after_observe, after_out, after_pending, after_release, after_unfound, after_went, after_draw, after_finish, after_last, after_leave, after_login, after_mark, after_refresh, after_undoing, after_want, after_write, after_write_in_want, with_reader}
 use Rattle.oak_port.specs.declared.task.StepOut.{StepOut}
 use Rattle.oak_port.specs.declared.task.StepOut.TheVariants as answers
 use Rattle.oak_port.specs.declared.task.TaskEnd.TheVariants as ends
@@ -138,6 +138,21 @@ MakesUpkeep s w (upkeep.Release i) u v (answers.Ready ends.NoCheckpoint) =
     (set_checkpoint w.table i ≡ None) × (u ≡ after_unfound w s (change.Release i)) × (v ≡ work.Rest)
 MakesUpkeep s w (upkeep.Release i) u v answers.Memory = (u ≡ w) × (v ≡ work.Rest)
 MakesUpkeep s w (upkeep.Release i) u v _ = ⊥
+MakesUpkeep s w (upkeep.Attach i) u v (answers.Ready (ends.Set (Some pin))) =
+    (set_checkpoint w.table i ≡ Some pin) × (u ≡ after_attach w s i) × (v ≡ work.Rest)
+MakesUpkeep s w (upkeep.Attach i) u v (answers.Ready ends.NoCheckpoint) =
+    (set_checkpoint w.table i ≡ None) × (u ≡ after_unfound w s (change.Attach s i))
+    × (v ≡ work.Rest)
+MakesUpkeep s w (upkeep.Attach i) u v answers.Memory = (u ≡ w) × (v ≡ work.Rest)
+MakesUpkeep s w (upkeep.Attach i) u v _ = ⊥
+MakesUpkeep s w upkeep.Detach u v (answers.Went kind.Pin) =
+    (u ≡ after_refresh w s) × (v ≡ work.Upkeep (upkeep.Detaching (pin_now (memory_of w s))))
+MakesUpkeep s w upkeep.Detach u v answers.Memory = (u ≡ w) × (v ≡ work.Rest)
+MakesUpkeep s w upkeep.Detach u v _ = ⊥
+MakesUpkeep s w (upkeep.Detaching pin) u v (answers.Ready (ends.Pinned o)) =
+    (o ≡ pin) × (u ≡ after_detach w s) × (v ≡ work.Rest)
+MakesUpkeep s w (upkeep.Detaching pin) u v answers.Memory = (u ≡ w) × (v ≡ work.Rest)
+MakesUpkeep s w (upkeep.Detaching pin) u v _ = ⊥
 MakesUpkeep s w upkeep.Observe u v (answers.Ready (ends.Pinned pin)) =
     (pin_of (memory_of w s) s ≡ Some pin) × (u ≡ after_observe w s pin) × (v ≡ work.Rest)
 MakesUpkeep s w upkeep.Observe u v answers.Memory = (u ≡ w) × (v ≡ work.Rest)
@@ -186,6 +201,31 @@ abbrev pub reads_after : Work → StepOut → ℕ → ℕ
 reads_after (work.Read r) o n = reads_of_load o n
 reads_after _ o n = n
 
+-- whether a session is attached once what it does is made, where that moves its base: an attaching
+-- attaches it, and to the head it goes for a login, a refresh, its commit, and before it is detached
+abbrev pub attaching_by : Upkeep → Option Bool
+attaching_by (upkeep.Attach i) = Some true
+attaching_by upkeep.Detach = Some false
+attaching_by _ = None
+
+abbrev pub attaching : Work → Option Bool
+attaching work.Login = Some false
+attaching work.Refresh = Some false
+attaching (work.Move r) = Some false
+attaching (work.Upkeep u) = attaching_by u
+attaching _ = None
+
+-- the step was made, and found what it asked for
+abbrev pub is_made : StepOut → Bool
+is_made (answers.Ready ends.NoCheckpoint) = false
+is_made (answers.Wait o) = false
+is_made answers.Memory = false
+is_made _ = true
+
+-- whether a session is attached after a step, by whether it was
+abbrev pub attached_after : Work → StepOut → Bool → Bool
+attached_after v o was = option_map_or (λ now. cond (is_made o) now was) (attaching v) was
+
 -- a step of session s: it changes the state so, and of the sessions what this one does; the law stays
 pub record StepsIn {L : Type 0} (w : WorldOf L) (s : ℕ) (u : WorldOf L) (o : StepOut) : Type 0 where
   pub does : Work
@@ -194,6 +234,7 @@ pub record StepsIn {L : Type 0} (w : WorldOf L) (s : ℕ) (u : WorldOf L) (o : S
       ≡ slice_set w.actors s (record (actor_in w.actors s) {
         work = does;
         reads = reads_after (work_in w.actors s) o (actor_in w.actors s).reads;
+        attached = attached_after (work_in w.actors s) o (actor_in w.actors s).attached;
       })
   pub law : u.law ≡ w.law
 

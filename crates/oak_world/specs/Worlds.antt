@@ -1,5 +1,5 @@
 -- What contracts see of a world.
-use Rattle.std.specs.Prelude.{ℕ, List, [], ◌∷◌, length, map, reverse, slice_get, slice_set, Option, Some, None}
+use Rattle.std.specs.Prelude.{ℕ, Bool, false, List, [], ◌∷◌, length, map, reverse, slice_get, slice_set, Option, Some, None}
 use Rattle.std.specs.Option.{unwrap_or}
 use Rattle.std.specs.List.{range_with_len}
 use Rattle.jr_path.specs.Lists.{Text}
@@ -23,15 +23,23 @@ use Rattle.oak_step.specs.Parts.{Parts, parts}
 
 -- ---- a world
 
--- what a session does, how many events there were when it was told so, the bytes that are reserved for its reply, and how many documents its loads have read
+-- what a session does, how many events there were when it was told so, the bytes that are reserved
+-- for its reply, how many documents its loads have read, and whether it is attached to a checkpoint
 pub record ActorState : Type 0 where
   pub work : Work
   pub began : ℕ
   pub reply : Option ℕ
   pub reads : ℕ
+  pub attached : Bool
 
 abbrev pub shown_actor : Actor → ActorState
-shown_actor a = record { work = a.work; began = a.began; reply = a.reply; reads = a.reads }
+shown_actor a = record {
+  work = a.work;
+  began = a.began;
+  reply = a.reply;
+  reads = a.reads;
+  attached = a.attached;
+}
 
 -- the cluster nodes, the sessions and the events of a world that began at the initial tree
 pub record Story : Type 0 where
@@ -66,7 +74,7 @@ shown_world law j t ms actors = record {
 
 -- a session that does nothing
 abbrev pub idle : ActorState
-idle = record { work = work.Rest; began = 0; reply = None; reads = 0 }
+idle = record { work = work.Rest; began = 0; reply = None; reads = 0; attached = false }
 
 -- what session s does, and what is kept for it
 abbrev pub actor_in : List ActorState → ℕ → ActorState
@@ -118,6 +126,7 @@ state_with h t ms actors = record {
   memories = ms;
   running = λ s. running_of s (work_in actors s);
   reading = λ s. reading_of (work_in actors s);
+  observing = λ s. None;
   formers = λ p k. None;
 }
 

@@ -1,19 +1,22 @@
 // A session's seat in the world: what it does, what is kept for its reply, and its steps.
-ghost use Rattle.std.specs.Prelude.{◌≡◌, ◌≤◌, ◌+◌, ◌∷◌, ◌++◌, [], IfOk, None, OnErr, OnOk, Some, cond, length};
-ghost use Rattle.std.specs.Option.{IsSomeAnd};
+ghost use Rattle.std.specs.Prelude.{◌≡◌, ◌≤◌, ◌+◌, ◌∷◌, ◌++◌, [], false, IfOk, None, OnErr, OnOk, Some, cond, length};
+ghost use Rattle.std.specs.Option.{IsSomeAnd, option_map_or};
 ghost use Rattle.oak_machine.specs.declared.event.Event.TheVariants as event;
+ghost use Rattle.oak_node.specs.Pins.{pin_of};
 ghost use Rattle.oak_read.specs.Reading.{IsTable};
+ghost use Rattle.core_world.specs.States.{reader_pin};
 ghost use Rattle.oak_step.specs.Parts.{CanStep, HasRoot, Steps, parts};
 ghost use Rattle.oak_step.specs.declared.work.Work.TheVariants as work;
 ghost use Rattle.oak_world.specs.Kept.{IsPlaced};
-ghost use Rattle.oak_world.specs.Steps.{reads_after, reads_of_load};
+ghost use Rattle.oak_world.specs.Steps.{attached_after, attaching, attaching_by, is_made, reads_after, reads_of_load};
 ghost use Rattle.oak_world.specs.Worlds.{shown_actor};
 
-use jr_path::Text;
+use jr_path::{DocId, Text};
+use jr_rev::Pin;
 use oak_machine::{Event, Events};
 use oak_node::NodeMem;
-use oak_port::StepOut;
-use oak_step::{Work, step_work};
+use oak_port::{StepOut, TaskEnd};
+use oak_step::{Upkeep, Work, step_work};
 use oak_store::DocTable;
 use std::alloc::{AllocError, Global};
 use std::marker::Model;
@@ -30,6 +33,8 @@ pub(crate) struct Actor {
     pub(crate) places: usize,
     // How many documents its loads and lists have read.
     pub(crate) reads: u64,
+    // Whether it is attached to a checkpoint.
+    pub(crate) attached: bool,
 }
 
 // By hand, so that its parts are let go in one call.
@@ -41,6 +46,7 @@ impl Drop for Actor {
             reply,
             places: _,
             reads: _,
+            attached: _,
         } = self;
         drop(work);
         drop(reply);
@@ -56,6 +62,7 @@ impl Actor {
           reply = None;
           places = 0;
           reads = 0;
+          attached = false;
         } }
     {
         Actor {
@@ -64,6 +71,19 @@ impl Actor {
             reply: None,
             places: 0,
             reads: 0,
+            attached: false,
+        }
+    }
+
+    // The pin at which it reads: while it is attached that of its checkpoint, which the settings
+    // keep for it, else that of its node's memory.
+    pub(crate) fn pin(&self, table: &DocTable, memory: &NodeMem, s: u32) -> Option<Pin>
+        ensures { result ≡ cond self.now.attached (reader_pin table.now s) (pin_of memory.now s) }
+    {
+        if self.attached {
+            reader_pin(table, s)
+        } else {
+            memory.pin_of(s)
         }
     }
 
@@ -104,6 +124,16 @@ impl Actor {
     }
 }
 
+// The pair that the settings keep for a session, where they have it as a reader.
+fn reader_pin(table: &DocTable, s: u32) -> Option<Pin>
+    ensures { result ≡ reader_pin table.now s }
+{
+    match table.find(&DocId::Settings) {
+        Some(settings) => settings.readers.get(&s).copied(),
+        None => None,
+    }
+}
+
 // One step of a session: it keeps its places of the journal, and no others.
 pub(crate) fn step_actor(
     alloc: Global,
@@ -124,6 +154,7 @@ pub(crate) fn step_actor(
     ensures began { actor.new.began ≡ actor.old.began }
     ensures reply { actor.new.reply ≡ actor.old.reply }
     ensures reads { actor.new.reads ≡ reads_after actor.old.work result actor.old.reads }
+    ensures attached { actor.new.attached ≡ attached_after actor.old.work result actor.old.attached }
     ensures order { IsTable table.new.documents }
     ensures placed { IsPlaced actor.new }
     ensures places { events.new.places + actor.old.places ≡ events.old.places + actor.new.places }
@@ -131,9 +162,11 @@ pub(crate) fn step_actor(
     let others = events.places() - actor.places;
     let reads = actor.reads;
     let reading = is_read(&actor.work);
+    let attaching = attaching(&actor.work);
     let work = mem::replace(&mut actor.work, Work::Rest);
     let (work, out) = step_work(alloc, table, memory, events, node, s, work);
     actor.reads = reads_after(reading, &out, reads);
+    actor.attached = attached_after(attaching, &out, actor.attached);
     actor.work = work;
     actor.places = events.places() - others;
     settle(events, actor);
@@ -155,6 +188,47 @@ fn is_read(work: &Work) -> bool
         | Work::Commit(_)
         | Work::Move(_)
         | Work::Upkeep(_) => false,
+    }
+}
+
+// Whether a session is attached once what it does is made, where that moves its base.
+fn attaching(work: &Work) -> Option<bool>
+    ensures { result ≡ attaching work.now }
+{
+    match work {
+        Work::Login | Work::Refresh | Work::Move(_) => Some(false),
+        Work::Upkeep(upkeep) => attaching_by(upkeep),
+        Work::Rest | Work::End | Work::Read(_) | Work::Plan(_, _) | Work::Commit(_) => None,
+    }
+}
+
+fn attaching_by(upkeep: &Upkeep) -> Option<bool>
+    ensures { result ≡ attaching_by upkeep.now }
+{
+    match upkeep {
+        Upkeep::Attach(_) => Some(true),
+        Upkeep::Detach => Some(false),
+        _ => None,
+    }
+}
+
+// Whether a session is attached after a step, by whether it was.
+fn attached_after(attaching: Option<bool>, out: &StepOut, was: bool) -> bool
+    ensures { result ≡ option_map_or (λ now. cond (is_made out.now) now was) attaching was }
+{
+    match attaching {
+        Some(now) => { if is_made(out) { now } else { was } }
+        None => was,
+    }
+}
+
+// Whether a step was made, and found what it asked for.
+fn is_made(out: &StepOut) -> bool
+    ensures { result ≡ is_made out.now }
+{
+    match out {
+        StepOut::Ready(TaskEnd::NoCheckpoint) | StepOut::Wait(_) | StepOut::Memory => false,
+        _ => true,
     }
 }
 
@@ -183,6 +257,7 @@ fn settle(events: &mut Events, actor: &mut Actor)
     ensures began { actor.new.began ≡ actor.old.began }
     ensures reply { actor.new.reply ≡ actor.old.reply }
     ensures reads { actor.new.reads ≡ actor.old.reads }
+    ensures attached { actor.new.attached ≡ actor.old.attached }
     ensures placed { IsPlaced actor.new }
     ensures places { events.new.places + actor.old.places ≡ events.old.places + actor.new.places }
 {

@@ -1,10 +1,11 @@
 // A world under a law.
-ghost use Rattle.std.specs.Prelude.{IfOk, IsFalse, IsSome, IsTrue, None, OnErr, OnOk, Some, is_some, length, map, slice_get, ◌-◌, ◌<◌, ◌^◌, ◌↔◌, ◌≡◌, ◌≢◌, ◌≤◌, ◌⊎◌};
+ghost use Rattle.std.specs.Prelude.{ℕ, IfOk, IsFalse, IsSome, IsTrue, None, OnErr, OnOk, Some, is_some, length, map, slice_get, ◌-◌, ◌<◌, ◌^◌, ◌↔◌, ◌≡◌, ◌≢◌, ◌≤◌, ◌⊎◌};
 ghost use Rattle.std.specs.Borrow.{GName};
 ghost use Rattle.std.specs.List.{range_with_len};
 ghost use Rattle.std.specs.Option.{option_map};
 ghost use Rattle.jr_path.specs.declared.path.Item.{Item};
 ghost use Rattle.jr_path.specs.declared.path.Path.{Path};
+ghost use Rattle.jr_path.specs.Lists.{Text};
 ghost use Rattle.jr_rev.specs.declared.revision.Revision.{Revision};
 ghost use Rattle.jr_rev.specs.Vectors.{is_below, start};
 ghost use Rattle.jr_tree.specs.Trees.{node_at};
@@ -12,21 +13,24 @@ ghost use Rattle.oak_doc.specs.declared.document.Document.{Document};
 ghost use Rattle.oak_machine.specs.Asked.{AreAsked};
 ghost use Rattle.oak_machine.specs.Commits.{IsClosed, IsSettled, are_clashing, is_committed, is_ended, is_in_base, refusal_of, tree_at};
 ghost use Rattle.oak_machine.specs.History.{history_of};
-ghost use Rattle.oak_machine.specs.Runs.{AreNodes, IsRun};
-ghost use Rattle.oak_machine.specs.Sessions.{base_of, has_left};
+ghost use Rattle.oak_machine.specs.Runs.{AreNodes, IsNode, IsRun};
+ghost use Rattle.oak_machine.specs.Sessions.{base_of, has_left, kept_checkpoint};
 ghost use Rattle.oak_node.specs.Memory.{begun};
 ghost use Rattle.oak_node.specs.Pins.{pin_of};
 ghost use Rattle.oak_port.specs.Ports.{IsAskedOf, IsWait, MayBegin, Steps};
 ghost use Rattle.oak_read.specs.Meaning.{documents_in, found_node};
 ghost use Rattle.core_clash.specs.Sound.{Cause};
-ghost use Rattle.core_world.specs.Kept.{IsFreeOf, IsKept};
-ghost use Rattle.core_world.specs.States.{memory_of, nodes_in};
+ghost use Rattle.core_nodes.specs.Nodes.{base_of_pin, kept_base};
+ghost use Rattle.core_world.specs.Kept.{IsFreeOf, IsKept, reader_at};
+ghost use Rattle.core_world.specs.States.{actor_pin, memory_at, nodes_in, reader_pin};
 ghost use Rattle.core_clash.specs.Unclashing.{IsUnclashing};
 ghost use Rattle.oak_step.specs.declared.work.Work.{Work};
 ghost use Rattle.oak_step.specs.declared.work.Work.TheVariants as work;
 ghost use Rattle.oak_world.specs.Clashes.{Wanted};
 ghost use Rattle.oak_world.specs.Left.{left_in};
+ghost use Rattle.oak_world.specs.Pairs.{ShowsTree};
 ghost use Rattle.oak_world.specs.Seen.{shown_at};
+ghost use Rattle.oak_step.specs.Upkeeps.{set_checkpoint};
 ghost use Rattle.oak_step.specs.Works.{Begins, kind_due};
 ghost use Rattle.oak_world.specs.Steps.{HasPlace, IsIdle, Plays, StepsIn, Turns};
 ghost use Rattle.oak_world.specs.Worlds.{actor_in, live, said_in, start_world, state_of, with_reply, with_work, work_in};
@@ -194,11 +198,13 @@ impl<L: Law + Drop> World<L> {
         &self.table
     }
 
-    /// The session's pin, where it has come and not left. It is at the base that the journal tells, which is settled and closed and at
-    /// least its sweep vector, and at it the documents show at each path the node of the journal's tree.
+    /// The pin at which the session reads: while it is attached to a checkpoint that which the
+    /// settings keep for it, else that of its node's memory, where it has come and not left. It is
+    /// at the base that the journal tells, which is settled and closed and at least its sweep
+    /// vector, and at it the documents show at each path the node of the journal's tree.
     pub fn pin(&self, actor: u32) -> Option<Pin>
         requires { IsTrue (is_some (slice_get self.now.history.sessions actor)) }
-        ensures pin { result ≡ pin_of (memory_of (state_of self.now) actor) actor }
+        ensures pin { result ≡ actor_pin (state_of self.now) actor }
         ensures base { IsFalse (has_left self.now.history.past actor)
             → option_map (λ pin. pin.base) result ≡ base_of self.now.history.past actor }
         ensures below { (pin : Pin) → result ≡ Some pin → IsTrue (is_below pin.sweep pin.base) }
@@ -211,7 +217,33 @@ impl<L: Law + Drop> World<L> {
     {
         let node = self.node(actor);
         let memory = &self.memories[node as usize - 1];
-        memory.pin_of(actor)
+        let seat = &self.actors[actor as usize];
+        seat.pin(&self.table, memory, actor)
+    }
+
+    /// Each pair that is held shows the journal's tree; its vector is settled and closed, and at least
+    /// its sweep vector. A pair is held that is a pin of a cluster node's memory, of a session or of
+    /// its cursor, and one that the settings keep as a checkpoint or for an attached session. Pins are
+    /// where the journal has their owners; the settings have just the last checkpoint of each id that
+    /// wasn't released since, and readers just of sessions that attached and weren't detached since.
+    /// It does nothing: callers learn the facts.
+    pub fn holds_pairs(&self)
+        ensures pins { (k owner : ℕ) (pin : Pin) → IsNode self.now.history.clusters k
+            → pin_of (memory_at self.now.memories k) owner ≡ Some pin
+            → ShowsTree self.now.history.past self.now.table pin }
+        ensures checkpoints { (i : Text) (pin : Pin) → set_checkpoint self.now.table i ≡ Some pin
+            → ShowsTree self.now.history.past self.now.table pin }
+        ensures readers { (s : ℕ) (pin : Pin) → reader_pin self.now.table s ≡ Some pin
+            → ShowsTree self.now.history.past self.now.table pin }
+        ensures owners { (k owner : ℕ) → IsNode self.now.history.clusters k
+            → base_of_pin (pin_of (memory_at self.now.memories k) owner)
+            ≡ kept_base self.now.history.sessions self.now.history.past k owner }
+        ensures kept { (i : Text) → base_of_pin (set_checkpoint self.now.table i)
+            ≡ kept_checkpoint self.now.history.past i }
+        ensures attached { (s : ℕ) → base_of_pin (reader_pin self.now.table s)
+            ≡ reader_at self.now.history.past s }
+    {
+        let _ = &self.table;
     }
 
     /// Tells a session that does nothing what to do; its next command asks for the events of the task.
@@ -221,7 +253,7 @@ impl<L: Law + Drop> World<L> {
         requires may { MayBegin (L.may_start self.old.law) (live self.old.history) actor task }
         requires asked { IsAskedOf (L.asks self.old.law) (live self.old.history) actor task }
         ensures ok { OnOk result ((v : Work)
-            × Begins (pin_of (memory_of (state_of self.old) actor) actor) task v
+            × Begins (actor_pin (state_of self.old) actor) task v
             × (self.new ≡ with_work self.old actor v)) }
         ensures err { OnErr result (self.new ≡ self.old) }
     {

@@ -130,6 +130,7 @@ fn name_in(json: &Json, out: &mut Out) -> Option<Name> {
 fn kind_of(word: &str, out: &mut Out) -> StepKind {
     match word {
         "pin" => StepKind::Pin,
+        "back" => StepKind::Back,
         "write" => StepKind::Write,
         "mark" => StepKind::Mark,
         "undo" => StepKind::Undo,

@@ -11,9 +11,9 @@ one_sees false true c f h = inr refl
 one_sees false false c f h = absurd (false≢true (sym (f refl refl) ∙ h))
 
 pub returns-clause-seen : goal.returns-clause-seen
-returns-clause-seen g c = λ h r o nodes run k l other clash.
-    one_sees (is_in_base h.past r o) (is_in_base h.past o r) _ (unseen_apart h.clusters h.sessions nodes (g.L.Law.may_start c.args.law.now) (g.L.Law.may_say c.args.law.now) h.past run r o k l other) clash
+returns-clause-seen g c = λ h r o is k l other clash.
+    one_sees (is_in_base h.past r o) (is_in_base h.past o r) _ (unseen_apart h.clusters h.sessions is.nodes h.begin (g.L.Law.may_start c.args.law.now) (g.L.Law.may_say c.args.law.now) h.past is.run r o k l other) clash
 
 pub returns-clause-independent : goal.returns-clause-independent
 returns-clause-independent g c = λ h r o d e m k l other drawn found unseen back.
-    independent_commits h.clusters h.sessions m.nodes (g.L.Law.may_start c.args.law.now) (g.L.Law.may_say c.args.law.now) (g.L.Law.proper c.args.law.now) m.marking h.past m.run r o d e k l drawn found other unseen back
+    independent_commits h.clusters h.sessions m.nodes h.begin (g.L.Law.may_start c.args.law.now) (g.L.Law.may_say c.args.law.now) (g.L.Law.proper c.args.law.now) m.marking h.past m.run r o d e k l drawn found other unseen back

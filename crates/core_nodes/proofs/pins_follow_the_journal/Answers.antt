@@ -5,7 +5,7 @@ use Rattle.core_nodes.proofs.Recovering.{recovered_pins, recovered_pins_apart}
 use Rattle.core_nodes.proofs.Pins.{cursor_put, has_cursor, has_pin, pinned, pins_kept}
 
 pub returns-clause-begun : goal.returns-clause-begun
-returns-clause-begun g c = begun_pins
+returns-clause-begun g c = λ begin clusters sessions k. begun_pins begin clusters sessions k
 
 pub returns-clause-pinned : goal.returns-clause-pinned
 returns-clause-pinned g c = λ sessions past k s owner pin are h. (pinned sessions past k s are owner pin h, are.pairs owner pin h)
@@ -14,13 +14,13 @@ pub returns-clause-there : goal.returns-clause-there
 returns-clause-there g c = λ sessions past k s owner v are at. has_pin sessions past k s are owner v at
 
 pub returns-clause-login : goal.returns-clause-login
-returns-clause-login g c = λ clusters sessions past k s session v nodes run of is are. login_run (g.L.Law.may_start c.args.law.now) (g.L.Law.may_say c.args.law.now) clusters sessions nodes past k s is are session v run of
+returns-clause-login g c = λ begin clusters sessions past k s session v nodes run of is are. login_run begin (g.L.Law.may_start c.args.law.now) (g.L.Law.may_say c.args.law.now) clusters sessions nodes past k s is are session v run of
 
 pub returns-clause-refresh : goal.returns-clause-refresh
-returns-clause-refresh g c = λ clusters sessions past k s session v nodes run of here is are. refresh_run (g.L.Law.may_start c.args.law.now) (g.L.Law.may_say c.args.law.now) clusters sessions nodes past k s is are session v run of here
+returns-clause-refresh g c = λ begin clusters sessions past k s session v nodes run of here is are. refresh_run begin (g.L.Law.may_start c.args.law.now) (g.L.Law.may_say c.args.law.now) clusters sessions nodes past k s is are session v run of here
 
 pub returns-clause-left : goal.returns-clause-left
-returns-clause-left g c = λ clusters sessions past k s session of none is are. leave_run clusters sessions past k s is are session of none
+returns-clause-left g c = λ begin clusters sessions past k s session of none is are. leave_run begin clusters sessions past k s is are session of none
 
 pub returns-clause-cursor : goal.returns-clause-cursor
 returns-clause-cursor g c = λ sessions past k s owner v none are at. has_cursor sessions past k s are owner v none at

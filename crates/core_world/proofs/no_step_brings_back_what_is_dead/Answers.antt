@@ -1,5 +1,5 @@
 -- Each step by the update that it makes.
-use Rattle.std.proofs.Common.{[], ◌∷◌, refl}
+use Rattle.std.proofs.Common.{[], refl}
 use Rattle.std.specs.Prelude.{map}
 use Rattle.oak_doc.specs.declared.update.Change.TheVariants as change
 use Rattle.core_world.specs.Steps.{back_op, publish_op, settings_op, settings_ops, sweep_op}

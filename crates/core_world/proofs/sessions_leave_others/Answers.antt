@@ -1,6 +1,6 @@
 -- By the form of the steps.
 use Rattle.core_world.proofs.sessions_leave_others.Goals as goal
-use Rattle.core_world.proofs.Others.{learn_swept_others, unfound_others, attach_others, checkpoint_others, detach_others, release_others, pending_others, back_others, out_others, swept_others, learn_others, draw_others, finish_others, last_others, leave_others, login_others, mark_others, observe_others, reader_others, refresh_others, said_others, undo_others, want_others, went_others, write_in_want_others, write_others}
+use Rattle.core_world.proofs.Others.{learn_swept_others, unfound_others, attach_others, checkpoint_others, detach_others, release_others, pending_others, back_others, out_others, swept_others, learn_others, draw_others, finish_others, last_others, leave_others, login_others, mark_others, observe_others, reader_others, observer_others, refresh_others, said_others, undo_others, want_others, went_others, write_in_want_others, write_others}
 
 pub returns-clause-login : goal.returns-clause-login
 returns-clause-login c = login_others
@@ -22,6 +22,9 @@ returns-clause-went c = went_others
 
 pub returns-clause-reader : goal.returns-clause-reader
 returns-clause-reader c = reader_others
+
+pub returns-clause-observer : goal.returns-clause-observer
+returns-clause-observer c = observer_others
 
 pub returns-clause-draw : goal.returns-clause-draw
 returns-clause-draw c = draw_others

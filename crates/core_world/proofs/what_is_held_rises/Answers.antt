@@ -9,13 +9,13 @@ pub returns-clause-login : goal.returns-clause-login
 returns-clause-login g c = λ w s kept on there first. login_rises (g.L.Law.may_start c.args.law.now) (g.L.Law.may_say c.args.law.now) (g.L.Law.proper c.args.law.now) w (layers_of (g.L.Law.may_start c.args.law.now) (g.L.Law.may_say c.args.law.now) w kept) s on there first
 
 pub returns-clause-refresh : goal.returns-clause-refresh
-returns-clause-refresh g c = λ w s kept on login stays none unread. refresh_rises (g.L.Law.may_start c.args.law.now) (g.L.Law.may_say c.args.law.now) (g.L.Law.proper c.args.law.now) w (layers_of (g.L.Law.may_start c.args.law.now) (g.L.Law.may_say c.args.law.now) w kept) s login on stays none unread
+returns-clause-refresh g c = λ w s kept on login stays none unread unobserved. refresh_rises (g.L.Law.may_start c.args.law.now) (g.L.Law.may_say c.args.law.now) (g.L.Law.proper c.args.law.now) w (layers_of (g.L.Law.may_start c.args.law.now) (g.L.Law.may_say c.args.law.now) w kept) s login on stays none unread unobserved
 
 pub returns-clause-leave : goal.returns-clause-leave
-returns-clause-leave g c = λ w s kept on few login stays none unread. leave_rises (g.L.Law.may_start c.args.law.now) (g.L.Law.may_say c.args.law.now) (g.L.Law.proper c.args.law.now) w (layers_of (g.L.Law.may_start c.args.law.now) (g.L.Law.may_say c.args.law.now) w kept) s login on few stays none unread
+returns-clause-leave g c = λ w s kept on few login stays none unread unobserved. leave_rises (g.L.Law.may_start c.args.law.now) (g.L.Law.may_say c.args.law.now) (g.L.Law.proper c.args.law.now) w (layers_of (g.L.Law.may_start c.args.law.now) (g.L.Law.may_say c.args.law.now) w kept) s login on few stays none unread unobserved
 
 pub returns-clause-observe : goal.returns-clause-observe
-returns-clause-observe g c = λ w s pin kept few login stays unread has. observe_rises (g.L.Law.may_start c.args.law.now) (g.L.Law.may_say c.args.law.now) (g.L.Law.proper c.args.law.now) w (layers_of (g.L.Law.may_start c.args.law.now) (g.L.Law.may_say c.args.law.now) w kept) s login pin few stays unread has
+returns-clause-observe g c = λ w s pin kept few login stays unread unobserved has. observe_rises (g.L.Law.may_start c.args.law.now) (g.L.Law.may_say c.args.law.now) (g.L.Law.proper c.args.law.now) w (layers_of (g.L.Law.may_start c.args.law.now) (g.L.Law.may_say c.args.law.now) w kept) s login pin few stays unread unobserved has
 
 pub returns-clause-said : goal.returns-clause-said
 returns-clause-said g c = λ w s i text kept next lawful. said_rises (g.L.Law.may_start c.args.law.now) (g.L.Law.may_say c.args.law.now) (g.L.Law.proper c.args.law.now) w (layers_of (g.L.Law.may_start c.args.law.now) (g.L.Law.may_say c.args.law.now) w kept) s i text next lawful

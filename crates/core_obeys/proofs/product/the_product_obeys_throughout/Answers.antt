@@ -1,4 +1,4 @@
-use Rattle.std.proofs.Common.{◌≡◌, ◌++◌, None, sym, subst}
+use Rattle.std.proofs.Common.{◌≡◌, ◌++◌, sym, subst}
 use Rattle.oak_machine.specs.History.{History, Past}
 use Rattle.oak_machine.specs.Runs.{IsRunOf}
 use Rattle.jcr_law.specs.declared.law.JcrLaw.{JcrLaw}
@@ -11,9 +11,8 @@ use Rattle.core_obeys.proofs.product.the_product_obeys_throughout.Goals as goal
 before : (law : JcrLaw) (h : History) (later past : Past) → IsProductRun law h → later ++ past ≡ h.past → IsProductRun law (record h { past = past })
 before law h later past m is = record {
   nodes = m.nodes;
-  begun = m.begun;
-  run = earlier_run h.clusters h.sessions m.nodes None (starts_of law) (says_of law) later past
-      (subst (λ (p : Past). IsRunOf (starts_of law) (says_of law) h.clusters h.sessions None p) (sym is) m.run);
+  run = earlier_run h.clusters h.sessions m.nodes h.begin (starts_of law) (says_of law) later past
+      (subst (λ (p : Past). IsRunOf (starts_of law) (says_of law) h.clusters h.sessions h.begin p) (sym is) m.run);
   typed = m.typed;
 }
 

@@ -1,4 +1,4 @@
-use Rattle.std.proofs.Common.{◌≤◌, ◌∙◌, length, subst, sym}
+use Rattle.std.proofs.Common.{None, ◌≤◌, ◌∙◌, length, subst, sym}
 use Rattle.seat_lock.specs.Passes.{view_of}
 use Rattle.jr_work.proofs.Turns.{first_stands}
 use Rattle.jr_stage.proofs.Within.{few_said}
@@ -13,4 +13,4 @@ run_through-requires-clause-commands g c = c.in_ok-run.ensures.commands_are ∙ 
 pub run_through-requires-clause-stands : goal.run_through-requires-clause-stands
 run_through-requires-clause-stands g c name =
     first_stands c.args.crew.now.script.now.value c.requires.crew.within (view_of c.args.pass.now) c.requires.knows c.args.s c.requires.first c.args.commands c.requires.commands c.requires.there
-    c.the_product_obeys.ensures.bases_are_trees c.the_product_obeys.ensures.bases_are_typed c.args.crew.now.types.now c.requires.crew.types_are c.in_ok-run.run' c.in_ok-run.ensures name
+    (c.the_product_obeys.ensures.bases_are_trees None) (c.the_product_obeys.ensures.bases_are_typed None) c.args.crew.now.types.now c.requires.crew.types_are c.in_ok-run.run' c.in_ok-run.ensures name

@@ -16,10 +16,19 @@ pub returns-in-Learn-clause-made : goal.returns-in-Learn-clause-made
 returns-in-Learn-clause-made c = rw c.in-Learn.is (c.learn.ensures.made c.args.s c.args.table.now)
 
 pub returns-in-Checkpoint-clause-made : goal.returns-in-Checkpoint-clause-made
-returns-in-Checkpoint-clause-made c = rw c.in-Checkpoint.is (c.checkpoint_on.ensures.made c.args.node)
+returns-in-Checkpoint-clause-made c = rw c.in-Checkpoint.is (c.checkpoint.ensures.made c.args.node)
 
 pub returns-in-Release-clause-made : goal.returns-in-Release-clause-made
-returns-in-Release-clause-made c = rw c.in-Release.is (c.release_on.ensures.made c.args.node c.args.memory.now)
+returns-in-Release-clause-made c = rw c.in-Release.is (c.release.ensures.made c.args.node c.args.memory.now)
+
+pub returns-in-Attach-clause-made : goal.returns-in-Attach-clause-made
+returns-in-Attach-clause-made c = rw c.in-Attach.is (c.attach.ensures.made c.args.node c.args.memory.now)
+
+pub returns-in-Detach-clause-made : goal.returns-in-Detach-clause-made
+returns-in-Detach-clause-made c = rw c.in-Detach.is (c.pin_on.ensures.made c.args.node c.args.table.now)
+
+pub returns-in-Detaching-clause-made : goal.returns-in-Detaching-clause-made
+returns-in-Detaching-clause-made c = rw c.in-Detaching.is (c.detach.ensures.made c.args.node c.args.memory.now)
 
 pub returns-in-Observe-clause-made : goal.returns-in-Observe-clause-made
 returns-in-Observe-clause-made c = rw c.in-Observe.is (c.observe_on.ensures.made c.args.node c.args.table.now)

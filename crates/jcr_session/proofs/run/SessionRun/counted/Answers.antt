@@ -1,6 +1,6 @@
 use Rattle.std.proofs.Common.{subst, sym, ap}
 use Rattle.jcr_session.specs.declared.run.Phase.{Phase}
-use Rattle.jcr_session.specs.Standing.{HasEnded, is_committing}
+use Rattle.jcr_session.specs.Standing.{HasEnded, is_committing, is_on_errand, is_told}
 use Rattle.jcr_session.proofs.Looking.{over_ends}
 use Rattle.jcr_session.proofs.Nearer.{reply_steps, steps_sooner}
 use Rattle.jcr_session.proofs.Undrawn.{reply_undrawn}
@@ -17,6 +17,15 @@ commit_on-requires-clause-commits g c = ap is_committing c.in-Committing.is
 
 pub say_end-requires-clause-ended : goal.say_end-requires-clause-ended
 say_end-requires-clause-ended g c = subst (λ (f : Phase). HasEnded f) (sym c.in-Committed.is) tt
+
+pub work_on-requires-clause-works : goal.work_on-requires-clause-works
+work_on-requires-clause-works g c = ap is_on_errand c.in-Working.is
+
+pub say_told-requires-clause-told : goal.say_told-requires-clause-told
+say_told-requires-clause-told g c = ap is_told c.in-Told.is
+
+pub returns-in-Told-clause-steps : goal.returns-in-Told-clause-steps
+returns-in-Told-clause-steps g c = reply_steps _ _ _ c.say_told.result c.say_told.ensures.said
 
 -- it has left
 pub returns-in-Over-clause-turned : goal.returns-in-Over-clause-turned

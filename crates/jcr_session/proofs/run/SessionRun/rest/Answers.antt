@@ -11,6 +11,9 @@ bar-requires-clause-next g c = sym c.in-Bar.ensures
 pub show_base-requires-clause-next : goal.show_base-requires-clause-next
 show_base-requires-clause-next g c = sym c.in-ShowBase.ensures
 
+pub set_out-requires-clause-next : goal.set_out-requires-clause-next
+set_out-requires-clause-next g c = sym c.in-Errand.ensures
+
 pub returns-in-Bar-clause-steps : goal.returns-in-Bar-clause-steps
 returns-in-Bar-clause-steps g c = reply_steps _ _ _ c.bar.result c.bar.ensures.said
 

@@ -2,9 +2,9 @@ use Rattle.std.proofs.Common.{ℕ, sym, subst, false, ◌∙◌}
 use Rattle.jcr_session.proofs.Calling.{forgo_law, stands_law, turned_law}
 use Rattle.jcr_session.proofs.Lawful.{idle_by}
 use Rattle.jcr_session.proofs.Looking.{looked_reads, refused_forgoes, turned_behind}
-use Rattle.jcr_session.proofs.Nexts.{reads_between, reads_unmoved, reads_unsaving}
+use Rattle.jcr_session.proofs.Nexts.{reads_between, reads_unbegun, reads_unmoved, reads_unsaving}
 use Rattle.jcr_session.proofs.Nearer.{counted_reads, counted_turns, left_looked, reply_steps, steps_sooner, turn_nearer}
-use Rattle.jcr_session.specs.Nearing.{CommitsSooner, EndsSooner, StepsOn, turns_left}
+use Rattle.jcr_session.specs.Nearing.{EndsSooner, StepsOn, WorksSooner, turns_left}
 use Rattle.jcr_session.proofs.run.SessionRun.turn.Goals as goal
 
 -- no reading step can be due
@@ -14,7 +14,9 @@ returns-then-not-may_read-clause-turned g c =
 
 pub returns-then-not-may_read-clause-nears : goal.returns-then-not-may_read-clause-nears
 returns-then-not-may_read-clause-nears g c =
-    turn_nearer (g.P.Port.law c.args.port.now) (g.P.Port.shown c.args.port.now) (g.P.Port.shown c.counted.new.port) c.args.self.now c.counted.new.self (CommitsSooner (g.P.Port.left c.args.port.now) (g.P.Port.left c.counted.new.port) (g.P.Port.shown c.args.port.now) c.args.self.now)
+    turn_nearer (g.P.Port.law c.args.port.now) (g.P.Port.shown c.args.port.now) (g.P.Port.shown c.counted.new.port) c.args.self.now
+    c.counted.new.self
+    (WorksSooner (g.P.Port.left c.args.port.now) (g.P.Port.left c.counted.new.port) (g.P.Port.shown c.args.port.now) c.args.self.now)
     c.counted.result c.requires.stands c.counted.ensures.turned c.counted.ensures.steps
 
 pub returns-then-not-may_read-clause-reads : goal.returns-then-not-may_read-clause-reads
@@ -62,7 +64,7 @@ returns-in-Ok-false-clause-nears g c =
     let mid = g.P.Port.shown c.read.new.port in
     let new = g.P.Port.shown c.go_on.new.port in
     let reads = sym c.may_read.ensures ∙ c.if-not-may_read.false in
-    let sooner = CommitsSooner (g.P.Port.left c.args.port.now) (g.P.Port.left c.go_on.new.port) old c.args.self.now in
+    let sooner = WorksSooner (g.P.Port.left c.args.port.now) (g.P.Port.left c.go_on.new.port) old c.args.self.now in
     turn_nearer law old new c.args.self.now c.go_on.new.self sooner c.go_on.result c.requires.stands
     (turned_behind law old mid new c.args.self.now c.read.new.self c.go_on.new.self c.go_on.result c.requires.stands reads c.read.ensures.looked
     (idle_by law mid c.read.new.self c.read.ensures.looked.stands (c.read.ensures.looked.same.phase ∙ reads_between c.args.self.now reads) (c.in-Ok-false.ensures.read.prepared c.in-Ok-false.field-0-test reads).done)
@@ -88,6 +90,9 @@ returns-in-Ok-false-clause-granted g c = λ saving. reads_unsaving c.args.self.n
 
 pub returns-in-Ok-false-clause-moved : goal.returns-in-Ok-false-clause-moved
 returns-in-Ok-false-clause-moved g c = λ moved. reads_unmoved c.args.self.now (sym c.may_read.ensures ∙ c.if-not-may_read.false) moved
+
+pub returns-in-Ok-false-clause-begun : goal.returns-in-Ok-false-clause-begun
+returns-in-Ok-false-clause-begun g c = λ begun. reads_unbegun c.args.self.now (sym c.may_read.ensures ∙ c.if-not-may_read.false) begun
 
 pub returns-in-Ok-false-clause-draws : goal.returns-in-Ok-false-clause-draws
 returns-in-Ok-false-clause-draws g c = λ saving. reads_unsaving c.args.self.now (sym c.may_read.ensures ∙ c.if-not-may_read.false) saving
@@ -117,7 +122,7 @@ returns-in-Err-clause-nears g c =
     let mid = g.P.Port.shown c.read.new.port in
     let new = g.P.Port.shown c.say_memory.new.port in
     let reads = sym c.may_read.ensures ∙ c.if-not-may_read.false in
-    let sooner = CommitsSooner (g.P.Port.left c.args.port.now) (g.P.Port.left c.say_memory.new.port) old c.args.self.now in
+    let sooner = WorksSooner (g.P.Port.left c.args.port.now) (g.P.Port.left c.say_memory.new.port) old c.args.self.now in
     turn_nearer law old new c.args.self.now c.say_memory.new.self sooner c.say_memory.result c.requires.stands
     (turned_behind law old mid new c.args.self.now c.read.new.self c.say_memory.new.self c.say_memory.result c.requires.stands reads c.read.ensures.looked
     c.in-Err.ensures.err.1.idle
@@ -142,6 +147,9 @@ returns-in-Err-clause-granted g c = λ saving. reads_unsaving c.args.self.now (s
 
 pub returns-in-Err-clause-moved : goal.returns-in-Err-clause-moved
 returns-in-Err-clause-moved g c = λ moved. reads_unmoved c.args.self.now (sym c.may_read.ensures ∙ c.if-not-may_read.false) moved
+
+pub returns-in-Err-clause-begun : goal.returns-in-Err-clause-begun
+returns-in-Err-clause-begun g c = λ begun. reads_unbegun c.args.self.now (sym c.may_read.ensures ∙ c.if-not-may_read.false) begun
 
 pub returns-in-Err-clause-draws : goal.returns-in-Err-clause-draws
 returns-in-Err-clause-draws g c = λ saving. reads_unsaving c.args.self.now (sym c.may_read.ensures ∙ c.if-not-may_read.false) saving

@@ -1,7 +1,6 @@
 use Rattle.std.proofs.Common.{◌∙◌, ap, sym, subst, Option, arith}
 use Rattle.jr_rev.specs.declared.vector.Pin.{Pin}
-use Rattle.oak_node.specs.Pins.{pin_of}
-use Rattle.core_world.specs.States.{memory_of}
+use Rattle.core_world.specs.States.{actor_pin}
 use Rattle.oak_step.specs.Works.{Begins, CanBegin}
 use Rattle.oak_world.specs.Worlds.{WorldOf, node_in, shown_world, state_of}
 use Rattle.oak_world.proofs.Calling.{start_stands, starting_is}
@@ -17,7 +16,7 @@ index_mut-seat-requires g c =
 pub invariant_of-self : goal.invariant_of-self
 invariant_of-self g c =
     let stands = start_stands (g.L.Law.may_start c.self.inside.law.value) (g.L.Law.may_say c.self.inside.law.value) (g.L.Law.proper c.self.inside.law.value) (g.L.Law.starts_last c.self.inside.law.value) c.self.inside.law.value c.self.inside.journal c.self.inside.table c.self.inside.memories.items c.self.inside.actors.items c.self.invariant.0.0 c.self.invariant.0.1 c.args.actor (node_in (shown_world c.self.inside.law.value c.self.inside.journal c.self.inside.table c.self.inside.memories.items c.self.inside.actors.items).history c.args.actor) (session_on (g.L.Law.may_start c.self.inside.law.value) (g.L.Law.may_say c.self.inside.law.value) (g.L.Law.proper c.self.inside.law.value) c.self.inside.law.value c.self.inside.journal c.self.inside.table c.self.inside.memories.items c.self.inside.actors.items c.self.invariant.0.0 c.args.actor (there_by _ c.args.self.now c.args.actor c.self.view_is c.requires.idle.there)) c.index_mut-seat.result.now c.index_mut-seat.ensures.value c.pin-pin.result c.args.task c.in_ok-work.work c.len-began.result c.in_ok-work.ensures c.len-began.ensures (g.L.Law.asks c.self.inside.law.value) c.self.invariant.2 (rw (← c.self.view_is) at c.requires.asked) (rw (← c.self.view_is) at c.requires.idle.idle) (rw (← c.self.view_is) at c.requires.may)
-    (c.pin-pin.ensures.pin ∙ sym (ap (λ (w : WorldOf _). pin_of (memory_of (state_of w) c.args.actor) c.args.actor) c.self.view_is)) in
+    (c.pin-pin.ensures.pin ∙ sym (ap (λ (w : WorldOf _). actor_pin (state_of w) c.args.actor) c.self.view_is)) in
     (stands.0, c.self.invariant.1, stands.1)
 
 pub returns-clause-ok : goal.returns-clause-ok

@@ -1,0 +1,529 @@
+-- Each step of a task of the cluster node or of the settings leaves its session where the history says.
+use Rattle.std.proofs.Common.{◌≡◌, ℕ, ◌≤◌, Bool, true, false, ◌||◌, ◌&&◌, None, Some, Option, List, [], ◌∷◌, ◌++◌, is_some}
+use Rattle.std.proofs.Common.{length, refl, sym, ap, ◌∙◌, subst, arith}
+use Rattle.std.specs.Prelude.{Contains, cond, is_none, reverse, slice_get, string_bytes}
+use Rattle.std.specs.List.{list_any}
+use Rattle.std.specs.Option.{option_map_or}
+use mathlib.Core.Bool.{false≢true}
+use Rattle.std.specs.declared.alloc.Global.{Global}
+use Rattle.std.specs.declared.string.String.{String}
+use Rattle.jr_path.specs.Lists.{Text}
+use Rattle.jr_rev.specs.declared.revision.Revision.{Revision}
+use Rattle.jr_rev.specs.declared.vector.RevVec.{RevVec}
+use Rattle.jr_rev.specs.Revisions.{is_at_most, is_same}
+use Rattle.jr_items.specs.Refusals.{no_checkpoint}
+use Rattle.oak_machine.specs.declared.event.Event.{Event}
+use Rattle.oak_machine.specs.declared.event.Event.TheVariants as event
+use Rattle.oak_machine.specs.declared.event.StepKind.{StepKind}
+use Rattle.oak_machine.specs.declared.event.StepKind.TheVariants as kind
+use Rattle.oak_machine.specs.History.{History, Past}
+use Rattle.oak_machine.specs.Heads.{last_in, local}
+use Rattle.oak_machine.specs.Laws.{after}
+use Rattle.oak_machine.specs.Runs.{IsRun}
+use Rattle.oak_machine.specs.Sessions.{is_attached, kept_checkpoint, next_index, since}
+use Rattle.oak_machine.specs.Commits.{is_committed}
+use Rattle.oak_machine.specs.Steps.{is_appended_by, is_kind}
+use Rattle.oak_port.specs.Ports.{AreOfStep, Grows, HasRoom, Idle, IsOn, Makes, Shown, Steps, Work}
+use Rattle.oak_port.specs.declared.task.StepOut.{StepOut}
+use Rattle.oak_port.specs.declared.task.StepOut.TheVariants as out
+use Rattle.oak_port.specs.declared.task.TaskEnd.TheVariants as end
+use Rattle.core_heads.proofs.Runs.{sound_run}
+use Rattle.jcr_trans.specs.Answers.{ShowsText}
+use Rattle.jcr_trans.specs.Texts.{answer_text}
+use Rattle.jcr_trans.specs.declared.command.Command.{Command}
+use Rattle.jcr_trans.specs.declared.command.Command.TheVariants as command
+use Rattle.jcr_law.specs.declared.law.JcrLaw.{JcrLaw}
+use Rattle.jcr_law.specs.Built.{Allowed, Asked}
+use Rattle.jcr_law.specs.Lasting.{says_of, starts_of}
+use Rattle.jcr_law.specs.Law.{MaySay, SaysBy, kept, learned, no_text, released, told, unreleased}
+use Rattle.jcr_law.specs.Makes.{steps_of}
+use Rattle.jcr_law.specs.Since.{before_turn, came, is_unmoved, is_unpinned}
+use Rattle.jcr_law.specs.Tasks.{is_out, knows_published, misses}
+use Rattle.jcr_law.specs.Starting.{call_has_base}
+use Rattle.jcr_law.specs.State.{Call, call_of, command_at, next_id}
+use Rattle.core_calls.proofs.Called.{call_stays}
+use Rattle.jcr_session.specs.declared.errand.Came.{Came}
+use Rattle.jcr_session.specs.declared.errand.Came.TheVariants as coming
+use Rattle.jcr_session.specs.declared.errand.Errand.{Errand}
+use Rattle.jcr_session.specs.declared.errand.Errand.TheVariants as errand
+use Rattle.jcr_session.specs.declared.errand.Told.{Told}
+use Rattle.jcr_session.specs.declared.errand.Told.TheVariants as ended
+use Rattle.jcr_session.specs.declared.limits.TheConstants.{COMMIT_REPLY_BYTES, VECTOR_REPLY_BYTES}
+use Rattle.jcr_session.specs.declared.run.Phase.{Phase}
+use Rattle.jcr_session.specs.declared.run.Phase.TheVariants as phase
+use Rattle.jcr_session.specs.declared.run.SessionRun.{SessionRun}
+use Rattle.jcr_session.specs.declared.turn.Turn.{Turn}
+use Rattle.jcr_session.specs.declared.turn.Turn.TheVariants as turn
+use Rattle.jcr_session.specs.Asked.{MayForgo}
+use Rattle.jcr_session.specs.Nearing.{IsReply}
+use Rattle.jcr_session.specs.Answered.{IsErrandAnswer, came_by, phase_came, told_by, turn_came}
+use Rattle.jcr_session.specs.Standing.{HasCounted, HasPlace, IsAtWork, IsBeside, IsEight, IsFresh, IsIn}
+use Rattle.jcr_session.specs.Standing.{IsInOrder, IsKeptFor, IsOnErrand, IsWorkFor, Stands, StandsAt, is_writing, kept_for}
+use Rattle.jcr_session.specs.Standing.{kept_of, reply_of, stage_at, stage_of}
+use Rattle.jcr_session.proofs.Calling.{is_idle}
+use Rattle.jcr_session.proofs.Committing.{own as same_number, same_itself}
+use Rattle.jcr_session.proofs.Lawful.{asked_allowed}
+use Rattle.jcr_session.proofs.Nexts.{errand_there}
+use Rattle.jcr_session.proofs.Plain.{IsPlain, plain_back, plain_checkpoint, plain_in, plain_out, plain_release, plain_setting}
+use Rattle.jcr_session.proofs.Rising.{knows_more, knows_public, local_before}
+use Rattle.jcr_session.proofs.Saying.{replied_like, room_less}
+use Rattle.jcr_session.proofs.Stages.{inside_order, next_is}
+use Rattle.jcr_session.proofs.Starting.{some_is}
+use Rattle.jcr_session.proofs.Stepping.{inside_moment, inside_quiet, moved, run_moment, run_new, turned_quiet}
+use Rattle.jcr_session.proofs.Turning.{is_awaiting, replied_later, unawaited}
+use Rattle.jcr_session.proofs.Waiting.{all_same, call_still, errand_beside, fresh_still, in_beside, next_beside, work_still}
+use Rattle.jcr_session.proofs.Works.{WorkCase, learning, publishing, to_keep, to_read, to_release, to_write, work_case}
+
+-- ---- what is kept
+
+pub kept_reply : (c : Call) (e : Errand) → IsKeptFor c command.Checkpoint e → (reply : String Global) × (e ≡ errand.Checkpoint reply) ×
+    (string_bytes reply ≡ answer_text (ShowsText (next_id c.who)))
+kept_reply c (errand.Checkpoint reply) is = (reply, refl, is)
+kept_reply c (errand.Release reply) is = absurd is
+kept_reply c errand.Write is = absurd is
+kept_reply c errand.Read is = absurd is
+
+pub kept_refusal : (c : Call) (id : Text) (e : Errand) → IsKeptFor c (command.Release id) e → (reply : String Global) ×
+    (e ≡ errand.Release reply) × (string_bytes reply ≡ no_text (no_checkpoint id))
+kept_refusal c id (errand.Release reply) is = (reply, refl, is)
+kept_refusal c id (errand.Checkpoint reply) is = absurd is
+kept_refusal c id errand.Write is = absurd is
+kept_refusal c id errand.Read is = absurd is
+
+abbrev is_refused : Came → Bool
+is_refused coming.Refused = true
+is_refused _ = false
+
+-- the place has room for nothing, too
+empty_place : (o : Option ℕ) (text : Text) → HasPlace o text → HasPlace o []
+empty_place o text place = record
+    { told = place.told; text_is = room_less o VECTOR_REPLY_BYTES 0 (let le : 0 ≤ 292 = omega arith in le) place.told }
+
+first_of : (x : Event) (xs : List Event) → Contains (x ∷ xs) x
+first_of x xs = (0, omega arith, refl)
+
+-- ---- a step
+
+module _ (law : JcrLaw) (old new : Shown) (answer : StepOut) (run : SessionRun) (e : Errand)
+    (stands : Stands law old (record run { phase = phase.Working e })) (steps : Steps (starts_of law) (says_of law) old new answer) where
+  abbrev at : SessionRun
+  at = record run { phase = phase.Working e }
+
+  abbrev here : IsIn law old × IsAtWork law old at e
+  here = stands.at
+
+  abbrev s : ℕ
+  s = old.session
+
+  abbrev moment : History
+  moment = after steps.others old.history
+
+  run_then : IsRun (starts_of law) (says_of law) moment
+  run_then = run_moment law old new answer at stands here.0 steps
+
+  -- ---- what stays
+
+  module _ (m : Command) (c : Call) (for : IsOnErrand law old at m c) (plain : IsPlain s steps.own) where
+    called_then : call_of law moment.begin (steps.own ++ moment.past) s ≡ Some c
+    called_then = call_stays law old.history.begin (starts_of law) (says_of law) old.history.clusters old.history.sessions here.0.nodes
+        steps.own moment.past s (run_new law old new answer at stands here.0 steps) plain.quiet.calls
+        ∙ (call_still law old.history s steps.others here.0.nodes run_then steps.grows.theirs ∙ for.is)
+
+    unmoved_then : is_unmoved (steps.own ++ moment.past) s ≡ true
+    unmoved_then = plain.unmoved moment.past ∙
+        ((all_same law old.history s steps.others here.0.nodes run_then steps.grows.theirs).still ∙ for.unmoved)
+
+    fresh_then : IsFresh (steps.own ++ moment.past) s
+    fresh_then = let f = fresh_still law old.history s steps.others here.0.nodes run_then steps.grows.theirs for.fresh in
+        record { first = plain.drawn moment.past ∙ f.first; idle = plain.idle moment.past f.idle }
+
+    for_now : (f : Phase) → IsOnErrand law new (record run { phase = f }) m c
+    for_now f = record {
+      unread = for.unread;
+      next = for.next;
+      errands = for.errands;
+      is = moved law old new answer at stands here.0 steps (λ h n. call_of law h.begin h.past n ≡ Some c) called_then;
+      holds = for.holds;
+      fresh = moved law old new answer at stands here.0 steps (λ h n. IsFresh h.past n) fresh_then;
+      unmoved = moved law old new answer at stands here.0 steps (λ h n. is_unmoved h.past n ≡ true) unmoved_then;
+      unpinned = moved law old new answer at stands here.0 steps (λ h n. is_unpinned h.past n ≡ true)
+          (plain.unpinned moment.past ∙
+          ((all_same law old.history s steps.others here.0.nodes run_then steps.grows.theirs).unpinned ∙ for.unpinned));
+    }
+
+    inside_now : IsIn law new
+    inside_now = inside_quiet law old new answer at stands here.0 steps plain.quiet
+
+    -- the law lets a text be said
+    says_now : (text : Text) → MaySay law (after steps.own moment) s (Allowed m) text → SaysBy law new.history new.session run.index text
+    says_now text may = moved law old new answer at stands here.0 steps (λ h n. SaysBy law h n run.index text) (
+      m,
+      ap (λ (n : ℕ). command_at law n run.index) stands.session ∙ (stands.commands run.index ∙ for.next),
+      subst (λ (a : Asked). MaySay law (after steps.own moment) s a text)
+          (sym (asked_allowed (after steps.own moment) s m
+          (ap (λ (p : Past). is_attached p s) (plain.quiet.begins moment.past) ∙
+          (inside_moment law old new answer at stands here.0 steps).unattached) (errand_there run m for.errands for.next).0)) may,
+    )
+
+    -- the step is one of its command, of the stage at that place
+    ordered : (f : Phase) (k : StepKind) (place : ℕ) (kinds : List StepKind) → slice_get (steps_of m) place ≡ Some kinds → list_any
+        (is_kind k) kinds ≡ true → stage_of old.work ≤ place → place ≤ stage_at f new.work
+        → IsInOrder law old new at (record run { phase = f }) (turn.Stepped k)
+    ordered f k place kinds there among behind before =
+        inside_order law old new at (record run { phase = f }) k here.0.login (Some m) (next_is law old at stands ∙ for.next) record
+        { place = place; kinds = kinds; there = there; among = among; behind = behind; before = before }
+
+    goes : (f : Phase) (k : StepKind) → is_awaiting old.work ≡ false → is_appended_by moment s k (reverse steps.own) ≡ true → IsInOrder law
+        old new at (record run { phase = f }) (turn.Stepped k) → StandsAt law new (record run { phase = f }) f
+        → HasCounted law old new at (record run { phase = f }) (turn.Stepped k)
+    goes f k awaits appended order stands_now = turned_quiet law old new answer at stands here.0 steps f (turn.Stepped k)
+        (appended, plain.one) record {
+          stays = (inside_moment law old new answer at stands here.0 steps).stays;
+          seen = unawaited moment old.work awaits;
+          as_due = steps.as_due;
+          quiet = λ still. plain.due;
+          ended = plain.awaited moment.past new.work;
+        } order (plain.quiet.next moment.past) stands_now
+
+    -- it goes on
+    goes_on : (k : StepKind) → is_awaiting old.work ≡ false → is_appended_by moment s k (reverse steps.own) ≡ true → IsInOrder law old new
+        at at (turn.Stepped k) → IsKeptFor c m e → IsWorkFor (after steps.own moment) s c m new.work
+        → HasCounted law old new at at (turn.Stepped k)
+    goes_on k awaits appended order kept_is works = goes (phase.Working e) k awaits appended order (
+      inside_now,
+      record {
+        command = m;
+        call = c;
+        for = for_now (phase.Working e);
+        works = moved law old new answer at stands here.0 steps (λ h n. IsWorkFor h n c m new.work) works;
+        kept = kept_is;
+        place = subst (λ (x : Option ℕ). HasPlace x (kept_for e)) (sym steps.room) here.1.place;
+      },
+    )
+
+    -- it has ended
+    has_ended : (t : Told) (k : StepKind) → is_awaiting old.work ≡ false → is_appended_by moment s k (reverse steps.own) ≡ true → IsInOrder
+        law old new at (record run { phase = phase.Told t }) (turn.Stepped k) → new.work ≡ Idle
+        → MaySay law (after steps.own moment) s (Allowed m) (reply_of t) → HasPlace old.room (kept_of t) → IsEight t → HasCounted law old
+        new at (record run { phase = phase.Told t }) (turn.Stepped k)
+    has_ended t k awaits appended order idle may place eight = goes (phase.Told t) k awaits appended order (
+      inside_now,
+      record {
+        idle = idle;
+        command = m;
+        call = c;
+        for = for_now (phase.Told t);
+        says = says_now (reply_of t) may;
+        place = subst (λ (x : Option ℕ). HasPlace x (kept_of t)) (sym steps.room) place;
+        eight = eight;
+      },
+    )
+
+  -- ---- case by case
+
+  -- a vector that a cluster node has learned has eight entries
+  learned_eight : (k : ℕ) (v : RevVec) → IsOn moment s k → IsRun (starts_of law) (says_of law) (after (event.In k v ∷ []) moment) → length
+      v ≡ 8
+  learned_eight k v on now =
+      let h = old.history in
+      ap (λ (b : Bool). length (cond b v (last_in h.clusters h.begin moment.past k))) (sym (same_number k))
+      ∙ ((sound_run h.clusters h.sessions here.0.nodes h.begin (starts_of law) (says_of law) (event.In k v ∷ moment.past) now).ins k
+      (here.0.nodes.node s k on)).eight
+
+  abbrev Turned : StepOut → Type 0
+  Turned x = HasCounted law old new at (record run { phase = phase_came (came_by x) e }) (turn_came (came_by x))
+
+  step_by : (m : Command) (c : Call) (w : Work) (x : StepOut) → old.work ≡ w → WorkCase moment s c m w → IsKeptFor c m e → IsOnErrand law
+      old at m c → Makes moment s w x steps.own new.work → AreOfStep moment s w x steps.own → (x ≡ out.Memory → ⊥) → Turned x
+  step_by _ c _ (out.Went k) was to_write kept_is for (j, on, is, mine, work) appended never =
+      let plain = subst (λ (p : Past). IsPlain s p) (sym mine) (plain_back s) in
+      goes_on command.BackWrite c for plain k (ap is_awaiting was) appended
+      (ordered command.BackWrite c for plain (phase.Working e) k 0 (kind.Back ∷ []) refl
+      (subst (λ (y : StepKind). list_any (is_kind y) (kind.Back ∷ []) ≡ true) (sym is) refl)
+      (subst (λ (y : Work). stage_of y ≤ 0) (sym was) (let le : 0 ≤ 0 = omega arith in le))
+      (let le : 0 ≤ stage_of new.work = omega arith in le))
+      kept_is
+      (subst (λ (y : Work). IsWorkFor (after steps.own moment) s c command.BackWrite y) (sym work) (λ i there.
+      subst (λ (p : Past). is_at_most (local moment.begin p i) (local moment.begin moment.past j) ≡ true)
+      (sym (plain.quiet.begins moment.past))
+      (subst (λ (n : ℕ). is_at_most (local moment.begin (before_turn moment.past s) i) (local moment.begin moment.past n) ≡ true)
+      (some_is (sym there ∙ on))
+      (local_before moment.clusters moment.sessions here.0.nodes moment.begin (starts_of law) (says_of law) moment.past run_then s i))))
+  step_by _ c _ out.Memory was to_write kept_is for made appended never = absurd (never refl)
+  step_by _ c _ x was to_write kept_is for made appended never = absurd made
+  step_by _ c _ (out.Went k) was (publishing r all) kept_is for (is, mine, work) appended never =
+      let plain = subst (λ (p : Past). IsPlain s p) (sym mine) (plain_back s) in
+      goes_on command.BackWrite c for plain k (ap is_awaiting was) appended
+      (ordered command.BackWrite c for plain (phase.Working e) k 0 (kind.Back ∷ []) refl
+      (subst (λ (y : StepKind). list_any (is_kind y) (kind.Back ∷ []) ≡ true) (sym is) refl)
+      (subst (λ (y : Work). stage_of y ≤ 0) (sym was) (let le : 0 ≤ 0 = omega arith in le))
+      (let le : 0 ≤ stage_of new.work = omega arith in le))
+      kept_is
+      (subst (λ (y : Work). IsWorkFor (after steps.own moment) s c command.BackWrite y) (sym work) (λ i there.
+      subst (λ (p : Past). is_at_most (local moment.begin p i) r ≡ true) (sym (plain.quiet.begins moment.past)) (all i there)))
+  step_by _ c _ (out.Ready (end.Published o)) was (publishing r all) kept_is for (j, on, same, mine, idle) appended never =
+      let plain = subst (λ (p : Past). IsPlain s p) (sym mine) (plain_out s j r) in
+      has_ended command.BackWrite c for plain (ended.Published o) kind.Back (ap is_awaiting was) appended
+      (ordered command.BackWrite c for plain (phase.Told (ended.Published o)) kind.Back 0 (kind.Back ∷ []) refl refl
+      (subst (λ (y : Work). stage_of y ≤ 0) (sym was) (let le : 0 ≤ 0 = omega arith in le)) (let le : 0 ≤ 1 = omega arith in le))
+      idle
+      (told j o on
+      (subst (λ (p : Past). came s (λ earlier x. is_out j o x) (p ++ moment.past) ≡ true) (sym mine) (published_came j o r same))
+      (subst (λ (p : Past). is_at_most (local moment.begin p j) o ≡ true) (sym (plain.quiet.begins moment.past))
+      (subst (λ (q : Revision). is_at_most (local moment.begin (before_turn moment.past s) j) q ≡ true) (sym same) (all j on)))
+      (unmoved_then command.BackWrite c for plain))
+      (empty_place old.room (kept_for e) here.1.place) tt
+    where
+      published_came : (j : ℕ) (o r : Revision) → o ≡ r → came s (λ earlier x. is_out j o x) (event.Out j r ∷ moment.past) ≡ true
+      published_came j o r same =
+          ap (λ (b : Bool). (b && is_same o r) || came s (λ earlier x. is_out j o x) moment.past) (same_number j)
+          ∙ ap (λ (b : Bool). b || came s (λ earlier x. is_out j o x) moment.past)
+          (subst (λ (q : Revision). is_same o q ≡ true) same (same_itself o))
+  step_by _ c _ out.Memory was (publishing r all) kept_is for made appended never = absurd (never refl)
+  step_by _ c _ x was (publishing r all) kept_is for made appended never = absurd made
+  step_by _ c _ (out.Went k) was to_read kept_is for (v, public, is, mine, work) appended never =
+      let plain = subst (λ (p : Past). IsPlain s p) (sym mine) (plain_back s) in
+      goes_on command.BackRead c for plain k (ap is_awaiting was) appended
+      (ordered command.BackRead c for plain (phase.Working e) k 0 (kind.Back ∷ []) refl
+      (subst (λ (y : StepKind). list_any (is_kind y) (kind.Back ∷ []) ≡ true) (sym is) refl)
+      (subst (λ (y : Work). stage_of y ≤ 0) (sym was) (let le : 0 ≤ 0 = omega arith in le))
+      (let le : 0 ≤ stage_of new.work = omega arith in le))
+      kept_is
+      (subst (λ (y : Work). IsWorkFor (after steps.own moment) s c command.BackRead y) (sym work) (λ i there.
+      subst (λ (p : Past). knows_published moment.clusters moment.begin p i v ≡ true) (sym (plain.quiet.begins moment.past))
+      (knows_public moment.clusters moment.sessions here.0.nodes moment.begin (starts_of law) (says_of law) moment.past run_then s i v
+      (λ q p. (public q).1 p))))
+  step_by _ c _ out.Memory was to_read kept_is for made appended never = absurd (never refl)
+  step_by _ c _ x was to_read kept_is for made appended never = absurd made
+  step_by _ c _ (out.Ready (end.Learnt v)) was (learning u all) kept_is for (j, on, more, mine, idle) appended never =
+      let plain = subst (λ (p : Past). IsPlain s p) (sym mine) (plain_in s j v) in
+      has_ended command.BackRead c for plain (ended.Learnt v) kind.Learn (ap is_awaiting was) appended
+      (ordered command.BackRead c for plain (phase.Told (ended.Learnt v)) kind.Learn 1 (kind.Learn ∷ []) refl refl
+      (subst (λ (y : Work). stage_of y ≤ 1) (sym was) (let le : 1 ≤ 1 = omega arith in le)) (let le : 1 ≤ 2 = omega arith in le))
+      idle
+      (learned j v on
+      (subst (λ (p : Past). Contains (since (p ++ moment.past) s) (event.In j v)) (sym mine)
+      (first_of (event.In j v) (since moment.past s)))
+      (subst (λ (p : Past). knows_published moment.clusters moment.begin p j v ≡ true) (sym (plain.quiet.begins moment.past))
+      (knows_more moment.clusters moment.sessions here.0.nodes moment.begin (starts_of law) (says_of law) moment.past run_then s j u v more
+      (all j on)))
+      (unmoved_then command.BackRead c for plain))
+      (empty_place old.room (kept_for e) here.1.place)
+      (learned_eight j v on
+      (subst (λ (p : Past). IsRun (starts_of law) (says_of law) (after p moment)) mine (run_new law old new answer at stands here.0 steps)))
+  step_by _ c _ out.Memory was (learning u all) kept_is for made appended never = absurd (never refl)
+  step_by _ c _ x was (learning u all) kept_is for made appended never = absurd made
+  step_by _ c _ (out.Ready (end.Set None)) was (to_keep id named counted) kept_is for (v, based, mine, idle) appended never =
+      let plain = subst (λ (p : Past). IsPlain s p) (sym mine) (plain_checkpoint s id v) in
+      let reply = kept_reply c e kept_is in
+      subst (λ (t : Told). HasCounted law old new at (record run { phase = phase.Told t }) (turn.Stepped kind.Settings))
+      (ap (λ (y : Errand). told_by coming.Set y) (sym reply.1))
+      (has_ended command.Checkpoint c for plain (ended.Text reply.0) kind.Settings (ap is_awaiting was) appended
+      (ordered command.Checkpoint c for plain (phase.Told (ended.Text reply.0)) kind.Settings 0 (kind.Settings ∷ []) refl refl
+      (subst (λ (y : Work). stage_of y ≤ 0) (sym was) (let le : 0 ≤ 0 = omega arith in le)) (let le : 0 ≤ 1 = omega arith in le))
+      idle
+      (subst (λ (t : Text). MaySay law (after steps.own moment) s (Allowed command.Checkpoint) t) (sym reply.2)
+      (kept c (called_then command.Checkpoint c for plain)
+      (subst (λ (p : Past). Contains (since (p ++ moment.past) s) (event.Checkpoint (next_id c.who) c.who.base)) (sym mine)
+      (subst (λ (i : Text). Contains (since (event.Checkpoint id v ∷ moment.past) s) (event.Checkpoint i c.who.base)) named
+      (subst (λ (b : RevVec). Contains (since (event.Checkpoint id v ∷ moment.past) s) (event.Checkpoint id b))
+      (some_is
+      (sym based ∙ call_has_base law moment.begin moment.past s c
+      (call_still law old.history s steps.others here.0.nodes run_then steps.grows.theirs ∙ for.is)))
+      (first_of (event.Checkpoint id v) (since moment.past s)))))
+      (unmoved_then command.Checkpoint c for plain)))
+      (subst (λ (y : Errand). HasPlace old.room (kept_for y)) reply.1 here.1.place) tt)
+  step_by _ c _ out.Memory was (to_keep id named counted) kept_is for made appended never = absurd (never refl)
+  step_by _ c _ x was (to_keep id named counted) kept_is for made appended never = absurd made
+  step_by _ c _ (out.Ready (end.Set None)) was (to_release id i is) kept_is for (mine, idle) appended never =
+      let plain = subst (λ (p : Past). IsPlain s p) (sym mine) (plain_release s i) in
+      let reply = kept_refusal c id e kept_is in
+      subst (λ (t : Told). HasCounted law old new at (record run { phase = phase.Told t }) (turn.Stepped kind.Settings))
+      (ap (λ (y : Errand). told_by coming.Set y) (sym reply.1))
+      (has_ended (command.Release id) c for plain ended.Done kind.Settings (ap is_awaiting was) appended
+      (ordered (command.Release id) c for plain (phase.Told ended.Done) kind.Settings 0 (kind.Settings ∷ []) refl refl
+      (subst (λ (y : Work). stage_of y ≤ 0) (sym was) (let le : 0 ≤ 0 = omega arith in le)) (let le : 0 ≤ 1 = omega arith in le))
+      idle
+      (released id
+      (subst (λ (p : Past). Contains (since (p ++ moment.past) s) (event.Release id)) (sym mine)
+      (subst (λ (j : Text). Contains (since (event.Release i ∷ moment.past) s) (event.Release j)) is
+      (first_of (event.Release i) (since moment.past s))))
+      (unmoved_then (command.Release id) c for plain))
+      (empty_place old.room (kept_for e) here.1.place) tt)
+  step_by _ c _ (out.Ready end.NoCheckpoint) was (to_release id i is) kept_is for (none, mine, idle) appended never =
+      let plain = subst (λ (p : Past). IsPlain s p) (sym mine) (plain_setting s) in
+      let reply = kept_refusal c id e kept_is in
+      subst (λ (t : Told). HasCounted law old new at (record run { phase = phase.Told t }) (turn.Stepped kind.Settings))
+      (ap (λ (y : Errand). told_by coming.Missed y) (sym reply.1))
+      (has_ended (command.Release id) c for plain (ended.Text reply.0) kind.Settings (ap is_awaiting was) appended
+      (ordered (command.Release id) c for plain (phase.Told (ended.Text reply.0)) kind.Settings 0 (kind.Settings ∷ []) refl refl
+      (subst (λ (y : Work). stage_of y ≤ 0) (sym was) (let le : 0 ≤ 0 = omega arith in le)) (let le : 0 ≤ 1 = omega arith in le))
+      idle
+      (subst (λ (t : Text). MaySay law (after steps.own moment) s (Allowed (command.Release id)) t) (sym reply.2)
+      (unreleased id
+      (subst (λ (p : Past). came s (misses s id) (p ++ moment.past) ≡ true) (sym mine)
+      (missed_came id (subst (λ (j : Text). kept_checkpoint moment.past j ≡ None) is none)))
+      (unmoved_then (command.Release id) c for plain)))
+      (subst (λ (y : Errand). HasPlace old.room (kept_for y)) reply.1 here.1.place) tt)
+    where
+      missed_came : (id : Text) → kept_checkpoint moment.past id ≡ None → came s (misses s id) (event.Went s kind.Settings ∷ moment.past) ≡
+          true
+      missed_came id none =
+          ap (λ (b : Bool). (b && is_none (kept_checkpoint moment.past id)) || came s (misses s id) moment.past) (same_number s)
+          ∙ ap (λ (o : Option RevVec). is_none o || came s (misses s id) moment.past) none
+  step_by _ c _ out.Memory was (to_release id i is) kept_is for made appended never = absurd (never refl)
+  step_by _ c _ x was (to_release id i is) kept_is for made appended never = absurd made
+
+  abbrev case_then : WorkCase moment s here.1.call here.1.command old.work
+  case_then = work_case moment s here.1.call here.1.command old.work
+      (work_still law old.history s steps.others here.0.nodes run_then steps.grows.theirs here.1.call here.1.command old.work here.1.works)
+
+  -- a step of a task is a turn
+  pub errand_turns : (answer ≡ out.Memory → ⊥) → Turned answer
+  errand_turns never = step_by here.1.command here.1.call old.work answer refl case_then here.1.kept here.1.for steps.makes steps.of_step
+      never
+
+  -- which answers come
+  pub errand_comes : IsErrandAnswer answer
+  errand_comes = by here.1.command here.1.call old.work answer case_then steps.makes
+    where
+      by : (m : Command) (c : Call) (w : Work) (x : StepOut) → WorkCase moment s c m w → Makes moment s w x steps.own new.work →
+          IsErrandAnswer x
+      by _ c _ (out.Went k) to_write made = tt
+      by _ c _ out.Memory to_write made = tt
+      by _ c _ x to_write made = absurd made
+      by _ c _ (out.Went k) (publishing r all) made = tt
+      by _ c _ (out.Ready (end.Published o)) (publishing r all) made = tt
+      by _ c _ out.Memory (publishing r all) made = tt
+      by _ c _ x (publishing r all) made = absurd made
+      by _ c _ (out.Went k) to_read made = tt
+      by _ c _ out.Memory to_read made = tt
+      by _ c _ x to_read made = absurd made
+      by _ c _ (out.Ready (end.Learnt v)) (learning u all) made = tt
+      by _ c _ out.Memory (learning u all) made = tt
+      by _ c _ x (learning u all) made = absurd made
+      by _ c _ (out.Ready (end.Set None)) (to_keep id named counted) made = tt
+      by _ c _ out.Memory (to_keep id named counted) made = tt
+      by _ c _ x (to_keep id named counted) made = absurd made
+      by _ c _ (out.Ready (end.Set None)) (to_release id i is) made = tt
+      by _ c _ (out.Ready end.NoCheckpoint) (to_release id i is) made = tt
+      by _ c _ out.Memory (to_release id i is) made = tt
+      by _ c _ x (to_release id i is) made = absurd made
+
+  refused_is : (x : StepOut) → x ≡ out.Memory → came_by x ≡ coming.Refused
+  refused_is x memory = ap came_by memory
+
+  -- by what it came to
+  pub errand_turned : (x : Came) → x ≡ came_by answer → (x ≡ coming.Refused → ⊥) → (now : SessionRun) → now ≡ record run
+      { phase = phase_came x e } → (t : Turn) → t ≡ turn_came x → HasCounted law old new at now t
+  errand_turned x is never now run_is t turn_is =
+      subst (λ (y : Turn). HasCounted law old new at now y) (sym turn_is)
+      (subst (λ (y : SessionRun). HasCounted law old new at y (turn_came x)) (sym run_is)
+      (subst (λ (y : Came). HasCounted law old new at (record run { phase = phase_came y e }) (turn_came y)) (sym is)
+      (errand_turns (λ memory. never (is ∙ refused_is answer memory)))))
+
+  -- where memory was refused, the task has ended without effect
+  pub refused_quiet : answer ≡ out.Memory → (steps.own ≡ []) × (new.work ≡ Idle)
+  refused_quiet memory = by here.1.command here.1.call old.work case_then
+      (subst (λ (x : StepOut). Makes moment s old.work x steps.own new.work) memory steps.makes)
+    where
+      by : (m : Command) (c : Call) (w : Work) → WorkCase moment s c m w → Makes moment s w out.Memory steps.own new.work →
+          (steps.own ≡ []) × (new.work ≡ Idle)
+      by _ c _ to_write made = made
+      by _ c _ (publishing r all) made = made
+      by _ c _ to_read made = made
+      by _ c _ (learning u all) made = made
+      by _ c _ (to_keep id named counted) made = made
+      by _ c _ (to_release id i is) made = made
+
+  pub refused_beside : answer ≡ out.Memory → IsBeside law old new
+  refused_beside memory = record {
+    others = steps.others;
+    grows = subst (λ (own : Past). Grows (starts_of law) (says_of law) s old.history new.history steps.others own) (refused_quiet memory).0
+        steps.grows;
+    session = steps.session;
+    beside = steps.beside;
+    alone = steps.alone;
+  }
+
+  -- nothing was waited for
+  unwaited : is_awaiting old.work ≡ false
+  unwaited = by here.1.command here.1.call old.work case_then
+    where
+      by : (m : Command) (c : Call) (w : Work) → WorkCase moment s c m w → is_awaiting w ≡ false
+      by _ c _ to_write = refl
+      by _ c _ (publishing r all) = refl
+      by _ c _ to_read = refl
+      by _ c _ (learning u all) = refl
+      by _ c _ (to_keep id named counted) = refl
+      by _ c _ (to_release id i is) = refl
+
+  -- want of memory may be answered
+  pub refused_forgoes : answer ≡ out.Memory → MayForgo law new run false
+  refused_forgoes memory = record {
+    command = here.1.command;
+    call = here.1.call;
+    asked = record {
+      inside = in_beside law old new beside here.0.nodes here.0;
+      session = steps.session ∙ stands.session;
+      few = stands.few;
+      commands = stands.commands;
+      index = stands.index ∙
+          (ap (next_index old.history.past) (sym stands.session) ∙
+          (sym (next_beside law old new beside) ∙ ap (next_index new.history.past) (steps.session ∙ stands.session)));
+      idle = (refused_quiet memory).1;
+      unread = for.unread;
+      still = for.fresh.idle;
+      next = for.next;
+      call = for.is;
+    };
+    unmoved = for.unmoved;
+    unpinned = for.unpinned;
+    drew_is = ap is_some for.fresh.first;
+    uncommitted = ap (λ (o : Option Revision). option_map_or (is_committed new.history.past) o false) for.fresh.first;
+    holds = for.holds;
+  }
+    where
+      beside : IsBeside law old new
+      beside = refused_beside memory
+
+      for : IsOnErrand law new at here.1.command here.1.call
+      for = errand_beside law old new beside here.0.nodes at here.1.command here.1.call here.1.for
+
+  -- there is a place for that
+  pub refused_room : HasRoom new.room COMMIT_REPLY_BYTES
+  refused_room = subst (λ (x : Option ℕ). HasRoom x COMMIT_REPLY_BYTES) (sym steps.room)
+      (room_less old.room VECTOR_REPLY_BYTES COMMIT_REPLY_BYTES (let le : 40 ≤ 292 = omega arith in le) here.1.place.told)
+
+  -- and that is its turn
+  pub refused_turns : (later : JcrLaw) → later ≡ law → (newer : Shown) (now : SessionRun) (t : Turn) → answer ≡ out.Memory → IsReply t →
+      HasCounted later new newer run now t → HasCounted law old newer at now t
+  refused_turns later same newer now t memory reply turned =
+      replied_like law old newer at run now t refl refl refl reply
+      (replied_later law old new newer run now t here.0.nodes (refused_beside memory) (ap is_writing (refused_quiet memory).1) unwaited
+      reply
+      (subst (λ (l : JcrLaw). HasCounted l new newer run now t) same turned))
+
+-- a task under way is something that is being done
+pub errand_busy : (law : JcrLaw) (p : Shown) (run : SessionRun) (e : Errand) → Stands law p (record run { phase = phase.Working e }) →
+    p.work ≡ Idle → ⊥
+errand_busy law p run e stands idle = by stands.at.1.command stands.at.1.call p.work
+    (work_case p.history p.session stands.at.1.call stands.at.1.command p.work stands.at.1.works) idle
+  where
+    by : (m : Command) (c : Call) (w : Work) → WorkCase p.history p.session c m w → w ≡ Idle → ⊥
+    by _ c _ to_write is = false≢true (ap is_idle is)
+    by _ c _ (publishing r all) is = false≢true (ap is_idle is)
+    by _ c _ to_read is = false≢true (ap is_idle is)
+    by _ c _ (learning u all) is = false≢true (ap is_idle is)
+    by _ c _ (to_keep id named counted) is = false≢true (ap is_idle is)
+    by _ c _ (to_release id i same) is = false≢true (ap is_idle is)
+
+-- what a refusal is
+pub memory_is : (answer : StepOut) → IsErrandAnswer answer → came_by answer ≡ coming.Refused → answer ≡ out.Memory
+memory_is out.Memory is h = refl
+memory_is (out.Went k) is h = absurd (false≢true (ap is_refused h))
+memory_is (out.Ready (end.Published r)) is h = absurd (false≢true (ap is_refused h))
+memory_is (out.Ready (end.Learnt v)) is h = absurd (false≢true (ap is_refused h))
+memory_is (out.Ready (end.Set pin)) is h = absurd (false≢true (ap is_refused h))
+memory_is (out.Ready end.NoCheckpoint) is h = absurd (false≢true (ap is_refused h))
+memory_is a is h = absurd is

@@ -1,0 +1,30 @@
+use Rattle.std.proofs.Common.{subst, sym, refl}
+use Rattle.jcr_session.specs.declared.run.Phase.{Phase}
+use Rattle.jcr_session.specs.Standing.{Stands}
+use Rattle.jcr_session.proofs.Begun.{told_eight, told_place, told_settles}
+use Rattle.jcr_session.proofs.Saying.{replied_like}
+use Rattle.jcr_session.proofs.run.SessionRun.say_told.Goals as goal
+
+pub tell-requires-clause-settles : goal.tell-requires-clause-settles
+tell-requires-clause-settles g c = told_settles (g.P.Port.law c.args.port.now) (g.P.Port.shown c.args.port.now)
+    (record c.args.self.now { phase = c.replace.new.dest }) c.in-Told.told
+    (subst (λ (f : Phase). Stands (g.P.Port.law c.args.port.now) (g.P.Port.shown c.args.port.now) (record c.args.self.now { phase = f }))
+    (sym c.in-Told.ensures.value) c.requires.stands)
+
+pub tell-requires-clause-place : goal.tell-requires-clause-place
+tell-requires-clause-place g c = told_place (g.P.Port.law c.args.port.now) (g.P.Port.shown c.args.port.now)
+    (record c.args.self.now { phase = c.replace.new.dest }) c.in-Told.told
+    (subst (λ (f : Phase). Stands (g.P.Port.law c.args.port.now) (g.P.Port.shown c.args.port.now) (record c.args.self.now { phase = f }))
+    (sym c.in-Told.ensures.value) c.requires.stands)
+
+pub tell-requires-clause-eight : goal.tell-requires-clause-eight
+tell-requires-clause-eight g c = told_eight (g.P.Port.law c.args.port.now) (g.P.Port.shown c.args.port.now)
+    (record c.args.self.now { phase = c.replace.new.dest }) c.in-Told.told
+    (subst (λ (f : Phase). Stands (g.P.Port.law c.args.port.now) (g.P.Port.shown c.args.port.now) (record c.args.self.now { phase = f }))
+    (sym c.in-Told.ensures.value) c.requires.stands)
+
+pub returns-clause-turned : goal.returns-clause-turned
+returns-clause-turned g c =
+    replied_like (g.P.Port.law c.args.port.now) (g.P.Port.shown c.args.port.now) (g.P.Port.shown c.tell.new.port) c.args.self.now
+    (record c.args.self.now { phase = c.replace.new.dest }) c.tell.new.self c.tell.result refl refl refl c.tell.ensures.said
+    c.tell.ensures.turned

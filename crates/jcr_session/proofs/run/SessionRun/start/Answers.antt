@@ -1,0 +1,19 @@
+use Rattle.jcr_session.proofs.Begun.{errand_next, starts_by}
+use Rattle.jcr_session.proofs.Nexts.{errand_there, next_there, none_there}
+use Rattle.jcr_session.proofs.run.SessionRun.start.Goals as goal
+
+pub start_of-requires : goal.start_of-requires
+start_of-requires c =
+    (errand_there c.args.self.now c.in-Some.command.now c.requires
+    (let h = c.in-Some.ensures.lookup in next_there c.args.self.now.commands c.as_slice.result.now c.args.self.now.index
+    c.in-Some.command.now c.as_slice.ensures h.3.0 h.1)).1
+
+pub returns : goal.returns
+returns c = starts_by c.args.self.now c.in-Some.command.now c.start_of.result
+    (let h = c.in-Some.ensures.lookup in next_there c.args.self.now.commands c.as_slice.result.now c.args.self.now.index
+    c.in-Some.command.now c.as_slice.ensures h.3.0 h.1) c.start_of.ensures
+
+pub unreachable-requires : goal.unreachable-requires
+unreachable-requires c =
+    (let m = errand_next c.args.self.now c.requires in none_there c.args.self.now.commands c.as_slice.result.now c.args.self.now.index m.0
+    c.as_slice.ensures c.in-None.ensures.lookup.0 m.1)

@@ -1,6 +1,0 @@
-use Rattle.std.proofs.Common.{◌∙◌, sym}
-use Rattle.jr_stage.proofs.Reaching.{commits_of_seat}
-use Rattle.jr_stage.proofs.stage.Stage.is_committing.Goals as goal
-
-pub returns : goal.returns
-returns c = c.is_committing.ensures ∙ sym (commits_of_seat c.args.self.now c.args.s c.index.result.now c.requires c.index.ensures)
