@@ -13,6 +13,7 @@ enum Kind {
     Base,
     Store,
     Content,
+    Open,
     Repo,
 }
 
@@ -45,6 +46,7 @@ impl All {
             Kind::Base => self.base.add(line, out),
             Kind::Store => self.store.add(line, out),
             Kind::Content => content_rows::add(line, out),
+            Kind::Open => open_rows::add(line, out),
             Kind::Repo => self.repo.add(rt, line, out),
         }
     }
@@ -55,6 +57,7 @@ fn kind_of(line: &str) -> Option<Kind> {
         "=== base" => Some(Kind::Base),
         "=== store" => Some(Kind::Store),
         "=== content" => Some(Kind::Content),
+        "=== open" => Some(Kind::Open),
         "=== repo" => Some(Kind::Repo),
         _ => None,
     }

@@ -29,6 +29,8 @@ use Rattle.core_keep.specs.Keeps.{is_done, IsHeldPair}
 use Rattle.core_begun.specs.Told.{IsInUseSince, IsToldSince}
 use Rattle.core_begun.specs.Kept.{bounded_since, swept_since, IsHeldSince, IsKeptSince}
 use Rattle.core_keep.specs.Readers.{Reads, Knows}
+use Rattle.core_keep.specs.Formers.{AreFormers, Former, Formers}
+use Rattle.core_keep.proofs.Staying.{missing_unlisted}
 use Rattle.core_keep.specs.Splits.{previous_write, main_write, IsInOrder}
 use Rattle.core_keep.specs.Steps.{IsChangeAt, IsMainAt, IsPreviousAt, IsUnlisted}
 use Rattle.core_keep.proofs.Item.{not_true, either_true}
@@ -73,14 +75,8 @@ module _ (start : Start) where
 
   -- ---- splits
 
-  -- what isn't there isn't listed
-  pub missing_unlisted : (ds : Documents) (past : Past) (done : Progress) → IsKeptSince start ds past done → (p : Path) (k : ℕ) → ds (id.Prev k p) ≡ None → IsUnlisted ds p k
-  missing_unlisted ds past done world p k none d h e i one =
-      let f = (world.keeps p).previous d h e i in
-      false≢true (ap is_some (sym none ∙ (ap (λ (j : ℕ). ds (id.Prev j p)) (sym one) ∙ f.1)))
-
-  pub split_writes : (ds now : Documents) (past : Past) (done : Progress) (p : Path) (k : ℕ) → IsKeptSince start ds past done → IsPreviousAt ds now p k → ds (id.Prev k p) ≡ None → IsKeptSince start now past done
-  split_writes ds now past done p k world change none = kept_previous start ds now past done world p k change (missing_unlisted ds past done world p k none)
+  pub split_writes : (ds now : Documents) (past : Past) (done : Progress) (formers : Formers) (p : Path) (k : ℕ) → IsKeptSince start ds past done → AreFormers ds (course_from start past) formers → ((f : Former) → formers p k ≡ Some f → f.document.mod_count ≡ k) → IsPreviousAt ds now p k → ds (id.Prev k p) ≡ None → IsKeptSince start now past done
+  split_writes ds now past done formers p k world are numbered change none = kept_previous start ds now past done world p k change (missing_unlisted ds (course_from start past) formers are p k numbered none)
 
   pub split_lists : (read ds now : Documents) (past : Past) (done : Progress) (p : Path) (pin : Pin) (old : Document) (e : PrevEntry) (first second : ℕ) → IsKeptSince start ds past done → ds (id.Node p) ≡ Some old → IsInOrder old → e.number ≡ old.mod_count
       → ((n : Name) (r : Revision) → is_some (of_revision (values_of_property old.props n) r) ≡ true → (sees pin.base r && is_committed read pin.sweep old r) ≡ true → is_done (course_from start past) r ≡ true)

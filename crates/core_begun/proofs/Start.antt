@@ -140,6 +140,9 @@ module _ (s : RevVec) (seen : sees s the_start ≡ true) (v : RevVec) where
   rootless p r false false true = refl
   rootless p r false false false = refl
 
+  unlisted : (p : Path) (d : Document) → start_documents v (id.Node p) ≡ Some d → (e : PrevEntry) → IsIn e d.prev → ⊥
+  unlisted p d here e i = subst (λ (es : List PrevEntry). IsIn e es) ((holds_start v).whole p d here) i
+
   pub first_shown : ShowsStart (record { tree = initial_tree; at = s }) (start_documents v)
   first_shown = record {
     first = initial_first;
@@ -150,7 +153,8 @@ module _ (s : RevVec) (seen : sees s the_start ≡ true) (v : RevVec) where
     unsaid = λ p r h. no_status p r (eq_by_cmp path_cmp p versions) (eq_by_cmp path_cmp p system) (eq_by_cmp path_cmp p []);
     no_root = λ p r h. rootless p r (eq_by_cmp path_cmp p versions) (eq_by_cmp path_cmp p system) (eq_by_cmp path_cmp p []);
     named = (holds_start v).named;
-    previous = λ p d here e i. absurd (subst (λ (es : List PrevEntry). IsIn e es) ((holds_start v).whole p d here) i);
+    previous = λ p d here e i. absurd (unlisted p d here e i);
+    numbers = λ p d here e i. absurd (unlisted p d here e i);
   }
 
 pub start_shown : (clusters : ℕ) (v : RevVec) → 1 ≤ clusters → ShowsStart (start_in clusters None) (start_documents v)

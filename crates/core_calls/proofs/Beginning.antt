@@ -1,4 +1,4 @@
--- When the command of a session begins, what came since, and that the session stays unattached.
+-- When the command of a session begins, what came since, and what leaves it attached and its cursor pinned as they are.
 use Rattle.std.proofs.Common.{◌≡◌, ℕ, ◌+◌, Bool, true, false, cond, Some, [], ◌∷◌, ◌++◌, refl, ap, ◌∙◌}
 use Rattle.std.specs.Prelude.{◌==◌, ◌||◌}
 use Rattle.std.specs.List.{list_any}
@@ -8,13 +8,14 @@ use Rattle.jr_rev.specs.declared.vector.RevVec.{RevVec}
 use Rattle.oak_machine.specs.declared.event.Draw.{Draw}
 use Rattle.oak_machine.specs.declared.event.Event.{Event}
 use Rattle.oak_machine.specs.declared.event.Event.TheVariants as event
+use Rattle.oak_machine.specs.declared.event.StepKind.TheVariants as kind
 use Rattle.oak_machine.specs.History.{Past}
 use Rattle.oak_machine.specs.Laws.{is_event_of}
-use Rattle.oak_machine.specs.Sessions.{is_attached, next_index, refreshed_since, since}
+use Rattle.oak_machine.specs.Sessions.{cursor_at, is_attached, next_index, refreshed_since, since}
 use Rattle.oak_machine.proofs.Induction.{neither, other}
 use Rattle.core_heads.proofs.Passing.{next_more}
 use Rattle.jcr_law.specs.Since.{before_turn, draw_since, is_beginning}
-use Rattle.core_calls.specs.Events.{IsUnattached, is_attach_of}
+use Rattle.core_calls.specs.Events.{is_calling}
 
 pub begins_at_reply : (past : Past) (s i : ℕ) (text : Text) → before_turn (event.Said s i text ∷ past) s ≡ event.Said s i text ∷ past
 begins_at_reply past s i text = ap (λ (b : Bool). cond (b || false) (event.Said s i text ∷ past) (before_turn past s)) (number_itself s)
@@ -42,42 +43,35 @@ drawn_now past d = ap (λ (b : Bool). cond b (Some d) (draw_since past d.session
 pub refreshed_now : (past : Past) (s : ℕ) (v : RevVec) → refreshed_since (event.Refresh s v ∷ past) s ≡ Some v
 refreshed_now past s v = ap (λ (b : Bool). cond b (Some v) (refreshed_since past s)) (number_itself s)
 
--- ---- attached to no checkpoint
+-- ---- attached to a checkpoint, or to none
 
-off_either : (b c : Bool) → c ≡ false → cond b false c ≡ false
-off_either true c h = refl
-off_either false c h = h
+-- events that don't call s leave it as it is
+pub attached_over : (added past : Past) (s : ℕ) → list_any (is_calling s) added ≡ false → is_attached (added ++ past) s ≡ is_attached past s
+attached_over [] past s h = refl
+attached_over (event.Login t v ∷ added) past s h = let n = neither (t == s) _ h in other (t == s) _ _ _ n.0 (attached_over added past s n.1)
+attached_over (event.Refresh t v ∷ added) past s h = let n = neither (t == s) _ h in other (t == s) _ _ _ n.0 (attached_over added past s n.1)
+attached_over (event.Attach t id ∷ added) past s h = let n = neither (t == s) _ h in other (t == s) _ _ _ n.0 (attached_over added past s n.1)
+attached_over (e ∷ added) past s h = attached_over added past s (neither (is_calling s e) _ h).1
 
--- one event more
-unattached_now : (e : Event) (past : Past) (s : ℕ) → is_attach_of s e ≡ false → is_attached past s ≡ false → is_attached (e ∷ past) s ≡ false
-unattached_now (event.Login t v) past s h was = off_either (t == s) _ was
-unattached_now (event.Refresh t v) past s h was = off_either (t == s) _ was
-unattached_now (event.Attach t id) past s h was = other (t == s) _ _ _ h was
-unattached_now e past s h was = was
+-- so do events of others
+pub attached_stays : (whole added past : Past) (s : ℕ) → list_any (is_event_of whole s) added ≡ false → is_attached (added ++ past) s ≡ is_attached past s
+attached_stays whole [] past s h = refl
+attached_stays whole (event.Login t v ∷ added) past s h = let n = neither (t == s) _ h in other (t == s) _ _ _ n.0 (attached_stays whole added past s n.1)
+attached_stays whole (event.Refresh t v ∷ added) past s h = let n = neither (t == s) _ h in other (t == s) _ _ _ n.0 (attached_stays whole added past s n.1)
+attached_stays whole (event.Attach t id ∷ added) past s h = let n = neither (t == s) _ h in other (t == s) _ _ _ n.0 (attached_stays whole added past s n.1)
+attached_stays whole (e ∷ added) past s h = attached_stays whole added past s (neither (is_event_of whole s e) _ h).1
 
-pub unattached_more : (e : Event) (past : Past) (s : ℕ) → is_attach_of s e ≡ false → IsUnattached past s → IsUnattached (e ∷ past) s
-unattached_more e past s h was =
-    let now : is_attached (e ∷ past) s ≡ false = unattached_now e past s h was.now in record {
-      now = now;
-      begun = by (is_beginning s e) now;
-    }
-  where
-    by : (b : Bool) → is_attached (e ∷ past) s ≡ false → is_attached (cond b (e ∷ past) (before_turn past s)) s ≡ false
-    by true now = now
-    by false now = was.begun
+pub attached_now : (past : Past) (s : ℕ) (id : Text) → is_attached (event.Attach s id ∷ past) s ≡ true
+attached_now past s id = ap (λ (b : Bool). cond b true (is_attached past s)) (number_itself s)
 
-pub unattached_stays : (added past : Past) (s : ℕ) → list_any (is_attach_of s) added ≡ false → IsUnattached past s → IsUnattached (added ++ past) s
-unattached_stays [] past s h was = was
-unattached_stays (e ∷ added) past s h was =
-    let n = neither (is_attach_of s e) _ h in
-    unattached_more e (added ++ past) s n.0 (unattached_stays added past s n.1 was)
+pub unattached_now : (past : Past) (s : ℕ) (v : RevVec) → is_attached (event.Refresh s v ∷ past) s ≡ false
+unattached_now past s v = ap (λ (b : Bool). cond b false (is_attached past s)) (number_itself s)
 
-pub unattached_new : (s : ℕ) → IsUnattached [] s
-unattached_new s = record { now = refl; begun = refl }
+-- ---- where the cursor is pinned
 
--- an event of another is no attach of s
-pub attaches_none : (whole added : Past) (s : ℕ) → list_any (is_event_of whole s) added ≡ false → list_any (is_attach_of s) added ≡ false
-attaches_none whole [] s h = refl
-attaches_none whole (event.Attach t id ∷ added) s h =
-    let n = neither (t == s) _ h in ap (λ (b : Bool). b || list_any (is_attach_of s) added) n.0 ∙ attaches_none whole added s n.1
-attaches_none whole (e ∷ added) s h = attaches_none whole added s (neither (is_event_of whole s e) _ h).1
+-- events of others leave that
+pub cursor_stays : (whole added past : Past) (s : ℕ) → list_any (is_event_of whole s) added ≡ false → cursor_at (added ++ past) s ≡ cursor_at past s
+cursor_stays whole [] past s h = refl
+cursor_stays whole (event.Went t kind.Pin ∷ added) past s h = let n = neither (t == s) _ h in other (t == s) _ _ _ n.0 (cursor_stays whole added past s n.1)
+cursor_stays whole (event.Went t kind.End ∷ added) past s h = let n = neither (t == s) _ h in other (t == s) _ _ _ n.0 (cursor_stays whole added past s n.1)
+cursor_stays whole (e ∷ added) past s h = cursor_stays whole added past s (neither (is_event_of whole s e) _ h).1

@@ -59,7 +59,7 @@ module _ (law : JcrLaw) (begin : Begin) where
   pub called_at : (past : Past) (s : ℕ) (v : RevVec) → base_of past s ≡ Some v → call_of law begin past s ≡ Some (at past s v)
   called_at past s v is = ap (option_map (at past s)) is
 
-  -- ---- a login, a refresh and a reply
+  -- ---- a login, a refresh, an attach and a reply
 
   pub login_call : (past : Past) (s : ℕ) (v : RevVec) → call_of law begin (event.Login s v ∷ past) s
       ≡ Some (call_at law begin past s v (state_at_login begin (tree_at begin past v)))
@@ -76,6 +76,18 @@ module _ (law : JcrLaw) (begin : Begin) where
       ∙ (ap (λ (x : State). Some (call_at law begin past s v x)) (own s (moved (option_map_or (tree_at begin past) (base_of past s) (begin_tree begin)) (tree_at begin past v) old) old)
       ∙ (ap (λ (o : Option RevVec). Some (call_at law begin past s v (moved (option_map_or (tree_at begin past) o (begin_tree begin)) (tree_at begin past v) old))) b.1
       ∙ ap (λ (x : Call). Some (call_moved x v (tree_at begin past v))) b.2))
+
+  pub attach_call : (past : Past) (s : ℕ) (id : Text) (v : RevVec) (c : Call) → last_checkpoint past id ≡ Some v → call_of law begin past s ≡ Some c
+      → call_of law begin (event.Attach s id ∷ past) s ≡ Some (call_moved c v (tree_at begin past v))
+  attach_call past s id v c there is =
+      let b = by_base past s c is in
+      let old : State = state_of law begin past s in
+      let on : base_of (event.Attach s id ∷ past) s ≡ Some v = own s (last_checkpoint past id) (base_of past s) ∙ there in
+      ap (option_map (at (event.Attach s id ∷ past) s)) on
+      ∙ (ap (λ (x : State). Some (call_at law begin past s v x)) (own s (moved (base_tree begin past s) (base_tree begin (event.Attach s id ∷ past) s) old) old)
+      ∙ (ap (λ (o : Option RevVec). Some (call_at law begin past s v (moved (base_tree begin past s) (option_map_or (tree_at begin past) o (begin_tree begin)) old))) on
+      ∙ (ap (λ (o : Option RevVec). Some (call_at law begin past s v (moved (option_map_or (tree_at begin past) o (begin_tree begin)) (tree_at begin past v) old))) b.1
+      ∙ ap (λ (x : Call). Some (call_moved x v (tree_at begin past v))) b.2)))
 
   pub said_call : (past : Past) (s i : ℕ) (text : Text) (c : Call) (m : Command) → call_of law begin past s ≡ Some c → command_at law s i ≡ Some m
       → call_of law begin (event.Said s i text ∷ past) s ≡ Some (call_after (is_ok_text text) (is_some (drawn_since past s)) c m)

@@ -13,7 +13,7 @@ use Rattle.oak_machine.specs.declared.event.Event.TheVariants as event
 use Rattle.oak_machine.specs.History.{Begin, Past}
 use Rattle.oak_machine.specs.Laws.{Says, Starts}
 use Rattle.oak_machine.specs.Runs.{AreNodes, IsRunOf}
-use Rattle.oak_machine.specs.Sessions.{base_of, refreshed_among, refreshed_since, since}
+use Rattle.oak_machine.specs.Sessions.{base_of, is_attached, refreshed_among, refreshed_since, since}
 use Rattle.oak_machine.proofs.Induction.{neither, other}
 use Rattle.core_heads.proofs.Orders.{same_number}
 use Rattle.jcr_law.specs.declared.law.JcrLaw.{JcrLaw}
@@ -21,7 +21,7 @@ use Rattle.jcr_law.specs.Lasting.{says_of, starts_of}
 use Rattle.jcr_law.specs.Since.{before_turn, detached_among, draw_among, draw_since, is_beginning, is_move_of, is_pinning, is_unmoved, is_unpinned}
 use Rattle.jcr_law.specs.State.{call_of}
 use Rattle.core_calls.specs.Events.{is_calling}
-use Rattle.core_calls.proofs.Beginning.{since_login, since_reply}
+use Rattle.core_calls.proofs.Beginning.{attached_over, since_login, since_reply}
 use Rattle.core_calls.proofs.Called.{base_same, call_stays, or_neither}
 
 abbrev moves : ℕ → Past → Bool
@@ -101,7 +101,7 @@ pub undetached : (past : Past) (s : ℕ) → is_unmoved past s ≡ true → deta
 undetached past s h = none_detached (since past s) s (none_moves past s h)
 
 -- a past is what came since the command began, on what lay behind then
-parted : (past : Past) (s : ℕ) → since past s ++ before_turn past s ≡ past
+pub parted : (past : Past) (s : ℕ) → since past s ++ before_turn past s ≡ past
 parted [] s = refl
 parted (e ∷ past) s = by (is_beginning s e) (parted past s)
   where
@@ -127,6 +127,12 @@ uncalled (e ∷ past) s h = by (is_beginning s e) refl (uncalled past s) h
     by false at rest h =
         let n = neither (is_move_of s e) _ h in
         or_neither (is_calling s e) _ (not_calling s e at n.0) (rest n.1)
+
+-- the session is attached to a checkpoint as it was
+pub attached_stands : (past : Past) (s : ℕ) → is_unmoved past s ≡ true → is_attached past s ≡ is_attached (before_turn past s) s
+attached_stands past s h =
+    sym (ap (λ (p : Past). is_attached p s) (parted past s))
+    ∙ attached_over (since past s) (before_turn past s) s (uncalled past s (none_moves past s h))
 
 -- the base stands where it stood
 pub base_stands : (past : Past) (s : ℕ) → is_unmoved past s ≡ true → base_of past s ≡ base_of (before_turn past s) s

@@ -1,12 +1,10 @@
 -- Which events change what a session's next command is run with, and how it begins.
-use Rattle.std.specs.Prelude.{ℕ, Bool, false, ◌==◌, IsFalse}
+use Rattle.std.specs.Prelude.{ℕ, Bool, false, ◌==◌}
 use Rattle.jr_tree.specs.Trees.{Nodes}
 use Rattle.oak_machine.specs.declared.event.Event.{Event}
 use Rattle.oak_machine.specs.declared.event.Event.TheVariants as event
-use Rattle.oak_machine.specs.History.{Begin, Past}
-use Rattle.oak_machine.specs.Sessions.{is_attached}
+use Rattle.oak_machine.specs.History.{Begin}
 use Rattle.jcr_law.specs.declared.state.State.{State}
-use Rattle.jcr_law.specs.Since.{before_turn}
 use Rattle.jcr_law.specs.State.{new_state}
 
 -- the state of a session at its login, where it sees this tree
@@ -25,9 +23,3 @@ is_calling s _ = false
 abbrev pub is_attach_of : ℕ → Event → Bool
 is_attach_of s (event.Attach t id) = t == s
 is_attach_of s _ = false
-
--- s is attached to no checkpoint, and was attached to none when the command began that it has not
--- answered yet
-pub record IsUnattached (past : Past) (s : ℕ) : Type 0 where
-  pub now : IsFalse (is_attached past s)
-  pub begun : IsFalse (is_attached (before_turn past s) s)

@@ -8,7 +8,7 @@ ghost use Rattle.oak_machine.specs.Commits.{tree_at};
 ghost use Rattle.oak_machine.specs.History.{Begin, History, Past};
 ghost use Rattle.oak_machine.specs.Laws.{AreOthers, after, is_event_of};
 ghost use Rattle.oak_machine.specs.Runs.{IsRun};
-ghost use Rattle.oak_machine.specs.Sessions.{base_of, drawn_since, has_login};
+ghost use Rattle.oak_machine.specs.Sessions.{base_of, drawn_since, has_login, last_checkpoint};
 ghost use Rattle.core_heads.specs.Sound.{IsNodesRun};
 ghost use Rattle.jcr_trans.specs.declared.command.Command.{Command};
 ghost use Rattle.jcr_law.specs.declared.law.JcrLaw.{JcrLaw};
@@ -66,6 +66,15 @@ pub fn refreshes_move_calls()
     ensures { (law : JcrLaw) (begin : Begin) (past : Past) (s : ℕ) (v : RevVec) (c : Call)
         → call_of law begin past s ≡ Some c
         → call_of law begin (event.Refresh s v ∷ past) s
+        ≡ Some (call_moved c v (tree_at begin past v)) }
+{}
+
+/// An attach moves the call to the tree of the checkpoint (Oak, DocumentNodeStore: "Checkpoints"),
+/// with what was pending made again there, as a refresh does.
+pub fn attaches_move_calls()
+    ensures { (law : JcrLaw) (begin : Begin) (past : Past) (s : ℕ) (id : List ℕ) (v : RevVec)
+        (c : Call) → last_checkpoint past id ≡ Some v → call_of law begin past s ≡ Some c
+        → call_of law begin (event.Attach s id ∷ past) s
         ≡ Some (call_moved c v (tree_at begin past v)) }
 {}
 

@@ -7,7 +7,7 @@ ghost use Rattle.oak_machine.specs.declared.event.Event.{Event};
 ghost use Rattle.oak_machine.specs.declared.event.Event.TheVariants as event;
 ghost use Rattle.oak_machine.specs.History.{History, Past};
 ghost use Rattle.oak_machine.specs.Laws.{AreOthers};
-ghost use Rattle.oak_machine.specs.Sessions.{base_of, next_index, refreshed_since, since};
+ghost use Rattle.oak_machine.specs.Sessions.{base_of, cursor_at, is_attached, next_index, refreshed_since, since};
 ghost use Rattle.core_heads.specs.Sound.{IsNodesRun};
 ghost use Rattle.jcr_trans.specs.declared.command.Command.{Command};
 ghost use Rattle.jcr_law.specs.Built.{asked};
@@ -16,7 +16,6 @@ ghost use Rattle.jcr_law.specs.Lasting.{says_of, starts_of};
 ghost use Rattle.jcr_law.specs.Law.{asked_by};
 ghost use Rattle.jcr_law.specs.Since.{before_turn, detached_among, draw_since, is_beginning, is_move_of, is_pinning, is_unmoved, is_unpinned};
 ghost use Rattle.jcr_law.specs.State.{call_of};
-ghost use Rattle.core_calls.specs.Events.{IsUnattached, is_attach_of};
 
 /// The command that a session has not answered yet began with its last reply, or with its login; no
 /// other event begins one.
@@ -71,7 +70,7 @@ pub fn bases_stand_until_they_move()
 {}
 
 /// The cursor of a session hasn't moved behind a reply or a login, and hasn't behind further events
-/// among which is no move of it; events of others leave it.
+/// among which is no move of it; events of others leave that, and where it is pinned.
 pub fn cursors_stand_until_they_move()
     ensures reply { (past : Past) (s i : ℕ) (text : List ℕ)
         → IsTrue (is_unpinned (event.Said s i text ∷ past) s) }
@@ -81,16 +80,22 @@ pub fn cursors_stand_until_they_move()
         → IsTrue (is_unpinned past s) → IsTrue (is_unpinned (added ++ past) s) }
     ensures others { (added past : Past) (s : ℕ) → AreOthers s added past
         → is_unpinned (added ++ past) s ≡ is_unpinned past s }
+    ensures pinned { (added past : Past) (s : ℕ) → AreOthers s added past
+        → cursor_at (added ++ past) s ≡ cursor_at past s }
 {}
 
-/// A session begins unattached, and stays so where it attaches to no checkpoint; then its command
-/// is asked for as by one that is not attached.
-pub fn sessions_stay_unattached()
-    ensures begin { (s : ℕ) → IsUnattached [] s }
-    ensures stays { (added past : Past) (s : ℕ) → IsFalse (list_any (is_attach_of s) added)
-        → IsUnattached past s → IsUnattached (added ++ past) s }
+/// A session is attached to a checkpoint behind an attach (Oak, DocumentNodeStore: "Checkpoints"),
+/// and to none behind a refresh. Where its base hasn't moved since its command began, it is as it
+/// was then, and its command is asked for so; events of others leave it.
+pub fn attached_sessions_stay_so()
+    ensures attach { (past : Past) (s : ℕ) (id : List ℕ)
+        → IsTrue (is_attached (event.Attach s id ∷ past) s) }
+    ensures refresh { (past : Past) (s : ℕ) (v : RevVec)
+        → IsFalse (is_attached (event.Refresh s v ∷ past) s) }
+    ensures still { (past : Past) (s : ℕ) → IsTrue (is_unmoved past s)
+        → is_attached past s ≡ is_attached (before_turn past s) s }
+    ensures asked { (h : History) (s : ℕ) (m : Command) → IsTrue (is_unmoved h.past s)
+        → asked_by h s m ≡ asked (is_attached h.past s) m }
     ensures others { (added past : Past) (s : ℕ) → AreOthers s added past
-        → IsUnattached past s → IsUnattached (added ++ past) s }
-    ensures asked { (h : History) (s : ℕ) (m : Command) → IsUnattached h.past s
-        → asked_by h s m ≡ asked false m }
+        → is_attached (added ++ past) s ≡ is_attached past s }
 {}

@@ -121,12 +121,11 @@ module _ (ds : Documents) (past : Past) (done : Progress) (world : IsKeptWorld d
 
       writes : (x : Document) (none : look k ≡ None) (is : ds (id.Prev k p) ≡ Some x) (n : Name) (r : Revision) (ws : List Write) (y : Option Property) → edit_of past r ≡ Some ws → of_revision (values_of_property x.props n) r ≡ Some y → written (put_of p n) ws ≡ Some y
       writes x none is n r ws y e h =
-          sym (ap (option_and_then (written (put_of p n))) (edit_is past world.told r ∙ e))
-          ∙ wrote_former ds (course_of past) (sees pin.base) (sees pin.sweep) p copy asked look (tells.reads pin.base own) (course_is ds past done world).falls (pair pin.base own) k x none f former (copied x is) (shown pin.base own) n r y h
+          wrote_former ds (course_of past) (sees pin.base) (sees pin.sweep) p copy asked look (tells.reads pin.base own) (pair pin.base own) k x none f former (copied x is) (shown pin.base own) n r ws y (edit_is past world.told r ∙ e) h
 
       new : (x : Document) → look k ≡ None → ds (id.Prev k p) ≡ Some x → IsExact (look_too look k (Some x))
       new x none is = (
-        λ r ws e is_it. ap (λ es. of_revision es r) (gone_found ds (course_of past) (sees pin.base) (sees pin.sweep) p copy asked look (tells.reads pin.base own) (course_is ds past done world).falls (pair pin.base own) k x none f former (copied x is) (shown pin.base own)) ∙ tells.node r ws e is_it,
+        λ r ws e is_it. ap (λ es. of_revision es r) (gone_found ds (course_of past) (sees pin.base) (sees pin.sweep) p copy asked look (tells.reads pin.base own) (pair pin.base own) k x none f former (copied x is) (shown pin.base own)) ∙ tells.node r ws e is_it,
         λ n r ws e is_it. elim (value_more copy look k x none n r) [
           | inl one ↦ one ∙ tells.prop n r ws e is_it
           | inr found ↦ found.2 ∙ sym (writes x none is n r ws found.0 e found.1)
@@ -140,7 +139,7 @@ module _ (ds : Documents) (past : Past) (done : Progress) (world : IsKeptWorld d
 
   pub tells_found : TellsChanges ds past from pin.base pin.sweep p copy (asked_too asked k) (look_too look k (ds (id.Prev k p)))
   tells_found = record {
-    reads = λ v between. reads_found ds (course_of past) (sees v) (sees pin.sweep) p copy asked look (tells.reads v between) (course_is ds past done world).falls (pair v between) k f former copied (shown v between) way;
+    reads = λ v between. reads_found ds (course_of past) (sees v) (sees pin.sweep) p copy asked look (tells.reads v between) (pair v between) k f former copied (shown v between) way;
     node = exact.0;
     prop = exact.1;
     genuine = tells.genuine;

@@ -461,7 +461,7 @@ module _ (table : Entries) (is : IsTable table) (past : Past) (formers : Formers
       found = λ e i asked. found e i asked (eq_by_cmp id_cmp (id.Prev e.number at) first) refl;
       waiting = record { rising = second_part _ _ asking.waiting.rising; unknown = still_unknown known first (documents_in table first) rest (first_part _ _ asking.waiting.rising) (second_part _ _ asking.waiting.unknown) };
       previous = λ x h. asking.previous x (later x (eq_by_cmp id_cmp x first) h);
-      listed = λ e i. let l = asking.listed e i in (l.0, l.1, λ v between. shown_found asking.document asking.look (sees v) l.0 k there way (l.2 v between));
+      listed = λ e i. let l = asking.listed e i in (l.0, l.1, λ v between. shown_found (documents_in table) asking.document asking.look (sees v) at l.0 former.0 k (λ x h. are.copies at k former.0 x former.1 h) (former.2 v between) way (l.2 v between));
     }
       where
         later : (x : DocId) (b : Bool) → is_left rest x ≡ true → is_some (cond b (Some tt) (lookup (is_at (id_cmp x)) rest)) ≡ true

@@ -103,6 +103,7 @@ pub record AreSaid (past : Past) (from to : RevVec) (passed : Path → Bool) (sa
 abbrev pub is_before_node : Path → Path → Bool
 is_before_node at p = is_lt (id_cmp (id.Node p) (id.Node at))
 
+-- in store order the document of a path's node is that of another's or one before it
 abbrev pub is_up_to_node : Path → Path → Bool
 is_up_to_node at p = is_le (id_cmp (id.Node p) (id.Node at))
 

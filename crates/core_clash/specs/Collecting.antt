@@ -1,4 +1,5 @@
--- What comes between the steps of committers where documents are split and collected: bounds, updates that drop garbage, documents that go, and what a split moves.
+-- What comes between the steps of committers where documents are split and collected: bounds,
+-- updates that drop garbage, documents that go, and what a split moves.
 use Rattle.std.specs.Prelude.{◌≡◌, ◌+◌, ◌⊎◌, ℕ, Bool, true, false, ◌&&◌, cond, List, [], ◌∷◌, None, Some, is_some}
 use Rattle.std.specs.List.{filter, list_any}
 use Rattle.jr_path.specs.declared.path.Path.{Path}
@@ -29,10 +30,12 @@ use Rattle.core_clash.specs.Sound.{has_moved}
 abbrev pub SeesBounded : Past → RevVec → Type 0
 SeesBounded past base = (o : Revision) → is_bounded past o ≡ true → sees base o ≡ true
 
--- a bound sees nothing in flight, and no more than any base in flight; its sweep vector sees no more than it
+-- a bound sees nothing in flight, and no more than any base in flight; its sweep vector sees no
+-- more than it
 pub record MayBound (past : Past) (m t : RevVec) : Type 0 where
   pub settled : (o : Revision) → is_in_flight past o ≡ true → sees m o ≡ false
-  pub below : (r o : Revision) → is_in_flight past r ≡ true → sees m o ≡ true → is_in_base past r o ≡ true
+  pub below : (r o : Revision) → is_in_flight past r ≡ true → sees m o ≡ true → is_in_base past r o
+      ≡ true
   pub swept : (o : Revision) → sees t o ≡ true → sees m o ≡ true
 
 -- a bound is one of the past, or at most one
@@ -41,22 +44,27 @@ pub record IsBoundOf (past : Past) (m t : RevVec) : Type 0 where
   pub swept : (r : Revision) → sees t r ≡ true → is_swept past r ≡ true
   pub below : (r : Revision) → sees t r ≡ true → sees m r ≡ true
 
+-- the previous documents with these at a path
 abbrev pub with_moved : (Path → List Document) → Path → List Document → Path → List Document
 with_moved moved p xs q = cond (is_path q p) xs (moved q)
 
--- no documents: what an update drops of one is said without the previous documents, which a core has by themselves
+-- no documents: what an update drops of one is said without the previous documents, which a core
+-- has by themselves
 abbrev pub no_documents : Documents
 no_documents i = None
 
 -- an update drops garbage of a document, and the previous documents that aren't kept are garbage
-pub record MayPrune (s : Core) (m t : RevVec) (p : Path) (old : Document) (op : UpdateOp) (keep : Document → Bool) : Type 0 where
+pub record MayPrune (s : Core) (m t : RevVec) (p : Path) (old : Document) (op : UpdateOp)
+    (keep : Document → Bool) : Type 0 where
   pub bound : IsBoundOf s.past m t
   pub there : s.docs p ≡ Some old
   pub keys : List EntryKey
   pub numbers : List ℕ
   pub garbage : DropsGarbage no_documents m t p old op keys numbers
-  pub moved : (x : Document) → In x (s.moved p) → keep x ≡ false → is_garbage_previous m t old x ≡ true
+  pub moved : (x : Document) → In x (s.moved p) → keep x ≡ false → is_garbage_previous m t old x
+      ≡ true
 
+-- a collection takes entries from a document, and previous documents that it lists
 abbrev pub after_prune : Core → Event → Path → Document → UpdateOp → (Document → Bool) → Core
 after_prune s e p old op keep = record s {
   number = s.number + 1;
@@ -70,8 +78,10 @@ pub record MayRemove (s : Core) (m t : RevVec) (p : Path) (old : Document) : Typ
   pub bound : IsBoundOf s.past m t
   pub there : s.docs p ≡ Some old
   pub garbage : is_garbage_document m t old ≡ true
-  pub moved : (r : Revision) (k : Mark) → list_any (has_moved r k) (s.moved p) ≡ true → is_bounded s.past r ≡ true
+  pub moved : (r : Revision) (k : Mark) → list_any (has_moved r k) (s.moved p) ≡ true
+      → is_bounded s.past r ≡ true
 
+-- a collection takes a document away, with the previous ones of its node
 abbrev pub after_remove : Core → Event → Path → Core
 after_remove s e p = record s {
   number = s.number + 1;
@@ -80,17 +90,24 @@ after_remove s e p = record s {
   past = e ∷ s.past;
 }
 
--- a document that a split has read is as it was then; and what counts in the documents that the split has read is committed
-pub record MaySplit (s : Core) (read : Documents) (pin : Pin) (p : Path) (old : Document) : Type 0 where
+-- a document that a split has read is as it was then; and what counts in the documents that the
+-- split has read is committed
+pub record MaySplit (s : Core) (read : Documents) (pin : Pin) (p : Path)
+    (old : Document) : Type 0 where
   pub there : s.docs p ≡ Some old
   pub order : IsInOrder old
-  pub counted : (n : Name) (r : Revision) → is_some (of_revision (values_of_property old.props n) r) ≡ true → (sees pin.base r && is_said read pin.sweep old r) ≡ true → (r ≡ start_of 1) ⊎ (is_committed s.past r ≡ true)
+  pub counted : (n : Name) (r : Revision) → is_some (of_revision (values_of_property old.props n) r)
+      ≡ true → (sees pin.base r && is_said read pin.sweep old r) ≡ true → (r ≡ start_of 1)
+      ⊎ (is_committed s.past r ≡ true)
 
--- the main update of a split: what it wrote to a previous document goes from the document, which lists that one first
+-- the main update of a split: what it wrote to a previous document goes from the document, which
+-- lists that one first
 abbrev pub after_split : Core → Event → Documents → Pin → Path → Document → PrevEntry → ℕ → Core
 after_split s e read pin p old entry first = record s {
   number = s.number + 1;
-  docs = with_document s.docs p (after_changes (Some old) (main_write read pin old entry) (s.number + 1));
+  docs =
+      with_document s.docs p (after_changes (Some old) (main_write read pin old entry)
+      (s.number + 1));
   moved = with_moved s.moved p (after_changes None (previous_write read pin old) first ∷ s.moved p);
   past = e ∷ s.past;
 }

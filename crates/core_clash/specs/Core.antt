@@ -36,7 +36,8 @@ Docs = Path → Option Document
 abbrev pub Moved : Type 0
 Moved = Path → List Document
 
--- the number of the last update, the documents, the previous documents that they list, the events so far, and the committer of each drawn revision
+-- the number of the last update, the documents, the previous documents that they list, the events
+-- so far, and the committer of each drawn revision
 pub record Core : Type 0 where
   pub number : ℕ
   pub docs : Docs
@@ -44,9 +45,11 @@ pub record Core : Type 0 where
   pub past : Past
   pub writers : Revision → Writer
 
+-- two paths are one
 abbrev pub is_path : Path → Path → Bool
 is_path = eq_by_cmp path_cmp
 
+-- the documents with this one at a path
 abbrev pub with_document : Docs → Path → Document → Docs
 with_document docs p d q = cond (is_path q p) (Some d) (docs q)
 
@@ -55,9 +58,11 @@ abbrev pub docs_after : Docs → Path → Result Document OpFault → Docs
 docs_after docs p (Ok d) = with_document docs p d
 docs_after docs p (Err fault) = docs
 
+-- the committers with this one for a revision
 abbrev pub with_writer : (Revision → Writer) → Revision → Writer → Revision → Writer
 with_writer writers r w q = cond (is_same q r) w (writers q)
 
+-- the commit root of a revision, by the marks of its draw
 abbrev pub root_of : Past → Revision → Path
 root_of past r = commit_root (marks_of past r)
 
@@ -69,17 +74,28 @@ pub record IsGoing (s : Core) (d : Draw) : Type 0 where
   pub uncommitted : is_committed s.past d.revision ≡ false
   pub going : (s.writers d.revision).undoing ≡ false
 
--- a new revision that no base sees, at a base that sees the start and nothing in flight; a list of all its marked documents, each once; and marks of items that are those of the edit
+-- a new revision that no base sees, at a base that sees the start and nothing in flight; a list of
+-- all its marked documents, each once; and marks of items that are those of the edit
 pub record MayBegin (s : Core) (d : Draw) (left : List Path) : Type 0 where
   pub begins : Begins s.past d
   pub covers : (p : Path) (m : Mark) → In (mark_at p m) d.marks → In p left
   pub once : Once left
   pub entries : NamesItems d.marks d.edit.writes
 
+-- a revision is drawn, and its committer has all its documents still to write
 abbrev pub after_draw : Core → Draw → List Path → Core
 after_draw s d left = record s {
   past = event.Draw d ∷ s.past;
-  writers = with_writer s.writers d.revision (record { paths = left; left = left; written = []; due = []; undoing = false; wants = false });
+  writers =
+      with_writer s.writers d.revision (record {
+        paths = left;
+        left = left;
+        written = [];
+        due =
+            [];
+        undoing = false;
+        wants = false;
+      });
 }
 
 -- no mark to make, and p is the next document
@@ -88,13 +104,23 @@ pub record MayWrite (s : Core) (d : Draw) (p : Path) (rest : List Path) : Type 0
   pub unmet : (s.writers d.revision).due ≡ []
   pub next : (s.writers d.revision).left ≡ p ∷ rest
 
+-- the next document is written, and what is met in it is to be marked
 abbrev pub after_write : Core → Draw → Path → List Path → Core
 after_write s d p rest = record {
   number = s.number + 1;
-  docs = docs_after s.docs p (updated (s.docs p) (write_op d.revision d.edit.writes d.marks p) (s.number + 1));
+  docs =
+      docs_after s.docs p (updated (s.docs p) (write_op d.revision d.edit.writes d.marks p)
+      (s.number + 1));
   moved = s.moved;
   past = event.Went d.session kind.Write ∷ s.past;
-  writers = with_writer s.writers d.revision (record (s.writers d.revision) { left = rest; written = (s.writers d.revision).written ++ p ∷ []; due = found d.base d.revision p d.marks (whole p (s.docs p) (s.moved p)) });
+  writers =
+      with_writer s.writers d.revision (record (s.writers d.revision) {
+        left = rest;
+        written =
+            (s.writers d.revision).written ++ p ∷ [];
+        due = found d.base d.revision p d.marks (whole
+            p (s.docs p) (s.moved p));
+      });
 }
 
 -- f is the next mark to make
@@ -106,12 +132,14 @@ pub record MayMark (s : Core) (d : Draw) (f : Met) (rest : List Met) : Type 0 wh
 abbrev pub undoing_from : Core → Draw → Writer
 undoing_from s d = record (s.writers d.revision) { due = []; undoing = true }
 
+-- the event of a refusal comes, and the committer turns to undoing
 abbrev pub refusing : Core → Draw → Event → Core
 refusing s d e = record s {
   past = e ∷ s.past;
   writers = with_writer s.writers d.revision (undoing_from s d);
 }
 
+-- a mark on another's commit root is made, or the revision is refused since the other is committed
 abbrev pub marked_by : Core → Draw → Met → List Met → Result Document OpFault → Core
 marked_by s d f rest (Ok doc) = record {
   number = s.number + 1;
@@ -124,7 +152,9 @@ marked_by s d f rest (Err fault) = refusing s d (event.Refuse d.revision f.mine 
 
 -- the mark is made, or the draw is refused with its own item and the other
 abbrev pub after_mark : Core → Draw → Met → List Met → Core
-after_mark s d f rest = marked_by s d f rest (updated (s.docs (root_of s.past f.other)) (mark_op (root_of s.past f.other) f.other d.revision f.theirs) (s.number + 1))
+after_mark s d f rest =
+    marked_by s d f rest (updated (s.docs (root_of s.past f.other))
+    (mark_op (root_of s.past f.other) f.other d.revision f.theirs) (s.number + 1))
 
 -- no mark to make and no document to write
 pub record MayLast (s : Core) (d : Draw) : Type 0 where
@@ -132,6 +162,7 @@ pub record MayLast (s : Core) (d : Draw) : Type 0 where
   pub unmet : (s.writers d.revision).due ≡ []
   pub none_left : (s.writers d.revision).left ≡ []
 
+-- the last write is made, which commits, or the revision is refused since a collision is kept
 abbrev pub lasted_by : Core → Draw → Result Document OpFault → Core
 lasted_by s d (Ok doc) = record {
   number = s.number + 1;
@@ -140,16 +171,25 @@ lasted_by s d (Ok doc) = record {
   past = event.Commit d.revision ∷ s.past;
   writers = s.writers;
 }
-lasted_by s d (Err (fault.Unmet c (kept.Entry o item))) = refusing s d (event.Refuse d.revision item o)
+lasted_by s d (Err (fault.Unmet c (kept.Entry o item))) =
+    refusing s d (event.Refuse d.revision item o)
 lasted_by s d (Err _) = s
 
 -- the commit point, or the draw is refused with what is kept as its collision
 abbrev pub after_last : Core → Draw → Core
-after_last s d = lasted_by s d (updated (s.docs (root_of s.past d.revision)) (last_op d.revision (marks_of s.past d.revision)) (s.number + 1))
+after_last s d =
+    lasted_by s d (updated (s.docs (root_of s.past d.revision))
+    (last_op d.revision (marks_of s.past d.revision)) (s.number + 1))
 
 -- want of memory: the committer turns to undoing, with no event
 abbrev pub after_want : Core → Draw → Core
-after_want s d = record s { writers = with_writer s.writers d.revision (record (undoing_from s d) { wants = true }) }
+after_want s d =
+    record s {
+      writers = with_writer s.writers d.revision (record (undoing_from s d) {
+        wants =
+            true;
+      });
+    }
 
 -- undoing, and p is the first document that it wrote and hasn't undone
 pub record MayUndo (s : Core) (d : Draw) (p : Path) (rest : List Path) : Type 0 where
@@ -158,6 +198,7 @@ pub record MayUndo (s : Core) (d : Draw) (p : Path) (rest : List Path) : Type 0 
   pub undoing : (s.writers d.revision).undoing ≡ true
   pub next : (s.writers d.revision).written ≡ p ∷ rest
 
+-- a document that was written is undone
 abbrev pub after_undo : Core → Draw → Path → List Path → Core
 after_undo s d p rest = record {
   number = s.number + 1;
@@ -169,13 +210,16 @@ after_undo s d p rest = record {
 
 -- committed, or undone whole
 abbrev pub IsDone : Core → Revision → Type 0
-IsDone s r = (is_committed s.past r ≡ true) ⊎ (((s.writers r).undoing ≡ true) × ((s.writers r).written ≡ []))
+IsDone s r =
+    (is_committed s.past r ≡ true) ⊎ (((s.writers r).undoing ≡ true) × ((s.writers r).written ≡ []))
 
+-- a committer may end its revision, which is committed or undone whole
 pub record MayFinish (s : Core) (d : Draw) : Type 0 where
   pub draw : draw_of s.past d.revision ≡ Some d
   pub unended : is_ended s.past d.revision ≡ false
   pub done : IsDone s d.revision
 
+-- a revision ends
 abbrev pub after_finish : Core → Draw → Core
 after_finish s d = record s { past = event.End d.revision ∷ s.past }
 
@@ -188,6 +232,7 @@ pub record IsDead (past : Past) (d : Draw) : Type 0 where
   pub uncommitted : is_committed past d.revision ≡ false
   pub other : d.revision ≡ start_of 1 → ⊥
 
+-- the paths without this one
 abbrev pub without_path : Path → List Path → List Path
 without_path p ps = filter (λ q. not (is_path q p)) ps
 
@@ -216,10 +261,16 @@ pub record MayDrop (s : Core) (d : Draw) : Type 0 where
   pub unended : is_ended s.past d.revision ≡ false
   pub cleared : IsCleared s.docs d.revision
 
+-- a recovery ends a revision of which no document has anything
 abbrev pub after_drop : Core → Draw → Core
 after_drop s d = record s {
   past = event.End d.revision ∷ s.past;
-  writers = with_writer s.writers d.revision (record (s.writers d.revision) { written = []; due = []; undoing = true });
+  writers =
+      with_writer s.writers d.revision (record (s.writers d.revision) {
+        written = [];
+        due = [];
+        undoing = true;
+      });
 }
 
 -- an event that no committer's step but these appends, and no bound
@@ -231,5 +282,6 @@ is_quiet (event.End r) = false
 is_quiet (event.Bound m t) = false
 is_quiet _ = true
 
+-- an event comes that changes no document and no committer
 abbrev pub after_event : Core → Event → Core
 after_event s e = record s { past = e ∷ s.past }

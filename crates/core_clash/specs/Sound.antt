@@ -46,19 +46,25 @@ has_moved r _ x = false
 abbrev pub marked_in : Option Document → List Document → Revision → Mark → Bool
 marked_in doc xs r m = marked doc r m || list_any (has_moved r m) xs
 
--- what bounds of collections so far see has ended, each base in flight sees it, and what their sweep vectors see they see
+-- what bounds of collections so far see has ended, each base in flight sees it, and what their
+-- sweep vectors see they see
 pub record AreBelow (past : Past) : Type 0 where
   pub settled : (o : Revision) → is_in_flight past o ≡ true → is_bounded past o ≡ false
-  pub below : (r o : Revision) → is_in_flight past r ≡ true → is_bounded past o ≡ true → is_in_base past r o ≡ true
+  pub below : (r o : Revision) → is_in_flight past r ≡ true → is_bounded past o ≡ true
+      → is_in_base past r o ≡ true
   pub swept : (o : Revision) → is_swept past o ≡ true → is_bounded past o ≡ true
 
--- a mark in the document of p is one of the start, or one that its committer wrote there and hasn't undone
+-- a mark in the document of p is one of the start, or one that its committer wrote there and hasn't
+-- undone
 abbrev pub IsOf : Core → Path → Revision → Mark → Type 0
-IsOf s p r m = (r ≡ start_of 1) ⊎ (In p (s.writers r).written × In (mark_at p m) (marks_of s.past r))
+IsOf s p r m =
+    (r ≡ start_of 1) ⊎ (In p (s.writers r).written × In (mark_at p m) (marks_of s.past r))
 
 -- the base of r sees o, or r is to mark o, or somebody has marked o
 abbrev pub Noticed : Core → Revision → Revision → Type 0
-Noticed s r o = (is_in_base s.past r o ≡ true) ⊎ ((f : Met) × In f (s.writers r).due × (f.other ≡ o)) ⊎ (is_some (collision (s.docs (root_of s.past o)) o) ≡ true)
+Noticed s r o =
+    (is_in_base s.past r o ≡ true) ⊎ ((f : Met) × In f (s.writers r).due × (f.other ≡ o))
+    ⊎ (is_some (collision (s.docs (root_of s.past o)) o) ≡ true)
 
 -- r is the start, or was drawn, wrote the document of p and hasn't undone it
 abbrev pub IsWriterOf : Core → Path → Revision → Type 0
@@ -80,7 +86,8 @@ pub record IsWhole (w : Writer) : Type 0 where
   pub due : w.due ≡ []
   pub going : w.undoing ≡ false
 
--- what is undone, what is written and what is left are the documents in their order; nothing is undone before a refusal
+-- what is undone, what is written and what is left are the documents in their order; nothing is
+-- undone before a refusal
 pub record IsListed (w : Writer) : Type 0 where
   pub gone : List Path
   pub all : gone ++ (w.written ++ w.left) ≡ w.paths
@@ -88,13 +95,16 @@ pub record IsListed (w : Writer) : Type 0 where
 
 -- what undoes was refused, or wants memory, or its cluster node was stopped
 abbrev pub IsTurned : Past → Revision → Writer → Type 0
-IsTurned past r w = (is_refused past r ≡ true) ⊎ ((w.wants ≡ true) ⊎ (is_stopped past r.cluster ≡ true))
+IsTurned past r w =
+    (is_refused past r ≡ true) ⊎ ((w.wants ≡ true) ⊎ (is_stopped past r.cluster ≡ true))
 
+-- what holds at each moment of the documents, the committers and the past
 pub record Sound (s : Core) : Type 0 where
   -- each document has the id of its node, and its properties in order
   pub ordered : (p : Path) → AreOrdered p (s.docs p)
   -- the marks of items of each draw are those of its edit
-  pub edits : (r : Revision) (d : Draw) → draw_of s.past r ≡ Some d → NamesItems d.marks d.edit.writes
+  pub edits : (r : Revision) (d : Draw) → draw_of s.past r ≡ Some d
+      → NamesItems d.marks d.edit.writes
   -- what is committed, refused or ended was drawn
   pub committed_drawn : (r : Revision) → is_committed s.past r ≡ true → is_drawn s.past r ≡ true
   pub refused_drawn : (r : Revision) → is_refused s.past r ≡ true → is_drawn s.past r ≡ true
@@ -104,32 +114,51 @@ pub record Sound (s : Core) : Type 0 where
   pub start : (r : Revision) → is_drawn s.past r ≡ true → is_in_base s.past r (start_of 1) ≡ true
   -- bounds are below what is in flight
   pub bounds : AreBelow s.past
-  -- each document that a committer wrote and hasn't undone has its marks, or a previous one that it lists has them, until a bound sees them; and no other marks are there
-  pub entries : (r : Revision) (p : Path) (m : Mark) → is_bounded s.past r ≡ false → In p (s.writers r).written → In (mark_at p m) (marks_of s.past r) → marked_in (s.docs p) (s.moved p) r m ≡ true
-  pub origin : (r : Revision) (p : Path) (m : Mark) → marked_in (s.docs p) (s.moved p) r m ≡ true → IsOf s p r m
+  -- each document that a committer wrote and hasn't undone has its marks, or a previous one that it
+  -- lists has them, until a bound sees them; and no other marks are there
+  pub entries : (r : Revision) (p : Path) (m : Mark) → is_bounded s.past r ≡ false
+      → In p (s.writers r).written → In (mark_at p m) (marks_of s.past r)
+      → marked_in (s.docs p) (s.moved p) r m ≡ true
+  pub origin : (r : Revision) (p : Path) (m : Mark) → marked_in (s.docs p) (s.moved p) r m ≡ true
+      → IsOf s p r m
   -- what moved to previous documents is committed
-  pub moved : (r : Revision) (p : Path) (m : Mark) → list_any (has_moved r m) (s.moved p) ≡ true → (r ≡ start_of 1) ⊎ (is_committed s.past r ≡ true)
-  -- each document with a mark tells its commit root, until a bound has swept it, and no other document has a note of it
-  pub rooted : (r : Revision) (p : Path) (m : Mark) → is_swept s.past r ≡ false → (r ≡ start_of 1 → ⊥) → marked_in (s.docs p) (s.moved p) r m ≡ true → IsRooted (s.docs p) r (root_of s.past r)
-  pub unrooted : (r : Revision) (p : Path) → is_some (root_entry (s.docs p) r) ≡ true → IsWriterOf s p r
-  -- each committer of a node that isn't stopped has written exactly the first documents of its list, or has undone exactly the first of those that it wrote
+  pub moved : (r : Revision) (p : Path) (m : Mark) → list_any (has_moved r m) (s.moved p) ≡ true
+      → (r ≡ start_of 1) ⊎ (is_committed s.past r ≡ true)
+  -- each document with a mark tells its commit root, until a bound has swept it, and no other
+  -- document has a note of it
+  pub rooted : (r : Revision) (p : Path) (m : Mark) → is_swept s.past r ≡ false
+      → (r ≡ start_of 1 → ⊥) → marked_in (s.docs p) (s.moved p) r m ≡ true
+      → IsRooted (s.docs p) r (root_of s.past r)
+  pub unrooted : (r : Revision) (p : Path) → is_some (root_entry (s.docs p) r) ≡ true
+      → IsWriterOf s p r
+  -- each committer of a node that isn't stopped has written exactly the first documents of its
+  -- list, or has undone exactly the first of those that it wrote
   pub listed : (r : Revision) → is_stopped s.past r.cluster ≡ false → IsListed (s.writers r)
   -- each document is written once, and each marked one is written or still to be
   pub once : (r : Revision) → Once ((s.writers r).written ++ (s.writers r).left)
-  pub covered : (r : Revision) (p : Path) (m : Mark) → In (mark_at p m) (marks_of s.past r) → (s.writers r).undoing ≡ false → In p (s.writers r).written ⊎ In p (s.writers r).left
+  pub covered : (r : Revision) (p : Path) (m : Mark) → In (mark_at p m) (marks_of s.past r)
+      → (s.writers r).undoing ≡ false → In p (s.writers r).written ⊎ In p (s.writers r).left
   -- what is refused undoes; what has ended is committed, or undone whole
   pub refused : (r : Revision) → is_refused s.past r ≡ true → (s.writers r).undoing ≡ true
   pub ended : (r : Revision) → is_ended s.past r ≡ true → IsDone s r
-  -- what undoes was refused, or wants memory, or is undone by a recovery; what a refusal names is its cause
+  -- what undoes was refused, or wants memory, or is undone by a recovery; what a refusal names is
+  -- its cause
   pub stopped : (r : Revision) → (s.writers r).undoing ≡ true → IsTurned s.past r (s.writers r)
-  pub refusal : (r : Revision) (item : Item) (o : Revision) → refusal_of s.past r ≡ Some (item, o) → Cause s.past r item o
+  pub refusal : (r : Revision) (item : Item) (o : Revision) → refusal_of s.past r ≡ Some (item, o)
+      → Cause s.past r item o
   -- each mark to make and each collision has its cause
   pub due : (r : Revision) (f : Met) → In f (s.writers r).due → IsDue s.past r f
-  pub caused : (p : Path) (r o : Revision) (item : Item) → collision (s.docs p) r ≡ Some (o, item) → Cause s.past r item o
-  -- what is committed is noted on its commit root, until a bound has swept it, and nothing else is; it is whole, and nobody marked it
-  pub status : (r : Revision) → is_swept s.past r ≡ false → is_committed s.past r ≡ true → noted (s.docs (root_of s.past r)) r ≡ true
-  pub only_committed : (p : Path) (r : Revision) → noted (s.docs p) r ≡ true → (r ≡ start_of 1) ⊎ (is_committed s.past r ≡ true)
+  pub caused : (p : Path) (r o : Revision) (item : Item) → collision (s.docs p) r ≡ Some (o, item)
+      → Cause s.past r item o
+  -- what is committed is noted on its commit root, until a bound has swept it, and nothing else is;
+  -- it is whole, and nobody marked it
+  pub status : (r : Revision) → is_swept s.past r ≡ false → is_committed s.past r ≡ true
+      → noted (s.docs (root_of s.past r)) r ≡ true
+  pub only_committed : (p : Path) (r : Revision) → noted (s.docs p) r ≡ true → (r ≡ start_of 1)
+      ⊎ (is_committed s.past r ≡ true)
   pub whole : (r : Revision) → is_committed s.past r ≡ true → IsWhole (s.writers r)
-  pub unmarked : (r : Revision) → is_committed s.past r ≡ true → is_some (collision (s.docs (root_of s.past r)) r) ≡ false
+  pub unmarked : (r : Revision) → is_committed s.past r ≡ true
+      → is_some (collision (s.docs (root_of s.past r)) r) ≡ false
   -- of two committers whose marks clash in a document that both wrote, one noticed the other
-  pub noticed : (r o : Revision) (p : Path) (m n : Mark) → (r ≡ o → ⊥) → Stands s r p m → Stands s o p n → clash m n ≡ true → Noticed s r o ⊎ Noticed s o r
+  pub noticed : (r o : Revision) (p : Path) (m n : Mark) → (r ≡ o → ⊥) → Stands s r p m
+      → Stands s o p n → clash m n ≡ true → Noticed s r o ⊎ Noticed s o r

@@ -1,4 +1,5 @@
--- Every interleaving: the steps of a core, what can be reached by them, and that each commit and refusal may follow.
+-- Every interleaving: the steps of a core, what can be reached by them, and that each commit and
+-- refusal may follow.
 use Rattle.std.specs.Prelude.{◌≡◌, ℕ, Bool, true, false, List, [], ◌∷◌, None, is_some}
 use Rattle.jr_path.specs.declared.path.Path.{Path}
 use Rattle.jr_rev.specs.declared.revision.Revision.{Revision}
@@ -22,20 +23,34 @@ use Rattle.core_clash.specs.Views.{AreOrdered, In}
 use Rattle.core_clash.specs.Collecting.{SeesBounded, MayBound, MayPrune, MayRemove, MaySplit, after_prune, after_remove, after_split}
 use Rattle.core_clash.specs.Core.{Core, Docs, IsGoing, MayBegin, MayWrite, MayMark, MayLast, MayUndo, MayFinish, IsDead, MayDrop, after_clear, after_drop, after_draw, after_write, after_mark, after_last, after_want, after_undo, after_finish, after_event, is_quiet}
 
--- one step of one committer, or what comes between: bounds, what collections drop, what splits move, what a recovery undoes and ends, and events of something else, a stop and the end of a recovery among them
+-- one step of one committer, or what comes between: bounds, what collections drop, what splits
+-- move, what a recovery undoes and ends, and events of something else, a stop and the end of a
+-- recovery among them
 pub data Step : Core → Core → Type 0 where
-  draw : {s : Core} (d : Draw) (left : List Path) → MayBegin s d left → SeesBounded s.past d.base → Step s (after_draw s d left)
-  write : {s : Core} (d : Draw) (p : Path) (rest : List Path) → MayWrite s d p rest → Step s (after_write s d p rest)
-  mark : {s : Core} (d : Draw) (f : Met) (rest : List Met) → MayMark s d f rest → Step s (after_mark s d f rest)
+  draw : {s : Core} (d : Draw) (left : List Path) → MayBegin s d left → SeesBounded s.past d.base
+      → Step s (after_draw s d left)
+  write : {s : Core} (d : Draw) (p : Path) (rest : List Path) → MayWrite s d p rest
+      → Step s (after_write s d p rest)
+  mark : {s : Core} (d : Draw) (f : Met) (rest : List Met) → MayMark s d f rest
+      → Step s (after_mark s d f rest)
   last : {s : Core} (d : Draw) → MayLast s d → Step s (after_last s d)
   want : {s : Core} (d : Draw) → IsGoing s d → Step s (after_want s d)
-  undo : {s : Core} (d : Draw) (p : Path) (rest : List Path) → MayUndo s d p rest → Step s (after_undo s d p rest)
+  undo : {s : Core} (d : Draw) (p : Path) (rest : List Path) → MayUndo s d p rest
+      → Step s (after_undo s d p rest)
   finish : {s : Core} (d : Draw) → MayFinish s d → Step s (after_finish s d)
   bound : {s : Core} (m t : RevVec) → MayBound s.past m t → Step s (after_event s (event.Bound m t))
-  prune : {s : Core} (e : Event) (m t : RevVec) (p : Path) (old : Document) (op : UpdateOp) (keep : Document → Bool) → is_quiet e ≡ true → MayPrune s m t p old op keep → Step s (after_prune s e p old op keep)
-  remove : {s : Core} (e : Event) (m t : RevVec) (p : Path) (old : Document) → is_quiet e ≡ true → MayRemove s m t p old → Step s (after_remove s e p)
-  split : {s : Core} (e : Event) (read : Documents) (pin : Pin) (p : Path) (old : Document) (entry : PrevEntry) (first : ℕ) → is_quiet e ≡ true → MaySplit s read pin p old → Step s (after_split s e read pin p old entry first)
-  clear : {s : Core} (e : Event) (d : Draw) (p : Path) → is_quiet e ≡ true → IsDead s.past d → Step s (after_clear s e d p)
+  prune :
+      {s : Core} (e : Event) (m t : RevVec) (p : Path) (old : Document) (op : UpdateOp)
+      (keep : Document → Bool) → is_quiet e ≡ true → MayPrune s m t p old op keep
+      → Step s (after_prune s e p old op keep)
+  remove : {s : Core} (e : Event) (m t : RevVec) (p : Path) (old : Document) → is_quiet e ≡ true
+      → MayRemove s m t p old → Step s (after_remove s e p)
+  split :
+      {s : Core} (e : Event) (read : Documents) (pin : Pin) (p : Path) (old : Document)
+      (entry : PrevEntry) (first : ℕ) → is_quiet e ≡ true → MaySplit s read pin p old
+      → Step s (after_split s e read pin p old entry first)
+  clear : {s : Core} (e : Event) (d : Draw) (p : Path) → is_quiet e ≡ true → IsDead s.past d
+      → Step s (after_clear s e d p)
   dropped : {s : Core} (d : Draw) → MayDrop s d → Step s (after_drop s d)
   other : {s : Core} (e : Event) → is_quiet e ≡ true → Step s (after_event s e)
 
@@ -49,7 +64,21 @@ pub record IsStart (docs : Docs) : Type 0 where
 
 -- nothing has happened
 abbrev pub at_start : ℕ → Docs → Core
-at_start number docs = record { number = number; docs = docs; moved = λ p. []; past = []; writers = λ r. record { paths = []; left = []; written = []; due = []; undoing = false; wants = false } }
+at_start number docs =
+    record {
+      number = number;
+      docs = docs;
+      moved = λ p. [];
+      past = [];
+      writers = λ r. record {
+        paths = [];
+        left = [];
+        written = [];
+        due = [];
+        undoing = false;
+        wants = false;
+      };
+    }
 
 -- what can be reached by steps, in every interleaving
 pub data Reached : Core → Type 0 where

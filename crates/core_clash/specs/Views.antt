@@ -21,14 +21,18 @@ abbrev pub Once : {X : Type 0} → List X → Type 0
 Once [] = Unit {0}
 Once (x ∷ xs) = (In x xs → ⊥) × Once xs
 
+-- a mark at a path
 abbrev pub mark_at : Path → Mark → MarkAt
 mark_at p m = record { path = p; mark = m }
 
 -- the marks of kind Exists and Prop are just those for which a write is the cause
 abbrev pub NamesItems : List MarkAt → List Write → Type 0
-NamesItems ms ws = (m : MarkAt) → is_of_item m ≡ true → (In m ms → In m (flat_map marks_of_write ws)) × (In m (flat_map marks_of_write ws) → In m ms)
+NamesItems ms ws =
+    (m : MarkAt) → is_of_item m ≡ true → (In m ms → In m (flat_map marks_of_write ws))
+    × (In m (flat_map marks_of_write ws) → In m ms)
 
--- the document of the node at p, where there is one, has its id, and its properties in the order of their names
+-- the document of the node at p, where there is one, has its id, and its properties in the order of
+-- their names
 abbrev pub AreOrdered : Path → Option Document → Type 0
 AreOrdered p None = Unit {0}
 AreOrdered p (Some d) = (d.id ≡ id.Node p) × IsOrderedDocument d

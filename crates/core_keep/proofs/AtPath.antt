@@ -96,7 +96,7 @@ module _ (ds now : Documents) (c : Course) (keeps : Keeps ds c) (said : (x : Pat
         unsaid = λ r e o. ap (λ d. has_revision d r) node ∙ at.unsaid r e o;
         no_root = λ r e o f. ap (λ d. Rattle.core_read.specs.Holds.root_entry d r) node ∙ at.no_root r e o f;
         named = λ d h. at.named d (sym node ∙ h);
-        previous = λ d h e i. let k = at.previous d (sym node ∙ h) e i in (k.0, previous d e (sym node ∙ h) i ∙ k.1, k.2);
+        previous = λ d h e i x there. at.previous d (sym node ∙ h) e i x (sym (previous d e (sym node ∙ h) i) ∙ there);
       }
 
   pub step_keeps : (p : Path) → IsChangeAt ds now p → KeepsAt now c p → Keeps now c

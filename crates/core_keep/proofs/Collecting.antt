@@ -82,15 +82,6 @@ known_tree ds known past v t p copy asked look told used reads knows = known_fou
 
 -- ---- splits
 
--- what isn't there isn't listed
-pub missing_unlisted : (ds : Documents) (past : Past) (done : Progress) → IsKeptWorld ds past done → (p : Path) (k : ℕ) → ds (id.Prev k p) ≡ None → IsUnlisted ds p k
-missing_unlisted ds past done world p k none d h e i one =
-    let f = (world.keeps p).previous d h e i in
-    false≢true (ap is_some (sym none ∙ (ap (λ (j : ℕ). ds (id.Prev j p)) (sym one) ∙ f.1)))
-
-pub split_writes : (ds now : Documents) (past : Past) (done : Progress) (p : Path) (k : ℕ) → IsKeptWorld ds past done → IsPreviousAt ds now p k → ds (id.Prev k p) ≡ None → IsKeptWorld now past done
-split_writes ds now past done p k world change none = kept_previous ds now past done world p k change (missing_unlisted ds past done world p k none)
-
 pub split_lists : (read ds now : Documents) (past : Past) (done : Progress) (p : Path) (pin : Pin) (old : Document) (e : PrevEntry) (first second : ℕ) → IsKeptWorld ds past done → ds (id.Node p) ≡ Some old → IsInOrder old → e.number ≡ old.mod_count
     → ((n : Name) (r : Revision) → is_some (of_revision (values_of_property old.props n) r) ≡ true → (sees pin.base r && is_committed read pin.sweep old r) ≡ true → is_some (edit_of past r) ≡ true)
     → ds (id.Prev e.number p) ≡ Some (after_changes None (previous_write read pin old) first) → IsMainAt ds now p (after_changes (Some old) (main_write read pin old e) second) → IsKeptWorld now past done

@@ -48,16 +48,14 @@ module _ (ds : Documents) (c : Course) (p : Path) (at : KeepsAt ds c p) where
       by v (Some d) e h =
           let f = value_from n (listed ds p (Some d)) q v h in
           let g = previous_in ds p d.prev f.0 f.1 in
-          let m = at.previous d e g.0 g.1 in
-          let one : m.0 ≡ f.0 = ap (λ o. unwrap_or o f.0) (sym m.1 ∙ g.2) in
-          false≢true (sym open_ ∙ m.2.done n q (ap (λ (x : Document). is_some (of_revision (values_of_property x.props n) q)) one ∙ ap is_some f.2))
+          false≢true (sym open_ ∙ (at.previous d e g.0 g.1 f.0 g.2).done n q (ap is_some f.2))
 
   pub no_gone_listed : gone_in (listed ds p (ds (id.Node p))) ≡ []
   no_gone_listed = by (ds (id.Node p)) refl
     where
       by : (o : Option Document) → ds (id.Node p) ≡ o → gone_in (listed ds p o) ≡ []
       by None e = refl
-      by (Some d) e = plain_listed ds c p d (λ f i x h. let m = at.previous d e f i in ap (λ (y : Document). y.deleted) (ap (λ o. unwrap_or o x) (sym h ∙ m.1)) ∙ m.2.plain)
+      by (Some d) e = plain_listed ds c p d (λ f i x h. (at.previous d e f i x h).plain)
 
   or_none : {X : Type 0} (o : Option X) → option_or o None ≡ o
   or_none None = refl
@@ -101,7 +99,7 @@ flying_keeps ds c keeps flying clean p =
       unsaid = at.unsaid;
       no_root = λ q e o f. (clean p q e o f).root;
       named = at.named;
-      previous = λ d h e i. let k = at.previous d h e i in (k.0, k.1, record { named = k.2.named; plain = k.2.plain; done = k.2.done; genuine = k.2.genuine; behind = k.2.behind });
+      previous = λ d h e i x there. let k = at.previous d h e i x there in record { named = k.named; plain = k.plain; done = k.done; genuine = k.genuine; behind = k.behind };
     }
 
 -- ---- bounds rise
@@ -117,9 +115,9 @@ bound_keeps ds c keeps course bound swept wider more calm down p =
       unsaid = at.unsaid;
       no_root = at.no_root;
       named = at.named;
-      previous = λ d h e i.
-          let k = at.previous d h e i in
-          (k.0, k.1, record { named = k.2.named; plain = k.2.plain; done = k.2.done; genuine = k.2.genuine; behind = k.2.behind });
+      previous = λ d h e i x there.
+          let k = at.previous d h e i x there in
+          record { named = k.named; plain = k.plain; done = k.done; genuine = k.genuine; behind = k.behind };
     }
 
 -- ---- a commit, of which the status isn't asked yet
@@ -187,18 +185,15 @@ module _ (ds : Documents) (c : Course) (keeps : Keeps ds c) (r : Revision) (ws :
         unsaid = λ q e o. at.unsaid q (away q e).1 o;
         no_root = λ q e o f. at.no_root q (away q e).1 o f;
         named = at.named;
-        previous = λ d h e i.
-            let k = at.previous d h e i in (
-              k.0,
-              k.1,
-              record {
-                named = k.2.named;
-                plain = k.2.plain;
-                done = λ n q m. done_still q (k.2.done n q m);
-                genuine = λ n q us v f m. k.2.genuine n q us v (sym (other q (not_true _ (λ one. false≢true (sym open_ ∙ subst (λ (z : Revision). is_done c z ≡ true) (same_revision q r one) (k.2.done n q (ap is_some m)))))) ∙ f) m;
-                behind = λ n q m. let g = k.2.behind n q m in (g.0, g.1, done_still g.0 g.2, g.3);
-              },
-            );
+        previous = λ d h e i x there.
+            let k = at.previous d h e i x there in
+            record {
+              named = k.named;
+              plain = k.plain;
+              done = λ n q m. done_still q (k.done n q m);
+              genuine = λ n q us v f m. k.genuine n q us v (sym (other q (not_true _ (λ one. false≢true (sym open_ ∙ subst (λ (z : Revision). is_done c z ≡ true) (same_revision q r one) (k.done n q (ap is_some m)))))) ∙ f) m;
+              behind = λ n q m. let g = k.behind n q m in (g.0, g.1, done_still g.0 g.2, g.3);
+            };
       }
 
 -- the status of r is said: it may be asked
@@ -212,7 +207,7 @@ asked_keeps ds c r keeps said p =
       unsaid = at.unsaid;
       no_root = at.no_root;
       named = at.named;
-      previous = λ d h e i. let k = at.previous d h e i in (k.0, k.1, record { named = k.2.named; plain = k.2.plain; done = k.2.done; genuine = k.2.genuine; behind = k.2.behind });
+      previous = λ d h e i x there. let k = at.previous d h e i x there in record { named = k.named; plain = k.plain; done = k.done; genuine = k.genuine; behind = k.behind };
     }
   where
     by : (x : Document) → IsIn x (all_at ds p) → (q : Revision) (us : List Write) → edit_in c q ≡ Some us → c.swept q ≡ false → HasEntryOf q x → (b : Bool) → eq_by_cmp revision_cmp q r ≡ b → has_revision (ds (commit_root_of x q)) q ≡ true

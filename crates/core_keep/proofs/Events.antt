@@ -180,9 +180,7 @@ module _ (ds now : Documents) (past : Past) (done : Progress) (world : IsKeptWor
       by None e i = i
       by (Some old) e i =
           let g = previous_in ds p old.prev x i in
-          let m = (world.keeps p).previous old e g.0 g.1 in
-          let one : m.0 ≡ x = ap (λ o. unwrap_or o x) (sym m.1 ∙ g.2) in
-          at_entry m.0 m.2 (subst (λ (y : Document). HasEntryOf r y) (sym one) entry)
+          at_entry x ((world.keeps p).previous old e g.0 g.1 x g.2) entry
         where
           at_entry : (y : Document) {k : ℕ} → IsPrevious c p old k y → HasEntryOf r y → ⊥
           at_entry y is (inl h) = false≢true (ap (λ (es : List (Revision × Bool)). is_some (of_revision es r)) (sym is.plain) ∙ h)

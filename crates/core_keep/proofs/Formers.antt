@@ -1,8 +1,8 @@
 -- A reader that finds a previous document which was written again after another of its number had gone reads the tree still: it is a copy of what a former document had, and that is shown by what the reader goes by.
 use Rattle.std.proofs.Common.{◌≡◌, ◌⊎◌, inl, inr, ℕ, Bool, true, false, cond, ◌||◌, Some, None, Option, List, [], ◌∷◌, ◌++◌, refl, sym, ap, ◌∙◌, subst, is_some}
 use Rattle.std.proofs.Math.Path.{fun_ext}
-use Rattle.std.specs.Prelude.{◌==◌}
-use Rattle.std.specs.Option.{option_and_then, option_map_or, option_or, unwrap_or}
+use Rattle.std.specs.Prelude.{◌==◌, IsTrue}
+use Rattle.std.specs.Option.{option_map_or, option_or, unwrap_or}
 use Rattle.std.specs.List.{filter, filter_map, cons_option}
 use mathlib.Core.Bool.{false≢true}
 use Rattle.jr_path.specs.declared.name.Name.{Name}
@@ -10,26 +10,26 @@ use Rattle.jr_path.specs.declared.path.Path.{Path}
 use Rattle.jr_path.specs.declared.path.DocId.TheVariants as id
 use Rattle.jr_value.specs.declared.value.Property.{Property}
 use Rattle.jr_rev.specs.declared.revision.Revision.{Revision}
-use Rattle.jr_rev.specs.Revisions.{is_at_most}
+use Rattle.jr_rev.specs.Revisions.{is_before}
 use Rattle.jr_rev.proofs.Entries.{number_same}
 use Rattle.jr_tree.specs.Trees.{born_at, property_at}
+use Rattle.jr_tree.specs.declared.edit.Write.{Write}
 use Rattle.jr_tree.specs.Items.{put_of, written}
 use Rattle.oak_doc.specs.declared.document.Document.{Document}
 use Rattle.oak_doc.specs.declared.document.PrevEntry.{PrevEntry}
 use Rattle.oak_doc.specs.Updates.{of_revision, values_of_property}
 use Rattle.oak_read.specs.Meaning.{Documents, commit_root_of, latest}
-use Rattle.core_read.specs.Commits.{Sight, last_entry, Fall}
+use Rattle.core_read.specs.Commits.{Sight, last_entry}
 use Rattle.core_read.specs.Holds.{has_revision}
 use Rattle.core_read.specs.Told.{IsIn}
-use Rattle.core_read.proofs.Latest.{passing, writing, IsLastEntry, last_entry_last, only_entry}
 use Rattle.core_keep.specs.Standing.{all_at, gone_of, gone_in, values_in, shows_node, shows_value, HasEntryOf}
 use Rattle.core_keep.specs.Keeps.{Course, edit_in, is_done, Matches, IsHeldPair}
 use Rattle.core_keep.specs.Readers.{gone_by, Reads, asked_too, look_too}
-use Rattle.core_keep.specs.Formers.{Former, IsAmong, IsFollowed, IsFormer, IsShownIn, IsCopyOf}
+use Rattle.core_keep.specs.Formers.{Former, IsAmong, IsCopyOf, IsFollowed, IsFormer, IsKeptIn, IsShownIn}
 use Rattle.oak_read.specs.Shown.{with_previous}
 use Rattle.core_keep.proofs.Item.{latest_of, not_true, some_of, cond_some}
 use Rattle.core_keep.proofs.Found.{found_append}
-use Rattle.core_keep.proofs.Readers.{look_in, in_look, no_gone, reads_previous}
+use Rattle.core_keep.proofs.Readers.{look_in, in_look, last_left, no_gone, reads_previous}
 
 -- it goes by what is there already
 pub same_too : (look : ℕ → Option Document) (k : ℕ) (o : Option Document) → look k ≡ o → look_too look k o ≡ look
@@ -114,26 +114,33 @@ module _ (copy : Document) (look : ℕ → Option Document) (k : ℕ) (x : Docum
     still_more : is_some (of_revision (values_in n (gone_by copy look)) q) ≡ true → is_some (of_revision (values_in n (gone_by copy more)) q) ≡ true
     still_more h = elim value_more [ inl same ↦ ap is_some same ∙ h | inr new ↦ ap is_some new.2 ]
 
-  pub shown_more : (v : Sight) (f : Former) → IsShownIn v f (gone_by copy look) → IsShownIn v f (gone_by copy more)
-  shown_more v f shown n r had seen = let q = shown n r had seen in (q.0, q.1, still_more n q.0 q.2)
+  -- what shows a former document shows it still, where what it finds is a copy of one that is shown
+  pub shown_more : (v : Sight) (f g : Former) (p : Path) → IsCopyOf p k g x → IsShownIn v g (gone_by copy look) → IsShownIn v f (gone_by copy look) → IsShownIn v f (gone_by copy more)
+  shown_more v f g p copied its shown n r y had seen = elim (shown n r y had seen) [
+    | inl there ↦ elim (value_more n r) [
+      | inl same ↦ inl (same ∙ there)
+      | inr new ↦ by new.0 new.2 there (its n r new.0 (copied.had n r new.0 new.1) seen)
+    ]
+    | inr q ↦ inr (later q)
+  ]
+    where
+      later : (q : Revision) × IsTrue (is_before r q) × IsTrue (v q) × IsAmong (gone_by copy look) n q → (q : Revision) × IsTrue (is_before r q) × IsTrue (v q) × IsAmong (gone_by copy more) n q
+      later q = (q.0, q.1, q.2, still_more n q.0 q.3)
+
+      by : (z : Option Property) → of_revision (values_in n (gone_by copy more)) r ≡ Some z → of_revision (values_in n (gone_by copy look)) r ≡ Some y → IsKeptIn v (gone_by copy look) n r z → IsKeptIn v (gone_by copy more) n r y
+      by z now there (inl same) = inl (now ∙ (sym same ∙ there))
+      by z now there (inr q) = inr (later q)
 
 -- ---- the reader finds one that it didn't go by
 
-module _ (ds : Documents) (c : Course) (v t : Sight) (p : Path) (copy : Document) (asked : ℕ → Bool) (look : ℕ → Option Document) (reads : Reads ds c v t p copy asked look) (fall : Fall c.commits) (held : IsHeldPair c v t)
+module _ (ds : Documents) (c : Course) (v t : Sight) (p : Path) (copy : Document) (asked : ℕ → Bool) (look : ℕ → Option Document) (reads : Reads ds c v t p copy asked look) (held : IsHeldPair c v t)
     (k : ℕ) (x : Document) (none : look k ≡ None) (f : Former) (former : IsFormer ds c p f) (copied : IsCopyOf p k f x) (shown : IsShownIn v f (gone_by copy look)) where
   abbrev new_look : ℕ → Option Document
   new_look = look_too look k (Some x)
 
-  -- an entry of it is a write of a commit
-  pub wrote : (n : Name) (q : Revision) (y : Option Property) → of_revision (values_of_property x.props n) q ≡ Some y → option_and_then (written (put_of p n)) (edit_in c q) ≡ Some y
-  wrote n q y h =
-      let done = copied.committed n q (ap is_some h) in
-      let e = some_of (edit_in c q) (former.done q done) in
-      ap (option_and_then (written (put_of p n))) e.1 ∙ former.genuine n q e.0 y done e.1 (copied.entries n q y h)
-
-  -- which is told where it is seen
-  told : (n : Name) (q : Revision) (y : Option Property) → v q ≡ true → of_revision (values_of_property x.props n) q ≡ Some y → writing (put_of p n) v (of_revision c.commits q) q ≡ Some y
-  told n q y seen h = ap (λ b. cond b (option_and_then (written (put_of p n)) (edit_in c q)) None) seen ∙ wrote n q y h
+  -- an entry of it is what a commit writes
+  pub wrote : (n : Name) (q : Revision) (ws : List Write) (y : Option Property) → edit_in c q ≡ Some ws → of_revision (values_of_property x.props n) q ≡ Some y → written (put_of p n) ws ≡ Some y
+  wrote n q ws y e h = former.genuine n q ws y (copied.had n q y h) e
 
   module _ (n : Name) where
     abbrev before_it : List (Revision × Option Property)
@@ -142,58 +149,22 @@ module _ (ds : Documents) (c : Course) (v t : Sight) (p : Path) (copy : Document
     abbrev with_it : List (Revision × Option Property)
     with_it = values_in n (gone_by copy new_look)
 
-    -- it has no entry that is seen
-    unseen : ((q : Revision) (y : Option Property) → v q ≡ true → of_revision (values_of_property x.props n) q ≡ Some y → ⊥) → latest (filter (λ e. v e.0) with_it) ≡ latest (filter (λ e. v e.0) before_it)
-    unseen silent = only_entry (passing v with_it) (passing v before_it) (λ q. by q (v q) refl) _ _ (latest_of v with_it) (latest_of v before_it)
+    abbrev Later : Revision → Type 0
+    Later q = (r : Revision) × (is_before q r ≡ true) × (v r ≡ true) × (is_some (of_revision before_it r) ≡ true)
+
+    -- of what is seen the same stood, or a later one
+    each : (q : Revision) → v q ≡ true → (of_revision before_it q ≡ of_revision with_it q) ⊎ Later q
+    each q seen = elim (value_more copy look k x none n q) [
+      | inl same ↦ inl (sym same)
+      | inr new ↦ by new.0 new.2 (shown n q new.0 (copied.had n q new.0 new.1) seen)
+    ]
       where
-        at : (q : Revision) → v q ≡ true → of_revision with_it q ≡ of_revision before_it q
-        at q seen = elim (value_more copy look k x none n q) [ inl same ↦ same | inr new ↦ absurd (silent q new.0 seen new.1) ]
-
-        by : (q : Revision) (b : Bool) → v q ≡ b → cond b (of_revision with_it q) None ≡ cond b (of_revision before_it q) None
-        by q true seen = at q seen
-        by q false seen = refl
-
-    -- the last that is seen stands, and stays so
-    module _ (e : Revision × Option Property) (last : IsLastEntry (λ q. writing (put_of p n) v (of_revision c.commits q) q) (Some e)) (stands : latest (filter (λ e. v e.0) before_it) ≡ Some e) where
-      was_last : IsLastEntry (passing v before_it) (Some e)
-      was_last = subst (λ o. IsLastEntry (passing v before_it) o) stands (latest_of v before_it)
-
-      seen_there : (v e.0 ≡ true) × (of_revision before_it e.0 ≡ Some e.1)
-      seen_there = cond_some (v e.0) (of_revision before_it e.0) e.1 was_last.0
-
-      stands_now : of_revision with_it e.0 ≡ Some e.1
-      stands_now = elim (value_more copy look k x none n e.0) [
-        | inl same ↦ same ∙ seen_there.1
-        | inr new ↦ new.2 ∙ (sym (told n e.0 new.0 seen_there.0 new.1) ∙ last.0)
-      ]
-
-      below : (q : Revision) → is_some (passing v with_it q) ≡ true → is_at_most q e.0 ≡ true
-      below q h =
-          let y = some_of (passing v with_it q) h in
-          let s = cond_some (v q) (of_revision with_it q) y.0 y.1 in
-          elim (value_more copy look k x none n q) [
-            | inl same ↦ was_last.1 q (ap (λ b. is_some (cond b (of_revision before_it q) None)) s.0 ∙ ap is_some (sym same ∙ s.1))
-            | inr new ↦ last.1 q (ap is_some (told n q new.0 s.0 new.1))
-          ]
-
-      last_now : latest (filter (λ e. v e.0) with_it) ≡ Some e
-      last_now = only_entry (passing v with_it) (passing v with_it) (λ q. refl) _ (Some e) (latest_of v with_it) (ap (λ b. cond b (of_revision with_it e.0) None) seen_there.0 ∙ stands_now, below)
+        by : (y : Option Property) → of_revision with_it q ≡ Some y → IsKeptIn v (gone_by copy look) n q y → (of_revision before_it q ≡ of_revision with_it q) ⊎ Later q
+        by y now (inl there) = inl (there ∙ sym now)
+        by y now (inr later) = inr later
 
     value_same : latest (filter (λ e. v e.0) with_it) ≡ latest (filter (λ e. v e.0) before_it)
-    value_same = by (last_entry (put_of p n) v c.commits) (last_entry_last (put_of p n) v c.commits fall) (reads.prop n)
-      where
-        -- nothing that is seen stands: it has nothing that is seen
-        nothing : latest (filter (λ e. v e.0) before_it) ≡ None → (q : Revision) (y : Option Property) → v q ≡ true → of_revision (values_of_property x.props n) q ≡ Some y → ⊥
-        nothing empty q y seen h =
-            let s = shown n q (copied.committed n q (ap is_some h), ap is_some (copied.entries n q y h)) seen in
-            let empties : IsLastEntry (passing v before_it) None = subst (λ o. IsLastEntry (passing v before_it) o) empty (latest_of v before_it) in
-            false≢true (sym (ap is_some (empties s.0)) ∙ (ap (λ b. is_some (cond b (of_revision before_it s.0) None)) s.1 ∙ s.2))
-
-        by : (o : Option (Revision × Option Property)) → IsLastEntry (λ q. writing (put_of p n) v (of_revision c.commits q) q) o → Matches shows_value (property_at c.tree p n) o (latest (filter (λ e. v e.0) before_it))
-            → latest (filter (λ e. v e.0) with_it) ≡ latest (filter (λ e. v e.0) before_it)
-        by None last m = unseen (λ q y seen h. false≢true (sym (ap is_some (last q)) ∙ ap is_some (told n q y seen h)))
-        by (Some e) last (inl stands) = last_now e last stands ∙ sym stands
-        by (Some e) last (inr gone) = unseen (nothing gone.1)
+    value_same = sym (last_left v with_it before_it each (λ q h. still_more copy look k x none n q h))
 
   previous_new : (e : PrevEntry) → IsIn e copy.prev → (y : Document) → new_look e.number ≡ Some y → (y.id ≡ id.Prev e.number p) × (y.deleted ≡ [])
   previous_new e i y h = elim (each_more copy look k x none e) [
@@ -214,7 +185,7 @@ module _ (ds : Documents) (c : Course) (v t : Sight) (p : Path) (copy : Document
     where
       own : HasEntryOf r x → is_done c r ≡ true
       own (inl h) = absurd (false≢true (ap (λ (es : List (Revision × Bool)). is_some (of_revision es r)) (sym copied.plain) ∙ h))
-      own (inr h) = ap (λ b. b || c.old r) (former.done r (copied.committed h.0 r h.1))
+      own (inr h) = let y = some_of (of_revision (values_of_property x.props h.0) r) h.1 in former.done r (copied.had h.0 r y.0 y.1).0
 
   said_new : (y : Document) → IsIn y (gone_by copy new_look) → (r : Revision) → v r ≡ true → t r ≡ false → HasEntryOf r y → has_revision (ds (commit_root_of y r)) r ≡ true
   said_new y i r seen unswept entry = elim (was_or copy look k x none y i) [
@@ -227,7 +198,7 @@ module _ (ds : Documents) (c : Course) (v t : Sight) (p : Path) (copy : Document
       own (inr h) =
           let y = some_of (of_revision (values_of_property x.props h.0) r) h.1 in
           ap (λ j. has_revision (ds j) r) (copied.roots h.0 r h.1)
-          ∙ former.said h.0 r (copied.committed h.0 r h.1, ap is_some (copied.entries h.0 r y.0 y.1)) (not_true (c.swept r) (λ s. false≢true (sym unswept ∙ held.sweep r s)))
+          ∙ former.said h.0 r y.0 (copied.had h.0 r y.0 y.1) (not_true (c.swept r) (λ s. false≢true (sym unswept ∙ held.sweep r s)))
 
   stayed : (e : PrevEntry) → asked_too asked k e.number ≡ false → new_look e.number ≡ look e.number
   stayed e a = ap (λ b. cond b (Some x) (look e.number)) (unasked_too asked k e.number a).0
@@ -248,10 +219,10 @@ module _ (ds : Documents) (c : Course) (v t : Sight) (p : Path) (copy : Document
 -- ---- what a reader finds
 
 -- a reader asks for a previous document that its copy lists: it is what it went by, or it went by nothing, and a copy of what a former document had is there, or nothing
-pub reads_found : (ds : Documents) (c : Course) (v t : Sight) (p : Path) (copy : Document) (asked : ℕ → Bool) (look : ℕ → Option Document) → Reads ds c v t p copy asked look → Fall c.commits → IsHeldPair c v t
+pub reads_found : (ds : Documents) (c : Course) (v t : Sight) (p : Path) (copy : Document) (asked : ℕ → Bool) (look : ℕ → Option Document) → Reads ds c v t p copy asked look → IsHeldPair c v t
     → (k : ℕ) (f : Former) → IsFormer ds c p f → ((x : Document) → ds (id.Prev k p) ≡ Some x → IsCopyOf p k f x) → IsShownIn v f (gone_by copy look)
     → (look k ≡ ds (id.Prev k p)) ⊎ (look k ≡ None) → Reads ds c v t p copy (asked_too asked k) (look_too look k (ds (id.Prev k p)))
-reads_found ds c v t p copy asked look reads fall held k f former copied shown way = by (ds (id.Prev k p)) refl way
+reads_found ds c v t p copy asked look reads held k f former copied shown way = by (ds (id.Prev k p)) refl way
   where
     same : (o : Option Document) → look k ≡ o → Reads ds c v t p copy (asked_too asked k) (look_too look k o)
     same o is = subst (λ l. Reads ds c v t p copy (asked_too asked k) l) (sym (same_too look k o is)) (reads_previous ds c v t p copy asked look reads k)
@@ -259,19 +230,26 @@ reads_found ds c v t p copy asked look reads fall held k f former copied shown w
     by : (o : Option Document) → ds (id.Prev k p) ≡ o → (look k ≡ o) ⊎ (look k ≡ None) → Reads ds c v t p copy (asked_too asked k) (look_too look k o)
     by o is (inl one) = same o one
     by None is (inr none) = same None none
-    by (Some x) is (inr none) = reads_new ds c v t p copy asked look reads fall held k x none f former (copied x is) shown
+    by (Some x) is (inr none) = reads_new ds c v t p copy asked look reads held k x none f former (copied x is) shown
 
 -- and what shows a former document shows it still
-pub shown_found : (copy : Document) (look : ℕ → Option Document) (v : Sight) (f : Former) (k : ℕ) (o : Option Document) → (look k ≡ o) ⊎ (look k ≡ None) → IsShownIn v f (gone_by copy look) → IsShownIn v f (gone_by copy (look_too look k o))
-shown_found copy look v f k o (inl one) shown = subst (λ l. IsShownIn v f (gone_by copy l)) (sym (same_too look k o one)) shown
-shown_found copy look v f k None (inr none) shown = subst (λ l. IsShownIn v f (gone_by copy l)) (sym (same_too look k None none)) shown
-shown_found copy look v f k (Some x) (inr none) shown = shown_more copy look k x none v f shown
+pub shown_found : (ds : Documents) (copy : Document) (look : ℕ → Option Document) (v : Sight) (p : Path) (f g : Former) (k : ℕ) → ((x : Document) → ds (id.Prev k p) ≡ Some x → IsCopyOf p k g x) → IsShownIn v g (gone_by copy look) → (look k ≡ ds (id.Prev k p)) ⊎ (look k ≡ None)
+    → IsShownIn v f (gone_by copy look) → IsShownIn v f (gone_by copy (look_too look k (ds (id.Prev k p))))
+shown_found ds copy look v p f g k copied its way shown = by (ds (id.Prev k p)) refl way
+  where
+    same : (o : Option Document) → look k ≡ o → IsShownIn v f (gone_by copy (look_too look k o))
+    same o is = subst (λ (l : ℕ → Option Document). IsShownIn v f (gone_by copy l)) (sym (same_too look k o is)) shown
+
+    by : (o : Option Document) → ds (id.Prev k p) ≡ o → (look k ≡ o) ⊎ (look k ≡ None) → IsShownIn v f (gone_by copy (look_too look k o))
+    by o is (inl one) = same o one
+    by None is (inr none) = same None none
+    by (Some x) is (inr none) = shown_more copy look k x none v f g p (copied x is) its shown
 
 -- a reader begins with a copy of a document: each former document that is followed is shown
 pub shown_copy : (ds : Documents) (c : Course) (v t : Sight) (p : Path) (copy : Document) (f : Former) → IsHeldPair c v t → ds (id.Node p) ≡ Some copy → IsFollowed ds c p f → IsShownIn v f (gone_by copy (λ k. ds (id.Prev k p)))
-shown_copy ds c v t p copy f held is followed n r had seen = elim (followed n r had) [
-  | inl there ↦ (r, seen, subst (λ l. IsAmong l n r) all_is there)
-  | inr q ↦ (q.0, held.base q.0 q.1, subst (λ l. IsAmong l n (q.0)) all_is q.2)
+shown_copy ds c v t p copy f held is followed n r x had seen = elim (followed n r x had) [
+  | inl there ↦ inl (subst (λ l. of_revision (values_in n l) r ≡ Some x) all_is there)
+  | inr q ↦ inr (q.0, q.1, held.base q.0 q.2, subst (λ l. IsAmong l n (q.0)) all_is q.3)
 ]
   where
     all_is : all_at ds p ≡ gone_by copy (λ k. ds (id.Prev k p))

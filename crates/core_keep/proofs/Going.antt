@@ -180,9 +180,8 @@ module _ (ds now : Documents) (c : Course) (keeps : Keeps ds c) (course : IsCour
         is,
         λ n r s u.
             let one : l.0 ≡ old = ap (λ o. unwrap_or o (l.0)) (sym l.1 ∙ is) in
-            let f = (keeps at).previous old is (l.2).0 (subst (λ (y : Document). IsIn (l.2).0 y.prev) one (l.2).1) in
-            let same : f.0 ≡ x = ap (λ o. unwrap_or o x) (sym f.1 ∙ (ap (λ (j : ℕ). ds (id.Prev j at)) (l.2).2 ∙ h)) in
-            let g = f.2.behind n r (ap (λ (y : Document). is_some (of_revision (values_of_property y.props n) r)) same ∙ u) in
+            let f = (keeps at).previous old is (l.2).0 (subst (λ (y : Document). IsIn (l.2).0 y.prev) one (l.2).1) x (ap (λ (j : ℕ). ds (id.Prev j at)) (l.2).2 ∙ h) in
+            let g = f.behind n r u in
             (g.0, g.1, held.base g.0 (unwanted.entries g.0 (inr (n, g.3))), g.3),
       )
 

@@ -22,8 +22,8 @@ use Rattle.oak_read.specs.Meaning.{Documents}
 use Rattle.oak_read.specs.Shown.{with_previous}
 use Rattle.core_read.specs.Commits.{Sight}
 use Rattle.core_read.specs.Told.{IsIn}
-use Rattle.core_keep.specs.Formers.{AreFormers, Former, Formers, Grows, IsCopyOf}
-use Rattle.core_keep.specs.Keeps.{Course, edit_in, Keeps, IsCourse, IsDownward, IsPrevious}
+use Rattle.core_keep.specs.Formers.{AreFormers, Former, Formers, Grows, Had, IsCopyOf}
+use Rattle.core_keep.specs.Keeps.{Course, edit_in, is_done, Keeps, IsCourse, IsDownward, IsPrevious}
 use Rattle.core_keep.specs.Lookers.{HasNothing, Looks, LooksOn}
 use Rattle.core_keep.specs.Readers.{asked_too, gone_by, IsListed, look_on, look_too}
 use Rattle.core_keep.specs.Standing.{all_at, values_in}
@@ -37,9 +37,9 @@ use Rattle.core_read.proofs.Latest.{before_itself}
 
 -- ---- it begins: it has a copy of the document before its write
 
-pub looks_begin : (ds : Documents) (c : Course) (formers : Formers) (unseen : Sight) (p : Path) (copy : Document) → Keeps ds c → AreFormers ds c formers → ((o : Revision) → unseen o ≡ true → c.bound o ≡ false) → ds (id.Node p) ≡ Some copy
+pub looks_begin : (ds : Documents) (c : Course) (formers : Formers) (unseen : Sight) (p : Path) (copy : Document) → Keeps ds c → IsCourse c → AreFormers ds c formers → ((o : Revision) → unseen o ≡ true → c.bound o ≡ false) → ds (id.Node p) ≡ Some copy
     → Looks ds formers unseen p (all_at ds p) copy (λ k. false) (λ k. ds (id.Prev k p))
-looks_begin ds c formers unseen p copy keeps are unbound is = record {
+looks_begin ds c formers unseen p copy keeps course are unbound is = record {
   same = λ n o counts. ap (λ l. of_revision (values_in n l) o) (sym all_is);
   follows = λ e i a. inl refl;
   left = λ e i a x h. inl (copy, is, (e, i, refl));
@@ -49,11 +49,18 @@ looks_begin ds c formers unseen p copy keeps are unbound is = record {
     all_is : all_at ds p ≡ gone_by copy (λ k. ds (id.Prev k p))
     all_is = ap (λ o. option_map_or (with_previous ds p) o []) is
 
-    stood : (k : ℕ) (f : Former) → formers p k ≡ Some f → (n : Name) (o : Revision) (y : Option Property) → unseen o ≡ true → f.committed o ≡ true → of_revision (values_of_property f.document.props n) o ≡ Some y → of_revision (values_in n (all_at ds p)) o ≡ Some y
-    stood k f has n o y counts done there =
+    stood : (k : ℕ) (f : Former) → formers p k ≡ Some f → (n : Name) (o : Revision) (y : Option Property) → unseen o ≡ true → Had f n o y → of_revision (values_in n (all_at ds p)) o ≡ Some y
+    stood k f has n o y counts had =
         let former = are.former p k f has in
-        let ws = some_of (edit_in c o) (former.done o done) in
-        ((keeps p).prop n).exact o ws.0 ws.1 (unbound o counts) ∙ former.genuine n o ws.0 y done ws.1 there
+        let ws = committed o counts (former.done o had.0) in
+        ((keeps p).prop n).exact o ws.0 ws.1 (unbound o counts) ∙ former.genuine n o ws.0 y had ws.1
+      where
+        -- what was there from the beginning is seen by a bound
+        committed : (o : Revision) → unseen o ≡ true → is_done c o ≡ true → (ws : List Write) × (edit_in c o ≡ Some ws)
+        committed o counts done = elim (either_true (is_some (edit_in c o)) (c.old o) done) [
+          | inl e ↦ some_of (edit_in c o) e
+          | inr old ↦ absurd (false≢true (sym (unbound o counts) ∙ course.old_bound o old))
+        ]
 
 -- ---- others go on
 
@@ -163,7 +170,7 @@ looks_find ds formers unseen p stood copy asked look looks e i unasked copied = 
       | inr new ↦
           let f = looks.former e i in
           let is_copy = copied f.0 x f.1 is in
-          new.2 ∙ sym (f.2 n o new.0 counts (is_copy.committed n o (ap is_some new.1)) (is_copy.entries n o new.0 new.1))
+          new.2 ∙ sym (f.2 n o new.0 counts (is_copy.had n o new.0 new.1))
     ])
 
     by : (o : Option Document) → ds (id.Prev e.number p) ≡ o → (look e.number ≡ o) ⊎ (look e.number ≡ None) → Looks ds formers unseen p stood copy (asked_too asked e.number) (look_too look e.number o)
@@ -275,6 +282,5 @@ module _ (ds now : Documents) (c : Course) (keeps : Keeps ds c) (course : IsCour
         list k x h l true m =
             let one : p ≡ at = same_path p at m in
             let same : l.0 ≡ old = ap (λ o. unwrap_or o l.0) (sym l.1 ∙ (ap (λ (z : Path). ds (id.Node z)) one ∙ is)) in
-            let g = (keeps at).previous old is (l.2).0 (subst (λ (y : Document). IsIn (l.2).0 y.prev) same (l.2).1) in
-            let its : g.0 ≡ x = ap (λ o. unwrap_or o x) (sym g.1 ∙ (ap (λ (j : ℕ). ds (id.Prev j at)) (l.2).2 ∙ (ap (λ (z : Path). ds (id.Prev k z)) (sym one) ∙ h))) in
-            inr (λ n o counts. is_none (of_revision (values_of_property x.props n) o) (λ y has. false≢true (sym (unbound o counts) ∙ bounded n o (l.2).0.number g.0 g.2 y (ap (λ (d : Document). of_revision (values_of_property d.props n) o) its ∙ has))))
+            let g = (keeps at).previous old is (l.2).0 (subst (λ (y : Document). IsIn (l.2).0 y.prev) same (l.2).1) x (ap (λ (j : ℕ). ds (id.Prev j at)) (l.2).2 ∙ (ap (λ (z : Path). ds (id.Prev k z)) (sym one) ∙ h)) in
+            inr (λ n o counts. is_none (of_revision (values_of_property x.props n) o) (λ y has. false≢true (sym (unbound o counts) ∙ bounded n o (l.2).0.number x g y has)))

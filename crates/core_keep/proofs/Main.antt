@@ -120,23 +120,20 @@ module _ (ds now : Documents) (c : Course) (keeps : Keeps ds c) (course : IsCour
       subst (λ (y : Document). has_revision (now (commit_root_of y r)) r ≡ true) one
       (ap (λ i. has_revision (now i) r) root ∙ still_said ds now c keeps said p k.0 j r ws e s _ refl (at.rooted k.0 j r ws e s k.2))
 
-  previous : (e : PrevEntry) → IsIn e d.prev → (x : Document) × (now (id.Prev e.number p) ≡ Some x) × IsPrevious c p d e.number x
-  previous e i = by (ds (id.Node p)) refl (subst (λ l. IsIn e l) same.whole i)
+  previous : (e : PrevEntry) → IsIn e d.prev → (x : Document) → now (id.Prev e.number p) ≡ Some x → IsPrevious c p d e.number x
+  previous e i x there = by (ds (id.Node p)) refl (subst (λ l. IsIn e l) same.whole i)
     where
-      by : (o : Option Document) → ds (id.Node p) ≡ o → IsIn e (option_map_or (λ d. d.prev) o []) → (x : Document) × (now (id.Prev e.number p) ≡ Some x) × IsPrevious c p d e.number x
+      by : (o : Option Document) → ds (id.Node p) ≡ o → IsIn e (option_map_or (λ d. d.prev) o []) → IsPrevious c p d e.number x
       by None k i = absurd i
       by (Some old) k i =
-          let f = at.previous old k e i in (
-            f.0,
-            main.previous_here e.number ∙ f.1,
-            record {
-              named = f.2.named;
-              plain = f.2.plain;
-              done = f.2.done;
-              genuine = f.2.genuine;
-              behind = λ n r h. let g = f.2.behind n r h in (g.0, g.1, g.2, ap is_some ((same.at g.0 (not_true (own g.0) (λ h. not_done g.0 h g.2))).prop n ∙ ap (λ o. prop_entry o n g.0) k) ∙ g.3);
-            },
-          )
+          let f = at.previous old k e i x (sym (main.previous_here e.number) ∙ there) in
+          record {
+            named = f.named;
+            plain = f.plain;
+            done = f.done;
+            genuine = f.genuine;
+            behind = λ n r h. let g = f.behind n r h in (g.0, g.1, g.2, ap is_some ((same.at g.0 (not_true (own g.0) (λ h. not_done g.0 h g.2))).prop n ∙ ap (λ o. prop_entry o n g.0) k) ∙ g.3);
+          }
 
   value_of : (o : Option Document) (x y : Document) → o ≡ Some x → o ≡ Some y → x ≡ y
   value_of o x y h k = ap (λ o. unwrap_or o x) (sym h ∙ k)
@@ -149,7 +146,7 @@ module _ (ds now : Documents) (c : Course) (keeps : Keeps ds c) (course : IsCour
     unsaid = λ r e o. ap (λ o. has_revision o r) main.at ∙ same.unsaid r e o (at.unsaid r e o);
     no_root = λ r e o f. ap (λ o. root_entry o r) main.at ∙ ((same.at r (not_true (own r) (λ h. false≢true (sym f ∙ (open_ r h).1)))).root ∙ at.no_root r e o f);
     named = λ x h. ap (λ (y : Document). y.id) (value_of _ x d h main.at) ∙ same.named;
-    previous = λ x h. subst (λ (y : Document). (e : PrevEntry) → IsIn e y.prev → (z : Document) × (now (id.Prev e.number p) ≡ Some z) × IsPrevious c p y e.number z) (value_of _ d x main.at h) previous;
+    previous = λ x h. subst (λ (y : Document). (e : PrevEntry) → IsIn e y.prev → (z : Document) → now (id.Prev e.number p) ≡ Some z → IsPrevious c p y e.number z) (value_of _ d x main.at h) previous;
   }
 
   -- a document changes but for entries of revisions that are open

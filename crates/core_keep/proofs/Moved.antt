@@ -133,23 +133,22 @@ module _ (ds now : Documents) (c : Course) (keeps : Keeps ds c) (p : Path) (old 
           let root : commit_root_of x r ≡ commit_root_of old r = same_place _ _ (moved.noted h.0 r h.1) x old (ap main_of moved.listed.named ∙ sym (ap main_of (at.named old is))) (ap path_of moved.listed.named ∙ sym (ap path_of (at.named old is))) in
           ap (λ i. has_revision (now i) r) root ∙ still_said ds now c keeps said p old old_in r ws e s _ refl (at.rooted old old_in r ws e s (inr (h.0, moved_was h.0 r h.1)))
 
-  previous : (f : PrevEntry) → IsIn f d.prev → (y : Document) × (now (id.Prev f.number p) ≡ Some y) × IsPrevious c p d f.number y
-  previous f i = by (subst (λ l. IsIn f l) moved.prev i)
+  previous : (f : PrevEntry) → IsIn f d.prev → (y : Document) → now (id.Prev f.number p) ≡ Some y → IsPrevious c p d f.number y
+  previous f i y stands = by (subst (λ l. IsIn f l) moved.prev i)
     where
-      by : IsIn f (e ∷ old.prev) → (y : Document) × (now (id.Prev f.number p) ≡ Some y) × IsPrevious c p d f.number y
-      by (inl one) = subst (λ (f : PrevEntry). (y : Document) × (now (id.Prev f.number p) ≡ Some y) × IsPrevious c p d f.number y) one (x, main.previous_here e.number ∙ there, moved.listed)
+      by : IsIn f (e ∷ old.prev) → IsPrevious c p d f.number y
+      by (inl one) =
+          let same : x ≡ y = value_of (ds (id.Prev f.number p)) x y (ap (λ (g : PrevEntry). ds (id.Prev g.number p)) (sym one) ∙ there) (sym (main.previous_here f.number) ∙ stands) in
+          subst (λ (f : PrevEntry). IsPrevious c p d f.number y) one (subst (λ (z : Document). IsPrevious c p d e.number z) same moved.listed)
       by (inr j) =
-          let g = at.previous old is f j in (
-            g.0,
-            main.previous_here f.number ∙ g.1,
-            record {
-              named = g.2.named;
-              plain = g.2.plain;
-              done = g.2.done;
-              genuine = g.2.genuine;
-              behind = λ n r h. let k = g.2.behind n r h in later n r k.0 k.1 k.2 k.3 (of_revision (values_of_property d.props n) k.0) refl;
-            },
-          )
+          let g = at.previous old is f j y (sym (main.previous_here f.number) ∙ stands) in
+          record {
+            named = g.named;
+            plain = g.plain;
+            done = g.done;
+            genuine = g.genuine;
+            behind = λ n r h. let k = g.behind n r h in later n r k.0 k.1 k.2 k.3 (of_revision (values_of_property d.props n) k.0) refl;
+          }
         where
           later : (n : Name) (r q : Revision) → is_before r q ≡ true → is_done c q ≡ true → is_some (of_revision (values_of_property old.props n) q) ≡ true → (o : Option (Option Property)) → of_revision (values_of_property d.props n) q ≡ o
               → (z : Revision) × (is_before r z ≡ true) × (is_done c z ≡ true) × (is_some (of_revision (values_of_property d.props n) z) ≡ true)
@@ -168,7 +167,7 @@ module _ (ds now : Documents) (c : Course) (keeps : Keeps ds c) (p : Path) (old 
     unsaid = λ r e o. ap (λ o. has_revision o r) main.at ∙ (ap (λ es. is_some (of_revision es r)) moved.revisions ∙ (sym (ap (λ o. has_revision o r) is) ∙ at.unsaid r e o));
     no_root = λ r e o f. ap (λ o. root_entry o r) main.at ∙ (ap (λ (es : List (Revision × ℕ)). of_revision es r) moved.roots ∙ (sym (ap (λ o. root_entry o r) is) ∙ at.no_root r e o f));
     named = λ y h. ap (λ (y : Document). y.id) (value_of _ y d h main.at) ∙ moved.named;
-    previous = λ y h. subst (λ (y : Document). (f : PrevEntry) → IsIn f y.prev → (z : Document) × (now (id.Prev f.number p) ≡ Some z) × IsPrevious c p y f.number z) (value_of _ d y main.at h) previous;
+    previous = λ y h. subst (λ (y : Document). (f : PrevEntry) → IsIn f y.prev → (z : Document) → now (id.Prev f.number p) ≡ Some z → IsPrevious c p y f.number z) (value_of _ d y main.at h) previous;
   }
 
   pub moved_keeps : Keeps now c
@@ -204,7 +203,7 @@ module _ (ds now : Documents) (c : Course) (keeps : Keeps ds c) (course : IsCour
   no_all = ap (λ o. option_map_or (with_previous now p) o []) gone
 
   no_previous : gone_in (listed ds p (Some old)) ≡ []
-  no_previous = plain_listed ds c p old (λ e i x h. let f = at_old.previous old is e i in ap (λ (y : Document). y.deleted) (ap (λ o. unwrap_or o x) (sym h ∙ f.1)) ∙ f.2.plain)
+  no_previous = plain_listed ds c p old (λ e i x h. (at_old.previous old is e i x h).plain)
 
   or_none : {X : Type 0} (o : Option X) → option_or o None ≡ o
   or_none None = refl
@@ -258,9 +257,7 @@ module _ (ds now : Documents) (c : Course) (keeps : Keeps ds c) (course : IsCour
           by x (inl one) k = false≢true (sym b ∙ unwanted.entries q (inr (n, ap (λ (y : Document). is_some (of_revision (values_of_property y.props n) q)) one ∙ k)))
           by x (inr i) k =
               let g = previous_in ds p old.prev x i in
-              let m = at_old.previous old is g.0 g.1 in
-              let one : m.0 ≡ x = ap (λ o. unwrap_or o x) (sym m.1 ∙ g.2) in
-              let z = m.2.behind n q (ap (λ (y : Document). is_some (of_revision (values_of_property y.props n) q)) one ∙ k) in
+              let z = (at_old.previous old is g.0 g.1 x g.2).behind n q k in
               later v h z.0 z.1 z.2 z.3 (edit_in c z.0) refl
 
   -- nothing stands there, and nothing has to

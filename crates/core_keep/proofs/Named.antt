@@ -34,9 +34,7 @@ module _ (ds : Documents) (c : Course) (p : Path) (at : KeepsAt ds c p) where
       by (Some d) h (inl same) = ap (λ (y : Document). main_of y.id) (sym same) ∙ ap main_of (at.named d h)
       by (Some d) h (inr i) =
           let q = previous_in ds p d.prev x i in
-          let k = at.previous d h q.0 q.1 in
-          let one : k.0 ≡ x = ap (λ o. unwrap_or o x) (sym k.1 ∙ q.2) in
-          ap (λ (y : Document). main_of y.id) (sym one) ∙ ap main_of k.2.named
+          ap main_of (at.previous d h q.0 q.1 x q.2).named
 
   pub root_is_node : (x : Document) → IsIn x (all_at ds p) → (r : Revision) → (q : Path) × (commit_root_of x r ≡ id.Node q)
   root_is_node x i r = by (of_revision x.commit_root r)

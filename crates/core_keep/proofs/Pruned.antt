@@ -98,9 +98,7 @@ module _ (ds now : Documents) (c : Course) (keeps : Keeps ds c) (course : IsCour
   in_old e i = in_filter keep old.prev e (subst (λ l. IsIn e l) pruned.prev.1 i)
 
   plain_old : (e : PrevEntry) → IsIn e old.prev → (x : Document) → ds (id.Prev e.number p) ≡ Some x → x.deleted ≡ []
-  plain_old e i x h =
-      let f = at.previous old is e i in
-      ap (λ (y : Document). y.deleted) (ap (λ o. unwrap_or o x) (sym h ∙ f.1)) ∙ f.2.plain
+  plain_old e i x h = (at.previous old is e i x h).plain
 
   gone_old : gone_in (listed ds p (Some old)) ≡ []
   gone_old = plain_listed ds c p old plain_old
@@ -217,9 +215,7 @@ module _ (ds now : Documents) (c : Course) (keeps : Keeps ds c) (course : IsCour
       by (inr k) =
           let f = value_from n (listed now p (Some d)) r v k.1 in
           let g = previous_in ds p old.prev f.0 (listed_was f.0 f.1) in
-          let m = at.previous old is g.0 g.1 in
-          let one : m.0 ≡ f.0 = ap (λ o. unwrap_or o f.0) (sym m.1 ∙ g.2) in
-          m.2.genuine n r ws v e (ap (λ (x : Document). of_revision (values_of_property x.props n) r) one ∙ f.2)
+          (at.previous old is g.0 g.1 f.0 g.2).genuine n r ws v e f.2
 
   prop : (n : Name) → Rattle.core_keep.specs.Keeps.KeepsValue c p n (values_in n (all_at now p))
   prop n = item_left (put_of p n) shows_value (property_at c.tree p n) c (values_in n (all_at ds p)) _ (at.prop n) (prop_each n) (prop_sub n) (prop_genuine n)
@@ -256,19 +252,16 @@ module _ (ds now : Documents) (c : Course) (keeps : Keeps ds c) (course : IsCour
       (value_was n q ∙ ap (λ o. option_or o (of_revision (values_in n (listed ds p (Some old))) q)) (left_sub c _ _ (pruned.props n) q x.0 x.1))
       (λ f e. false≢true (sym (course.bound_done q f e) ∙ b))
 
-  previous : (e : PrevEntry) → IsIn e d.prev → (x : Document) × (now (id.Prev e.number p) ≡ Some x) × IsPrevious c p d e.number x
-  previous e i =
-      let f = at.previous old is e (in_old e i) in (
-        f.0,
-        main.previous_here e.number ∙ f.1,
-        record {
-          named = f.2.named;
-          plain = f.2.plain;
-          done = f.2.done;
-          genuine = f.2.genuine;
-          behind = λ n r h. let g = f.2.behind n r h in by n r g.0 g.1 g.2 g.3 ((pruned.props n).each g.0);
-        },
-      )
+  previous : (e : PrevEntry) → IsIn e d.prev → (x : Document) → now (id.Prev e.number p) ≡ Some x → IsPrevious c p d e.number x
+  previous e i x there =
+      let f = at.previous old is e (in_old e i) x (sym (main.previous_here e.number) ∙ there) in
+      record {
+        named = f.named;
+        plain = f.plain;
+        done = f.done;
+        genuine = f.genuine;
+        behind = λ n r h. let g = f.behind n r h in by n r g.0 g.1 g.2 g.3 ((pruned.props n).each g.0);
+      }
     where
       by : (n : Name) (r q : Revision) → is_before r q ≡ true → is_done c q ≡ true → is_some (of_revision (values_of_property old.props n) q) ≡ true
           → (of_revision (values_of_property d.props n) q ≡ of_revision (values_of_property old.props n) q) ⊎ ((of_revision (values_of_property d.props n) q ≡ None) × (c.bound q ≡ true) × ((r : Revision) × (is_before q r ≡ true) × (c.bound r ≡ true) × (is_some (of_revision (values_of_property d.props n) r) ≡ true)))
@@ -287,7 +280,7 @@ module _ (ds now : Documents) (c : Course) (keeps : Keeps ds c) (course : IsCour
     unsaid = λ r e o. ap (λ o. has_revision o r) main.at ∙ not_true _ (λ h. false≢true (sym (at.unsaid r e o) ∙ (ap (λ o. has_revision o r) is ∙ pruned.revisions.sub r h)));
     no_root = λ r e o f. ap (λ o. root_entry o r) main.at ∙ is_none _ (λ x h. false≢true (sym (ap is_some (at.no_root r e o f)) ∙ (ap (λ o. is_some (root_entry o r)) is ∙ pruned.roots.sub r (ap is_some h))));
     named = λ x h. ap (λ (y : Document). y.id) (value_of _ x d h main.at) ∙ pruned.named;
-    previous = λ x h. subst (λ (y : Document). (e : PrevEntry) → IsIn e y.prev → (z : Document) × (now (id.Prev e.number p) ≡ Some z) × IsPrevious c p y e.number z) (value_of _ d x main.at h) previous;
+    previous = λ x h. subst (λ (y : Document). (e : PrevEntry) → IsIn e y.prev → (z : Document) → now (id.Prev e.number p) ≡ Some z → IsPrevious c p y e.number z) (value_of _ d x main.at h) previous;
   }
 
   -- a document loses garbage entries, and lists no more what is garbage

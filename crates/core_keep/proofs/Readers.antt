@@ -28,15 +28,16 @@ use Rattle.core_keep.specs.Standing.{all_at, gone_of, gone_in, values_in, shows_
 use Rattle.core_keep.specs.Keeps.{Course, edit_in, is_done, Matches, Keeps, KeepsAt, IsCourse, IsDownward, IsHeldPair, Shows}
 use Rattle.core_keep.specs.Steps.{IsUnlisted}
 use Rattle.core_keep.specs.Readers.{gone_by, HasLater, IsOutdone, IsListed, Reads, GoesOn, asked_too, look_on, Knows}
-use Rattle.core_keep.specs.Formers.{Former, IsAmong, IsShownIn}
+use Rattle.core_keep.specs.Formers.{Former, IsKeptIn, IsShownIn}
 use Rattle.core_keep.proofs.Item.{latest_of, is_none, not_true, some_of, cond_some, either_true, matches}
 use Rattle.core_keep.proofs.Found.{found_append, among, same_filter, filter-append}
 use Rattle.core_keep.proofs.Shown.{found_by, found_there, found_born}
 use Rattle.core_keep.proofs.AtPath.{same_listed, value_from}
+use Rattle.core_keep.proofs.Pruned.{before_trans}
 
 -- ---- the last of what is seen stays, where what goes has a later one that stays
 
-last_left : {X : Type 0} (s : Sight) (es left : List (Revision × X)) → ((q : Revision) → s q ≡ true → (of_revision left q ≡ of_revision es q) ⊎ ((r : Revision) × (is_before q r ≡ true) × (s r ≡ true) × (is_some (of_revision left r) ≡ true)))
+pub last_left : {X : Type 0} (s : Sight) (es left : List (Revision × X)) → ((q : Revision) → s q ≡ true → (of_revision left q ≡ of_revision es q) ⊎ ((r : Revision) × (is_before q r ≡ true) × (s r ≡ true) × (is_some (of_revision left r) ≡ true)))
     → ((q : Revision) → is_some (of_revision left q) ≡ true → is_some (of_revision es q) ≡ true) → latest (filter (λ e. s e.0) left) ≡ latest (filter (λ e. s e.0) es)
 last_left {X} s es left each sub = only_entry (passing s left) (passing s left) (λ q. refl) _ _ (latest_of s left) (top _ (latest_of s es))
   where
@@ -136,9 +137,8 @@ module _ (ds : Documents) (c : Course) (keeps : Keeps ds c) (course : IsCourse c
     prop = λ n. subst (λ l. Matches shows_value (property_at c.tree p n) (last_entry (put_of p n) v c.commits) (latest (filter (λ e. v e.0) (values_in n l)))) all_is (prop_here n);
     named = at.named copy is;
     previous = λ e i x h.
-        let k = at.previous copy is e i in
-        let one : k.0 ≡ x = ap (λ o. unwrap_or o x) (sym k.1 ∙ h) in
-        (ap (λ (y : Document). y.id) (sym one) ∙ k.2.named, ap (λ (y : Document). y.deleted) (sym one) ∙ k.2.plain);
+        let k = at.previous copy is e i x h in
+        (k.named, k.plain);
     done = λ x i. entry_is_done x (subst (λ l. IsIn x l) (sym all_is) i);
     said = λ x i. entry_is_said x (subst (λ l. IsIn x l) (sym all_is) i);
     within = λ d h n q s k. ap (λ (y : Document). is_some (of_revision (values_of_property y.props n) q)) (ap (λ o. unwrap_or o d) (sym is ∙ h)) ∙ k;
@@ -282,13 +282,22 @@ module _ (ds now : Documents) (c later : Course) (v t : Sight) (p : Path) (copy 
 
   -- what shows a former document shows it still
   pub shown_on : (f : Former) → IsShownIn v f (gone_by copy look) → IsShownIn v f (gone_by copy look')
-  shown_on f shown n r had seen = let q = shown n r had seen in by q.0 q.1 q.2 (value_each n q.0 q.1)
+  shown_on f shown n r x had seen = elim (shown n r x had seen) [
+    | inl there ↦ stands n r x there (value_each n r seen)
+    | inr q ↦ inr (after n r q.0 q.1 q.2 q.3 (value_each n q.0 q.2))
+  ]
     where
-      by : (q : Revision) → v q ≡ true → is_some (of_revision (values_in n (gone_by copy look)) q) ≡ true
-          → (of_revision (values_in n (gone_by copy look')) q ≡ of_revision (values_in n (gone_by copy look)) q) ⊎ ((u : Revision) × (is_before q u ≡ true) × (v u ≡ true) × (is_some (of_revision (values_in n (gone_by copy look')) u) ≡ true))
-          → (q : Revision) × IsTrue (v q) × IsAmong (gone_by copy look') n q
-      by q saw there (inl same) = (q, saw, ap is_some same ∙ there)
-      by q saw there (inr later) = (later.0, later.2, later.3)
+      Now : Name → Revision → Type 0
+      Now n q = (of_revision (values_in n (gone_by copy look')) q ≡ of_revision (values_in n (gone_by copy look)) q) ⊎ ((u : Revision) × (is_before q u ≡ true) × (v u ≡ true) × (is_some (of_revision (values_in n (gone_by copy look')) u) ≡ true))
+
+      stands : (n : Name) (q : Revision) (x : Option Property) → of_revision (values_in n (gone_by copy look)) q ≡ Some x → Now n q → IsKeptIn v (gone_by copy look') n q x
+      stands n q x there (inl same) = inl (same ∙ there)
+      stands n q x there (inr later) = inr later
+
+      after : (n : Name) (r q : Revision) → is_before r q ≡ true → v q ≡ true → is_some (of_revision (values_in n (gone_by copy look)) q) ≡ true → Now n q
+          → (u : Revision) × (is_before r u ≡ true) × (v u ≡ true) × (is_some (of_revision (values_in n (gone_by copy look')) u) ≡ true)
+      after n r q before saw there (inl same) = (q, before, saw, ap is_some same ∙ there)
+      after n r q before saw there (inr later) = (later.0, before_trans r q later.0 before later.1, later.2, later.3)
 
   -- ---- statuses
 

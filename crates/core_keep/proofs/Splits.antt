@@ -581,12 +581,12 @@ module _ (ds : Documents) (pin : Pin) (old : Document) (e : PrevEntry) (first se
 
   -- what a split writes is a copy of what the document had that it read, be it late
   pub split_copies : (p : Path) → old.id ≡ id.Node p → (f : Former) → f.document ≡ old
-      → ((n : Name) (r : Revision) → is_some (of_revision (values_of_property old.props n) r) ≡ true → (sees pin.base r && is_committed ds pin.sweep old r) ≡ true → f.committed r ≡ true) → IsCopyOf p old.mod_count f x
+      → ((n : Name) (r : Revision) → is_some (of_revision (values_of_property old.props n) r) ≡ true → (sees pin.base r && is_committed ds pin.sweep old r) ≡ true → f.done r ≡ true) → IsCopyOf p old.mod_count f x
   split_copies p named f same counted = record {
     named = x_named;
     plain = ap (λ (e : Document). e.deleted) shape_x ∙ ((beside_all ps noted).deleted ∙ (noted_all (moved_roots ds pin old) begun).deleted);
-    committed = λ n r h. let v = some_of _ (moved_some n r h) in let m = moved_from n r v.0 v.1 in counted n r (ap is_some m.1) m.0;
-    entries = λ n r y h. ap (λ (d : Document). of_revision (values_of_property d.props n) r) same ∙ (moved_from n r y (sym (value_x n r) ∙ h)).1;
+    numbered = ap (λ (d : Document). d.mod_count) same;
+    had = λ n r y h. let m = moved_from n r y (sym (value_x n r) ∙ h) in (counted n r (ap is_some m.1) m.0, ap (λ (d : Document). of_revision (values_of_property d.props n) r) same ∙ m.1);
     roots = λ n r h. root_place (of_revision x.commit_root r) (of_revision old.commit_root r) (root_x n r h) x old (ap main_of x_named ∙ sym (ap main_of named)) (ap path_of x_named ∙ sym (ap path_of named)) ∙ ap (λ (d : Document). commit_root_of d r) (sym same);
   }
     where
@@ -626,6 +626,7 @@ module _ (ds : Documents) (pin : Pin) (old : Document) (e : PrevEntry) (first se
       revisions = (leaves_all ps old).revisions;
       named = (same_parts (all_keys ps) old).1 ∙ at.named old is;
       props = props_join;
+      parted = λ n r h. value_d n r ∙ ap (λ b. cond b None (of_revision (values_of_property old.props n) r)) (moved_some n r h);
       noted = root_x;
       listed = listed;
     }

@@ -37,11 +37,14 @@ is_garbage_of m t d (field.Prop n) r = is_superseded m t (keys_of (values_of_pro
 abbrev pub is_number_of : List ℕ → PrevEntry → Bool
 is_number_of ns e = list_any (λ n. e.number == n) ns
 
--- an update drops entries of a document that are garbage of a bound, any of them, and unlists previous documents that are
-pub record DropsGarbage (ds : Documents) (m t : RevVec) (p : Path) (d : Document) (op : UpdateOp) (keys : List EntryKey) (ns : List ℕ) : Type 0 where
+-- an update drops entries of a document that are garbage of a bound, any of them, and unlists
+-- previous documents that are
+pub record DropsGarbage (ds : Documents) (m t : RevVec) (p : Path) (d : Document) (op : UpdateOp)
+    (keys : List EntryKey) (ns : List ℕ) : Type 0 where
   pub changes : op.changes ≡ change.Prune keys ∷ map change.Unlist ns
   pub entries : (k : EntryKey) → IsIn k keys → IsTrue (is_garbage_of m t d k.field k.revision)
-  pub previous : (e : PrevEntry) → IsIn e d.prev → IsTrue (is_number_of ns e) → (x : Document) → ds (id.Prev e.number p) ≡ Some x → IsTrue (is_garbage_previous m t d x)
+  pub previous : (e : PrevEntry) → IsIn e d.prev → IsTrue (is_number_of ns e) → (x : Document)
+      → ds (id.Prev e.number p) ≡ Some x → IsTrue (is_garbage_previous m t d x)
 
 -- of a revision a document has what there was, in each field: entries, marks, notes and statuses
 pub record IsLeftAlone (q : Revision) (old d : Document) : Type 0 where
@@ -51,7 +54,8 @@ pub record IsLeftAlone (q : Revision) (old d : Document) : Type 0 where
   pub collisions : of_revision d.collisions q ≡ of_revision old.collisions q
   pub touched : of_revision d.touched q ≡ of_revision old.touched q
   pub guard : of_revision d.guard q ≡ of_revision old.guard q
-  pub props : (n : Name) → of_revision (values_of_property d.props n) q ≡ of_revision (values_of_property old.props n) q
+  pub props : (n : Name) → of_revision (values_of_property d.props n) q
+      ≡ of_revision (values_of_property old.props n) q
 
 -- nothing of a revision stands in a document
 pub record IsWithout (q : Revision) (d : Document) : Type 0 where
@@ -70,12 +74,20 @@ pub record IsSaidStill (q : Revision) (old d : Document) : Type 0 where
 
 -- all that a document has by revision was there, and it has its name
 pub record IsWithin (old d : Document) : Type 0 where
-  pub deleted : (q : Revision) → IsTrue (is_some (of_revision d.deleted q)) → IsTrue (is_some (of_revision old.deleted q))
-  pub roots : (q : Revision) → IsTrue (is_some (of_revision d.commit_root q)) → IsTrue (is_some (of_revision old.commit_root q))
-  pub revisions : (q : Revision) → IsTrue (is_some (of_revision d.revisions q)) → IsTrue (is_some (of_revision old.revisions q))
-  pub collisions : (q : Revision) (x : Revision × Item) → of_revision d.collisions q ≡ Some x → of_revision old.collisions q ≡ Some x
-  pub touched : (q : Revision) → IsTrue (is_some (of_revision d.touched q)) → IsTrue (is_some (of_revision old.touched q))
-  pub guard : (q : Revision) → IsTrue (is_some (of_revision d.guard q)) → IsTrue (is_some (of_revision old.guard q))
-  pub props : (n : Name) (q : Revision) → IsTrue (is_some (of_revision (values_of_property d.props n) q)) → IsTrue (is_some (of_revision (values_of_property old.props n) q))
+  pub deleted : (q : Revision) → IsTrue (is_some (of_revision d.deleted q))
+      → IsTrue (is_some (of_revision old.deleted q))
+  pub roots : (q : Revision) → IsTrue (is_some (of_revision d.commit_root q))
+      → IsTrue (is_some (of_revision old.commit_root q))
+  pub revisions : (q : Revision) → IsTrue (is_some (of_revision d.revisions q))
+      → IsTrue (is_some (of_revision old.revisions q))
+  pub collisions : (q : Revision) (x : Revision × Item) → of_revision d.collisions q ≡ Some x
+      → of_revision old.collisions q ≡ Some x
+  pub touched : (q : Revision) → IsTrue (is_some (of_revision d.touched q))
+      → IsTrue (is_some (of_revision old.touched q))
+  pub guard : (q : Revision) → IsTrue (is_some (of_revision d.guard q))
+      → IsTrue (is_some (of_revision old.guard q))
+  pub props : (n : Name) (q : Revision)
+      → IsTrue (is_some (of_revision (values_of_property d.props n) q))
+      → IsTrue (is_some (of_revision (values_of_property old.props n) q))
   pub named : d.id ≡ old.id
   pub names : IsTrue (is_sorted name_cmp d.props)

@@ -14,17 +14,21 @@ use Rattle.core_read.specs.Holds.{onto}
 use Rattle.core_keep.specs.Keeps.{Course}
 use Rattle.core_keep.specs.Journal.{is_bounded, is_swept}
 
--- the tree that is seen, from a first one on: the edits that are seen, applied in ascending order, each with its revision
+-- the tree that is seen, from a first one on: the edits that are seen, applied in ascending order,
+-- each with its revision
 abbrev pub tree_from : Nodes → Sight → Commits → Nodes
 tree_from b s [] = b
 tree_from b s (e ∷ es) = cond (s e.0) (applied (Some e.0) (tree_from b s es) e.1) (tree_from b s es)
 
--- an edit is proper on the tree of its base, which is closed, and it is apart from each earlier one that its base doesn't see
-pub record IsSoundFrom (b : Nodes) (base : Revision → Sight) (e : Revision × List Write) (es : Commits) : Type 0 where
+-- an edit is proper on the tree of its base, which is closed, and it is apart from each earlier one
+-- that its base doesn't see
+pub record IsSoundFrom (b : Nodes) (base : Revision → Sight) (e : Revision × List Write)
+    (es : Commits) : Type 0 where
   pub proper : IsProper (tree_from b (base e.0) es) e.1
   pub closed : Closed base (base e.0) es
   pub apart : Each (λ o. IsFalse (base e.0 o.0) → Apart e.1 o.1) es
 
+-- each commit is sound over those before it, from a first tree on
 abbrev pub AreSoundFrom : Nodes → (Revision → Sight) → Commits → Type 0
 AreSoundFrom b base [] = Unit {0}
 AreSoundFrom b base (e ∷ es) = IsSoundFrom b base e es × AreSoundFrom b base es
@@ -38,7 +42,8 @@ pub record IsFirst (b : Nodes) : Type 0 where
 abbrev pub falling_from : Past → Commits
 falling_from past = onto [] (committed_edits past)
 
--- what a journal that begins with a start tells of documents: its tree is there from the beginning, and bounds and sweeps see its vector
+-- what a journal that begins with a start tells of documents: its tree is there from the beginning,
+-- and bounds and sweeps see its vector
 abbrev pub course_from : Start → Past → Course
 course_from start past = record {
   tree = start.tree;

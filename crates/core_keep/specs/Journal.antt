@@ -56,27 +56,34 @@ course_of past = record {
 -- no item is written by both
 pub record Separate (ws us : List Write) : Type 0 where
   pub node : (p : Path) → IsTrue (is_some (written (here_of p) ws)) → written (here_of p) us ≡ None
-  pub prop : (p : Path) (n : Name) → IsTrue (is_some (written (put_of p n) ws)) → written (put_of p n) us ≡ None
+  pub prop : (p : Path) (n : Name) → IsTrue (is_some (written (put_of p n) ws))
+      → written (put_of p n) us ≡ None
 
 -- of two committed edits that write one item, the later one's base sees the earlier one
 abbrev pub AreSeparate : Past → Type 0
-AreSeparate past = (r : Revision) (ws : List Write) → edit_of past r ≡ Some ws → (o : Revision) (us : List Write) → edit_of past o ≡ Some us → IsTrue (is_before o r) → IsFalse (is_in_base past r o) → Separate ws us
+AreSeparate past =
+    (r : Revision) (ws : List Write) → edit_of past r ≡ Some ws → (o : Revision) (us : List Write)
+    → edit_of past o ≡ Some us → IsTrue (is_before o r) → IsFalse (is_in_base past r o)
+    → Separate ws us
 
 -- a sight is settled and closed
 pub record IsUsed (past : Past) (s : Sight) : Type 0 where
   pub settled : (o : Revision) → IsTrue (is_in_flight past o) → IsFalse (s o)
   pub closed : IsClosedSight past s
 
--- the documents keep what the journal tells, which is told and whose bounds can be used; and each draw in flight that isn't committed is written just where its progress says
+-- the documents keep what the journal tells, which is told and whose bounds can be used; and each
+-- draw in flight that isn't committed is written just where its progress says
 pub record IsKeptWorld (ds : Documents) (past : Past) (done : Progress) : Type 0 where
   pub keeps : Keeps ds (course_of past)
   pub told : IsTold past
   pub separate : AreSeparate past
   pub bounded : IsUsed past (is_bounded past)
   pub swept : (o : Revision) → IsTrue (is_in_flight past o) → IsFalse (is_swept past o)
-  pub partly : (r : Revision) (d : Draw) → draw_of past r ≡ Some d → IsTrue (is_in_flight past r) → edit_of past r ≡ None → IsPartly ds r d.edit.writes (commit_root d.marks) (done r)
+  pub partly : (r : Revision) (d : Draw) → draw_of past r ≡ Some d → IsTrue (is_in_flight past r)
+      → edit_of past r ≡ None → IsPartly ds r d.edit.writes (commit_root d.marks) (done r)
 
--- a pair is held: its base is in use, its sweep vector sees nothing in flight that isn't committed, and they see all that bounds so far see
+-- a pair is held: its base is in use, its sweep vector sees nothing in flight that isn't committed,
+-- and they see all that bounds so far see
 pub record IsHeld (past : Past) (v t : RevVec) : Type 0 where
   pub base : IsInUse past v
   pub sweep : IsSwept past t

@@ -1,4 +1,5 @@
--- What stands for an item at a path: entries of the node's document, and behind them those of the previous documents that it lists.
+-- What stands for an item at a path: entries of the node's document, and behind them those of the
+-- previous documents that it lists.
 use Rattle.std.specs.Prelude.{◌⊎◌, Bool, cond, not, List, [], Option, None, Some, is_some, IsTrue}
 use Rattle.std.specs.Option.{option_map, option_map_or}
 use Rattle.std.specs.List.{flat_map}
@@ -14,7 +15,8 @@ use Rattle.oak_doc.specs.Updates.{of_revision, values_of_property}
 use Rattle.oak_read.specs.Meaning.{Documents}
 use Rattle.oak_read.specs.Shown.{with_previous}
 
--- the documents at a path: that of the node, and the previous documents that it lists and that are there
+-- the documents at a path: that of the node, and the previous documents that it lists and that are
+-- there
 abbrev pub all_at : Documents → Path → List Document
 all_at ds p = option_map_or (with_previous ds p) (ds (id.Node p)) []
 
@@ -26,6 +28,7 @@ gone_of p w = option_map not (here_of p w)
 abbrev pub gone_in : List Document → List (Revision × Bool)
 gone_in all = flat_map (λ d. d.deleted) all
 
+-- the entries of a property in some documents
 abbrev pub values_in : Name → List Document → List (Revision × Option Property)
 values_in n all = flat_map (λ d. values_of_property d.props n) all
 
@@ -39,4 +42,6 @@ shows_value e = e.1
 
 -- a document has an entry of r: of its node, or of a property
 abbrev pub HasEntryOf : Revision → Document → Type 0
-HasEntryOf r d = IsTrue (is_some (of_revision d.deleted r)) ⊎ ((n : Name) × IsTrue (is_some (of_revision (values_of_property d.props n) r)))
+HasEntryOf r d =
+    IsTrue (is_some (of_revision d.deleted r))
+    ⊎ ((n : Name) × IsTrue (is_some (of_revision (values_of_property d.props n) r)))

@@ -22,7 +22,8 @@ use Rattle.core_keep.specs.Keeps.{Course, edit_in, IsPrevious}
 -- the documents are the same but for those at p
 pub record IsChangeAt (ds now : Documents) (p : Path) : Type 0 where
   pub node : (q : Path) → IsFalse (eq_by_cmp path_cmp q p) → now (id.Node q) ≡ ds (id.Node q)
-  pub previous : (k : ℕ) (q : Path) → IsFalse (eq_by_cmp path_cmp q p) → now (id.Prev k q) ≡ ds (id.Prev k q)
+  pub previous : (k : ℕ) (q : Path) → IsFalse (eq_by_cmp path_cmp q p) → now (id.Prev k q)
+      ≡ ds (id.Prev k q)
 
 -- the node's document alone is changed, and it is d now
 pub record IsMainAt (ds now : Documents) (p : Path) (d : Document) : Type 0 where
@@ -30,45 +31,68 @@ pub record IsMainAt (ds now : Documents) (p : Path) (d : Document) : Type 0 wher
   pub at : now (id.Node p) ≡ Some d
   pub previous_here : (k : ℕ) → now (id.Prev k p) ≡ ds (id.Prev k p)
 
--- the document has what there was, but for entries of these revisions, and nothing more is said to be committed but what is
-pub record IsSameBesides (c : Course) (own : Sight) (p : Path) (o : Option Document) (d : Document) : Type 0 where
+-- the document has what there was, but for entries of these revisions, and nothing more is said to
+-- be committed but what is
+pub record IsSameBesides (c : Course) (own : Sight) (p : Path) (o : Option Document)
+    (d : Document) : Type 0 where
   pub at : (q : Revision) → IsFalse (own q) → IsSameAt q o d
-  pub said : (q : Revision) → IsFalse (own q) → IsTrue (has_revision o q) → IsTrue (has_revision (Some d) q)
-  pub unsaid : (q : Revision) → edit_in c q ≡ None → IsFalse (c.old q) → IsFalse (has_revision o q) → IsFalse (has_revision (Some d) q)
+  pub said : (q : Revision) → IsFalse (own q) → IsTrue (has_revision o q)
+      → IsTrue (has_revision (Some d) q)
+  pub unsaid : (q : Revision) → edit_in c q ≡ None → IsFalse (c.old q) → IsFalse (has_revision o q)
+      → IsFalse (has_revision (Some d) q)
   pub whole : d.prev ≡ option_map_or (λ d. d.prev) o []
   pub named : d.id ≡ id.Node p
 
 -- entries that went: a bound sees each, and a later one that stands
 pub record AreLeft {X : Type 0} (c : Course) (es left : List (Revision × X)) : Type 0 where
-  pub each : (q : Revision) → (of_revision left q ≡ of_revision es q) ⊎ ((of_revision left q ≡ None) × IsTrue (c.bound q) × ((r : Revision) × IsTrue (is_before q r) × IsTrue (c.bound r) × IsTrue (is_some (of_revision left r))))
+  pub each : (q : Revision) → (of_revision left q ≡ of_revision es q)
+      ⊎ ((of_revision left q ≡ None) × IsTrue (c.bound q) × ((r : Revision)
+      × IsTrue (is_before q r) × IsTrue (c.bound r) × IsTrue (is_some (of_revision left r))))
 
 -- statuses and notes that went: a swept bound sees each
 pub record AreNotes {X : Type 0} (c : Course) (es left : List (Revision × X)) : Type 0 where
-  pub sub : (q : Revision) → IsTrue (is_some (of_revision left q)) → IsTrue (is_some (of_revision es q))
+  pub sub : (q : Revision) → IsTrue (is_some (of_revision left q))
+      → IsTrue (is_some (of_revision es q))
   pub kept : (q : Revision) → IsFalse (c.swept q) → of_revision left q ≡ of_revision es q
 
--- of a document entries went, and statuses, and it lists no more previous documents, of which each entry is seen by a bound that sees a later one that stands
+-- of a document entries went, and statuses, and it lists no more previous documents, of which each
+-- entry is seen by a bound that sees a later one that stands
 pub record IsPruned (ds : Documents) (c : Course) (p : Path) (old d : Document) : Type 0 where
   pub deleted : AreLeft c old.deleted d.deleted
   pub props : (n : Name) → AreLeft c (values_of_property old.props n) (values_of_property d.props n)
   pub roots : AreNotes c old.commit_root d.commit_root
   pub revisions : AreNotes c old.revisions d.revisions
-  pub prev : (keep : PrevEntry → Bool) × (d.prev ≡ filter keep old.prev) × ((e : PrevEntry) → IsIn e old.prev → IsFalse (keep e) → (x : Document) → ds (id.Prev e.number p) ≡ Some x
-      → (n : Name) (q : Revision) → IsTrue (is_some (of_revision (values_of_property x.props n) q)) → IsTrue (c.bound q) × ((r : Revision) × IsTrue (is_before q r) × IsTrue (c.bound r) × IsTrue (is_some (of_revision (values_of_property d.props n) r))))
+  pub prev : (keep : PrevEntry → Bool) × (d.prev ≡ filter keep old.prev)
+      × ((e : PrevEntry) → IsIn e old.prev → IsFalse (keep e) → (x : Document)
+      → ds (id.Prev e.number p) ≡ Some x
+      → (n : Name) (q : Revision) → IsTrue (is_some (of_revision (values_of_property x.props n) q))
+      → IsTrue (c.bound q)
+      × ((r : Revision) × IsTrue (is_before q r) × IsTrue (c.bound r)
+      × IsTrue (is_some (of_revision (values_of_property d.props n) r))))
   pub named : d.id ≡ id.Node p
 
 -- entries of properties went to a previous document x, which the document lists first now
-pub record IsMoved (c : Course) (p : Path) (old d : Document) (e : PrevEntry) (x : Document) : Type 0 where
+pub record IsMoved (c : Course) (p : Path) (old d : Document) (e : PrevEntry)
+    (x : Document) : Type 0 where
   pub prev : d.prev ≡ e ∷ old.prev
   pub deleted : d.deleted ≡ old.deleted
   pub roots : d.commit_root ≡ old.commit_root
   pub revisions : d.revisions ≡ old.revisions
   pub named : d.id ≡ id.Node p
-  pub props : (n : Name) (q : Revision) → option_or (of_revision (values_of_property d.props n) q) (of_revision (values_of_property x.props n) q) ≡ of_revision (values_of_property old.props n) q
-  pub noted : (n : Name) (q : Revision) → IsTrue (is_some (of_revision (values_of_property x.props n) q)) → of_revision x.commit_root q ≡ of_revision old.commit_root q
+  pub props : (n : Name) (q : Revision)
+      → option_or (of_revision (values_of_property d.props n) q)
+      (of_revision (values_of_property x.props n) q)
+      ≡ of_revision (values_of_property old.props n) q
+  pub parted : (n : Name) (q : Revision)
+      → IsTrue (is_some (of_revision (values_of_property x.props n) q))
+      → of_revision (values_of_property d.props n) q ≡ None
+  pub noted : (n : Name) (q : Revision)
+      → IsTrue (is_some (of_revision (values_of_property x.props n) q))
+      → of_revision x.commit_root q ≡ of_revision old.commit_root q
   pub listed : IsPrevious c p d e.number x
 
--- entries of properties went from a document to x, and it has the rest as it was, but for the previous documents that it lists
+-- entries of properties went from a document to x, and it has the rest as it was, but for the
+-- previous documents that it lists
 pub record IsParted (old d x : Document) : Type 0 where
   pub deleted : d.deleted ≡ old.deleted
   pub roots : d.commit_root ≡ old.commit_root
@@ -77,9 +101,13 @@ pub record IsParted (old d x : Document) : Type 0 where
   pub touched : d.touched ≡ old.touched
   pub guard : d.guard ≡ old.guard
   pub named : d.id ≡ old.id
-  pub props : (n : Name) (q : Revision) → option_or (of_revision (values_of_property d.props n) q) (of_revision (values_of_property x.props n) q) ≡ of_revision (values_of_property old.props n) q
+  pub props : (n : Name) (q : Revision)
+      → option_or (of_revision (values_of_property d.props n) q)
+      (of_revision (values_of_property x.props n) q)
+      ≡ of_revision (values_of_property old.props n) q
 
--- a document may go whole with what it lists: bounds see each entry, swept bounds each status, and the node is absent there
+-- a document may go whole with what it lists: bounds see each entry, swept bounds each status, and
+-- the node is absent there
 pub record IsUnwanted (c : Course) (p : Path) (old : Document) : Type 0 where
   pub entries : (q : Revision) → HasEntryOf q old → IsTrue (c.bound q)
   pub statuses : (q : Revision) → IsTrue (has_revision (Some old) q) → IsTrue (c.swept q)
@@ -88,9 +116,11 @@ pub record IsUnwanted (c : Course) (p : Path) (old : Document) : Type 0 where
 -- the documents are the same but for a previous document of the node at p
 pub record IsPreviousAt (ds now : Documents) (p : Path) (k : ℕ) : Type 0 where
   pub node : (q : Path) → now (id.Node q) ≡ ds (id.Node q)
-  pub elsewhere : (j : ℕ) (q : Path) → IsFalse (eq_by_cmp path_cmp q p) → now (id.Prev j q) ≡ ds (id.Prev j q)
+  pub elsewhere : (j : ℕ) (q : Path) → IsFalse (eq_by_cmp path_cmp q p) → now (id.Prev j q)
+      ≡ ds (id.Prev j q)
   pub other : (j : ℕ) → (j ≡ k → ⊥) → now (id.Prev j p) ≡ ds (id.Prev j p)
 
 -- the document of the node at p doesn't list this number
 abbrev pub IsUnlisted : Documents → Path → ℕ → Type 0
-IsUnlisted ds p k = (d : Document) → ds (id.Node p) ≡ Some d → (e : PrevEntry) → IsIn e d.prev → e.number ≡ k → ⊥
+IsUnlisted ds p k =
+    (d : Document) → ds (id.Node p) ≡ Some d → (e : PrevEntry) → IsIn e d.prev → e.number ≡ k → ⊥

@@ -25,14 +25,17 @@ use Rattle.oak_machine.specs.Runs.{AreNodes, IsNode, IsRunOf}
 use Rattle.oak_machine.specs.Sessions.{has_left, has_login, is_recovered, is_stopped, is_stopped_under}
 use Rattle.oak_node.specs.declared.pending.Note.{Note}
 use Rattle.oak_node.specs.Heads.{IsInFlight, finished, greatest_time, next_draw, with_draw}
-use Rattle.oak_node.specs.Memory.{NodeState, begun, own_entry}
+use Rattle.oak_node.specs.Memory.{NodeState, IsMemory, begun, last_draw, own_entry}
+use Rattle.oak_node.specs.Notes.{with_note, without_seen}
 use Rattle.oak_node.specs.Pins.{pin_now, with_pin}
-use Rattle.oak_node.proofs.Kept.{pins_memory, start_memory}
+use Rattle.oak_node.proofs.Changes.{kept_start, own_in_is}
+use Rattle.oak_node.proofs.Kept.{drop_memory, pins_memory, start_memory, start_own}
+use Rattle.oak_node.proofs.Noting.{noting_memory}
 use Rattle.oak_node.proofs.Owns.{with_entry_same}
 use Rattle.core_read.proofs.Latest.{at_most_both, before_itself, not_before}
 use Rattle.core_heads.specs.Sound.{IsSound}
 use mathlib.Core.Bool.{false≢true}
-use Rattle.std.proofs.lemmas.Option.{slice_get_within, get_or_from_slice_get}
+use Rattle.std.proofs.lemmas.Option.{get_or_from_slice_get}
 use Rattle.std.proofs.lemmas.List.Sums.{AllPass-from_list_all}
 use Rattle.core_heads.proofs.AtStart.{begin_begun, begin_cluster, begin_vector}
 use Rattle.core_heads.proofs.Below.{stands_at}
@@ -112,6 +115,7 @@ module _ (begin : Begin) where
       let n = nodes.eight in
       let m = node.1 in
       let v = begin_vector clusters begin begins in
+      let has : IsSomeAnd (entry (begin_at clusters begin) k) (λ e. e.cluster ≡ k) = subst (λ (o : Option Revision). IsSomeAnd o (λ e. e.cluster ≡ k)) (sym there) (begin_cluster begin k) in
       record {
         cluster = refl;
         head = sym (with_entry_same (begin_at clusters begin) k (begin_of begin k) there (begin_cluster begin k));
@@ -120,7 +124,7 @@ module _ (begin : Begin) where
         above = refl;
         stopped = refl;
         recovered = refl;
-        memory = start_memory (begun k (begin_at clusters begin)) node.0 (omega arith) (subst (λ (o : Option Revision). IsSomeAnd o (λ e. e.cluster ≡ k)) (sym there) (begin_cluster begin k)) refl refl (λ h. h);
+        memory = start_memory (begun k (begin_at clusters begin)) node.0 (omega arith) has refl refl (kept_start _ _ _ [] (own_in_is k (begin_at clusters begin) has) (start_own (entry (begin_at clusters begin) k) k has).1 refl) (λ h. h);
       }
 
   pub begun_pins : (clusters : ℕ) (sessions : List ℕ) (k : ℕ) → ArePinsOf sessions [] k (begun k (begin_at clusters begin))
@@ -153,8 +157,9 @@ module _ (begin : Begin) where
     memory = pins_memory s pins pins is.memory refl sorted;
   }
 
-  pub notes_kept : (clusters : ℕ) (past : Past) (k : ℕ) (s : NodeState) (notes : List Note) → IsMemoryOf begin clusters past k s → IsMemoryOf begin clusters past k (record s { notes = notes })
-  notes_kept clusters past k s notes is = record {
+  -- the same memory, but for what it noted
+  same_memory : (clusters : ℕ) (past : Past) (k : ℕ) (s : NodeState) (notes changed : List Note) (since : Revision) → IsMemoryOf begin clusters past k s → IsMemory (record s { notes = notes; since = since; changed = changed }) → IsMemoryOf begin clusters past k (record s { notes = notes; since = since; changed = changed })
+  same_memory clusters past k s notes changed since is memory = record {
     cluster = is.cluster;
     head = is.head;
     sweep = is.sweep;
@@ -162,19 +167,18 @@ module _ (begin : Begin) where
     above = is.above;
     stopped = is.stopped;
     recovered = is.recovered;
-    memory = record {
-      low = is.memory.low;
-      high = is.memory.high;
-      own = is.memory.own;
-      own_node = is.memory.own_node;
-      rising = is.memory.rising;
-      flying = is.memory.flying;
-      of_node = is.memory.of_node;
-      times = is.memory.times;
-      owners = is.memory.owners;
-      stop = is.memory.stop;
-    };
+    memory = memory;
   }
+
+  pub note_kept : (clusters : ℕ) (past : Past) (k : ℕ) (s : NodeState) (path : List (List ℕ)) (r : Revision) → r ≡ last_draw s → IsMemoryOf begin clusters past k s → IsMemoryOf begin clusters past k (with_note s path r)
+  note_kept clusters past k s path r last is =
+      same_memory clusters past k s (with_note s path r).notes (with_note s path r).changed s.since is
+      (noting_memory s r (path ∷ []) (with_note s path r).notes (with_note s path r).changed is.memory last refl)
+
+  pub drop_kept : (clusters : ℕ) (past : Past) (k : ℕ) (s : NodeState) → IsMemoryOf begin clusters past k s → IsMemoryOf begin clusters past k (without_seen s)
+  drop_kept clusters past k s is =
+      same_memory clusters past k s (without_seen s).notes (without_seen s).changed (without_seen s).since is
+      (drop_memory s (without_seen s).notes (without_seen s).changed (without_seen s).since is.memory refl refl)
 
   -- ---- a run
 

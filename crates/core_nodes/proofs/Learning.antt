@@ -1,11 +1,10 @@
 -- What a cluster node learns from the root, as this was at some moment.
-use Rattle.std.proofs.Common.{◌≡◌, ℕ, ◌≤◌, true, false, cond, ◌-◌, ◌⊎◌, inl, inr, Option, Some, List, ◌∷◌, sym, ap, subst, ◌∙◌, arith, None}
-use Rattle.std.specs.Prelude.{◌==◌, drop, unwrap_or}
-use Rattle.std.specs.List.Sorted.{IsStrictlySortedBy}
+use Rattle.std.proofs.Common.{◌≡◌, ℕ, ◌≤◌, true, false, cond, ◌-◌, ◌⊎◌, inl, inr, Option, Some, List, ◌∷◌, sym, ap, subst, ◌∙◌, arith}
+use Rattle.std.specs.Prelude.{◌==◌, drop}
 use Rattle.std.specs.Option.{option_map_or}
 use Rattle.jr_rev.specs.declared.revision.Revision.{Revision}
 use Rattle.jr_rev.specs.declared.vector.RevVec.{RevVec}
-use Rattle.jr_rev.specs.Revisions.{is_at_most, revision_cmp}
+use Rattle.jr_rev.specs.Revisions.{is_at_most}
 use Rattle.jr_rev.specs.Vectors.{IsVector, entry, greatest, sees, start_of, with_entry}
 use Rattle.jr_rev.proofs.Entries.{greatest_vector, set_vector}
 use Rattle.oak_machine.specs.declared.event.Event.TheVariants as event
@@ -15,7 +14,8 @@ use Rattle.oak_machine.specs.Laws.{Says, Starts}
 use Rattle.oak_machine.specs.Runs.{AreNodes, IsNode, IsRunOf}
 use Rattle.oak_machine.specs.Sessions.{is_stopped}
 use Rattle.oak_node.specs.Heads.{learned}
-use Rattle.oak_node.specs.Memory.{NodeState, own_entry, revisions_in}
+use Rattle.oak_node.specs.Memory.{NodeState, own_entry}
+use Rattle.oak_node.proofs.Kept.{learn_memory}
 use Rattle.oak_node.proofs.Owns.{with_entry_same}
 use Rattle.oak_node.proofs.Rules.{learned_own}
 use Rattle.core_heads.specs.Sound.{IsSound, Public}
@@ -108,10 +108,6 @@ module _ (begin : Begin) where
         by x (inl a) = kept x (is.sweep.below x a)
         by x (inr a) = sweep_seen x a
 
-    -- the own entry stays
-    own_stays : own_entry (learned s last sweep) ≡ own_entry s
-    own_stays = ap (λ o. unwrap_or o (start_of s.cluster)) (learned_own s last sweep is.memory)
-
     own_there : entry head k ≡ Some (local begin past k)
     own_there = ap (entry head) (sym is.cluster) ∙ (learned_own s last sweep is.memory ∙ (ap (λ (v : RevVec). entry v s.cluster) is.head ∙ (ap (entry (head_of clusters begin past k)) is.cluster ∙ head_entry begin clusters sessions nodes past sound k node)))
 
@@ -124,18 +120,7 @@ module _ (begin : Begin) where
       above = is.above;
       stopped = is.stopped;
       recovered = is.recovered;
-      memory = record {
-        low = is.memory.low;
-        high = is.memory.high;
-        own = learned_own s last sweep is.memory ∙ (is.memory.own ∙ ap (λ (r : Revision). Some r) (sym own_stays));
-        own_node = ap (λ (r : Revision). r.cluster) own_stays ∙ is.memory.own_node;
-        rising = subst (λ (r : Revision). IsStrictlySortedBy revision_cmp (r ∷ revisions_in s.above)) (sym own_stays) is.memory.rising;
-        flying = is.memory.flying;
-        of_node = is.memory.of_node;
-        times = is.memory.times;
-        owners = is.memory.owners;
-        stop = is.memory.stop;
-      };
+      memory = learn_memory s (learned s last sweep).head (learned s last sweep).sweep is.memory (learned_own s last sweep is.memory);
     }
 
   -- in a run, from the root as it was at any moment

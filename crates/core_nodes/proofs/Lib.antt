@@ -1,3 +1,4 @@
+pub mod Changes
 pub mod Events
 pub mod Learning
 pub mod Lists
@@ -7,5 +8,6 @@ pub mod Pins
 pub mod Recovering
 mod Rows
 pub mod Times
+pub mod Untold
 pub mod Vectors
 pub mod Waits

@@ -1,8 +1,7 @@
 -- A recovery in a run: all that the memory of a stopped node has in flight ends, and the node is recovered.
 use Rattle.std.specs.Option.{option_map_or}
-use Rattle.oak_machine.specs.declared.event.Draw.{Draw}
 use Rattle.core_read.proofs.Latest.{same_revision}
-use Rattle.std.proofs.Common.{◌≡◌, ℕ, zero, suc, ◌≤◌, Bool, true, false, cond, not, ◌&&◌, ◌||◌, inl, inr, Option, Some, None, List, [], ◌∷◌, ◌++◌, filter, fold, length, reverse, is_some, refl, sym, ap, subst, ◌∙◌, arith}
+use Rattle.std.proofs.Common.{◌≡◌, ℕ, zero, suc, ◌≤◌, Bool, true, false, cond, not, ◌&&◌, ◌||◌, inl, inr, Some, None, List, [], ◌∷◌, ◌++◌, filter, fold, length, reverse, is_some, refl, sym, ap, subst, ◌∙◌, arith}
 use Rattle.std.specs.Prelude.{◌==◌, Contains}
 use Rattle.std.specs.List.{list_any}
 use Rattle.std.proofs.lemmas.Bool.{not-true}
@@ -11,26 +10,24 @@ use Rattle.std.proofs.lemmas.List.Elements.{filter-append}
 use mathlib.Core.Bool.{false≢true}
 use mathlib.Core.List.{reverse-cons}
 use Rattle.jr_rev.specs.declared.revision.Revision.{Revision}
-use Rattle.jr_rev.specs.declared.vector.Pin.{Pin}
 use Rattle.jr_rev.specs.Revisions.{is_before, is_same}
-use Rattle.oak_machine.specs.declared.event.Event.{Event}
 use Rattle.oak_machine.specs.declared.event.Event.TheVariants as event
 use Rattle.oak_machine.specs.History.{Begin, Past}
 use Rattle.oak_machine.specs.Commits.{draw_of, is_drawn, is_ended, is_in_flight}
 use Rattle.oak_machine.specs.Heads.{draws_by, flying, is_flying, local}
 use Rattle.oak_machine.specs.Laws.{Says, Starts}
 use Rattle.oak_machine.specs.Runs.{AreNodes, IsNode, IsRunOf}
-use Rattle.oak_machine.specs.Sessions.{is_recovered, is_recovery_of, is_stopped}
+use Rattle.oak_machine.specs.Sessions.{is_recovered, is_stopped}
 use Rattle.oak_node.specs.declared.drawn.Drawn.{Drawn}
 use Rattle.oak_node.specs.Heads.{IsInFlight, finished, flying_in}
-use Rattle.oak_node.specs.Memory.{NodeState, IsMemory, begins_in_flight, own_entry}
+use Rattle.oak_node.specs.Memory.{NodeState, IsMemory, begins_in_flight}
 use Rattle.oak_node.specs.Stops.{with_ends, with_recovery, with_stop}
 use Rattle.oak_node.proofs.Recovering.{above_shorter, flying_rest, recovered_is, recovered_memory}
 use Rattle.core_heads.specs.Sound.{IsIn}
 use Rattle.core_heads.proofs.Locals.{draws_in, in_draws}
 use Rattle.core_heads.proofs.Orders.{and_both, filter_in, not_both, same_itself, same_number}
 use Rattle.core_heads.proofs.Runs.{sound_run}
-use Rattle.core_nodes.specs.Nodes.{ArePinsOf, IsMemoryOf, after_ends, after_recovery, base_of_pin, kept_base, leaves_pins, owner_base, revisions_above}
+use Rattle.core_nodes.specs.Nodes.{ArePinsOf, IsMemoryOf, after_ends, after_recovery, owner_base, revisions_above}
 use Rattle.core_nodes.proofs.Events.{apart_run}
 use Rattle.core_nodes.proofs.Lists.{flying_of_drawn, reverse_in}
 use Rattle.core_nodes.proofs.Memories.{end_kept}
@@ -137,6 +134,7 @@ module _ (begin : Begin) where
       of_node = is.memory.of_node;
       times = is.memory.times;
       owners = is.memory.owners;
+      kept = is.memory.kept;
       stop = λ r. refl;
     };
   }

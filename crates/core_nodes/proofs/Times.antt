@@ -9,7 +9,7 @@ use Rattle.jr_rev.specs.Revisions.{is_at_most}
 use Rattle.jr_rev.specs.Vectors.{Entries, IsVector, entry, sees, stands_from, start_of}
 use Rattle.oak_machine.specs.declared.event.Event.TheVariants as event
 use Rattle.oak_machine.specs.declared.event.Start.{Start}
-use Rattle.oak_machine.specs.History.{Begin, IsBegun, Past, begin_at, begin_of}
+use Rattle.oak_machine.specs.History.{Begin, IsBegun, Past, begin_of}
 use Rattle.oak_machine.specs.Heads.{greatest_time, head_of, last_draw_time, last_in, local, published}
 use Rattle.oak_machine.specs.Laws.{Says, Starts}
 use Rattle.oak_machine.specs.Runs.{AreNodes, IsNode, IsRunOf}

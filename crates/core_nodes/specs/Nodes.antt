@@ -1,5 +1,5 @@
 -- What the memories of the cluster nodes are by the journal.
-use Rattle.std.specs.Prelude.{◌≡◌, ◌↔◌, ℕ, ◌+◌, ◌-◌, Bool, true, false, cond, not, ◌&&◌, ◌==◌, nat_le, List, [], ◌∷◌, map, filter, reverse, slice_get, Option, None, Some, is_some, IsTrue, IsFalse}
+use Rattle.std.specs.Prelude.{◌≡◌, ◌↔◌, ℕ, ◌+◌, ◌-◌, Bool, true, false, cond, not, ◌&&◌, ◌==◌, nat_le, List, [], ◌∷◌, map, filter, reverse, slice_get, Contains, Option, None, Some, is_some, IsTrue, IsFalse}
 use Rattle.std.specs.List.{count_by}
 use Rattle.std.specs.Option.{option_map, option_map_or}
 use Rattle.jr_rev.specs.declared.revision.Revision.{Revision}
@@ -11,10 +11,12 @@ use Rattle.oak_machine.specs.declared.event.Event.{Event}
 use Rattle.oak_machine.specs.declared.event.Event.TheVariants as event
 use Rattle.oak_machine.specs.declared.event.StepKind.TheVariants as kind
 use Rattle.oak_machine.specs.History.{Begin, Past}
-use Rattle.oak_machine.specs.Commits.{is_drawn, is_ended, is_in_flight}
+use Rattle.oak_clash.specs.Clashes.{marked_paths}
+use Rattle.oak_machine.specs.Commits.{is_drawn, is_ended, is_in_flight, marks_of}
 use Rattle.oak_machine.specs.Heads.{draws_by, flying, greatest_time, head_of, last_draw_time, local}
 use Rattle.oak_machine.specs.Sessions.{cursor_at, has_left, has_login, is_recovered, is_recovery_of, is_stopped, pinned_at, session_base}
 use Rattle.oak_node.specs.declared.drawn.Drawn.{Drawn}
+use Rattle.oak_node.specs.declared.pending.Note.{Note}
 use Rattle.oak_node.specs.declared.memory.Awaits.{Awaits}
 use Rattle.oak_node.specs.declared.memory.Awaits.TheVariants.{Ready, Pending}
 use Rattle.oak_node.specs.Memory.{NodeState, IsMemory}
@@ -103,6 +105,28 @@ pub record AwaitsFlight (begin : Begin) (clusters : ℕ) (past : Past) (k : ℕ)
 abbrev pub IsAwaitedAt : Begin → ℕ → Past → ℕ → Revision → Awaits → Type 0
 IsAwaitedAt begin clusters past k r Ready = sees (head_of clusters begin past k) r ≡ true
 IsAwaitedAt begin clusters past k r (Pending q) = AwaitsFlight begin clusters past k r q
+
+-- ---- what changed
+
+-- the memory keeps what changed: each path that a draw of cluster node k marks is noted with it, of all
+-- draws of the node behind the revision since which the memory keeps such notes
+abbrev pub KeepsChanges : Past → ℕ → NodeState → Type 0
+KeepsChanges past k s = (r : Revision) (path : List (List ℕ)) →
+    r.cluster ≡ k → IsTrue (is_before s.since r) → Contains (marked_paths (marks_of past r)) path
+    → Contains s.changed (record { path = path; revision = r })
+
+-- what new sees of the past and old doesn't was drawn by cluster node k, and each path that it marks is
+-- among the notes with it
+abbrev pub TellsSince : Past → ℕ → RevVec → RevVec → List Note → Type 0
+TellsSince past k old new notes = (r : Revision) → IsTrue (sees new r) → IsFalse (sees old r) →
+    (r.cluster ≡ k)
+    × ((path : List (List ℕ)) → Contains (marked_paths (marks_of past r)) path
+    → Contains notes (record { path = path; revision = r }))
+
+-- the event is no draw of cluster node k
+abbrev pub draws_nothing : ℕ → Event → Bool
+draws_nothing k (event.Draw d) = not (d.revision.cluster == k)
+draws_nothing k _ = true
 
 -- ---- recoveries
 

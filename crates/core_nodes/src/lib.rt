@@ -6,22 +6,30 @@ ghost use Rattle.jr_rev.specs.declared.revision.Revision.{Revision};
 ghost use Rattle.jr_rev.specs.declared.vector.Pin.{Pin};
 ghost use Rattle.jr_rev.specs.declared.vector.RevVec.{RevVec};
 ghost use Rattle.jr_rev.specs.Revisions.{is_before};
+ghost use Rattle.jr_rev.specs.Vectors.{is_below, sees};
+ghost use Rattle.jr_path.specs.declared.path.Path.{Path};
+ghost use Rattle.jr_tree.specs.Trees.{node_at};
+ghost use Rattle.core_read.specs.Holds.{the_start};
+ghost use Rattle.core_read.specs.Told.{IsTold};
 ghost use Rattle.oak_machine.specs.declared.event.Draw.{Draw};
 ghost use Rattle.oak_machine.specs.declared.event.Event.{Event};
 ghost use Rattle.oak_machine.specs.declared.event.Event.TheVariants as event;
 ghost use Rattle.oak_machine.specs.declared.event.StepKind.TheVariants as kind;
 ghost use Rattle.oak_machine.specs.History.{Begin, IsBegun, Past, begin_at};
-ghost use Rattle.oak_machine.specs.Commits.{is_ended, is_in_flight};
+ghost use Rattle.oak_machine.specs.Commits.{is_ended, is_in_flight, tree_at};
 ghost use Rattle.oak_machine.specs.Heads.{flying, head_of};
 ghost use Rattle.oak_machine.specs.Runs.{AreNodes, IsNode, IsRunOf};
 ghost use Rattle.oak_machine.specs.Sessions.{is_stopped, has_left};
 ghost use Rattle.oak_node.specs.declared.memory.Awaits.{Awaits};
 ghost use Rattle.oak_node.specs.Heads.{HasEnded, IsAwaited, IsInFlight, finished, flying_in, known_time, learned, next_draw, with_draw};
-ghost use Rattle.oak_node.specs.Memory.{NodeState, begun, own_entry};
-ghost use Rattle.oak_node.specs.Notes.{with_note, without_seen};
+ghost use Rattle.oak_clash.specs.Clashes.{marked_paths};
+ghost use Rattle.oak_node.specs.declared.pending.Note.{Note};
+ghost use Rattle.oak_node.specs.Changes.{changed_since};
+ghost use Rattle.oak_node.specs.Memory.{NodeState, IsMemory, begun, last_draw, own_entry};
+ghost use Rattle.oak_node.specs.Notes.{with_note, with_notes, without_seen};
 ghost use Rattle.oak_node.specs.Stops.{with_recovery, with_stop};
 ghost use Rattle.oak_node.specs.Pins.{pin_now, pin_of, with_pin, without_pin};
-ghost use Rattle.core_nodes.specs.Nodes.{ArePinsOf, IsAboveOf, IsAwaitedAt, IsCursorAt, IsMemoryOf, IsOnRoot, IsPair, IsPinnedAt, after_recovery, begin_time, cursor_owner, draws_made, leaves_memory, leaves_pins, without_session};
+ghost use Rattle.core_nodes.specs.Nodes.{ArePinsOf, IsAboveOf, IsAwaitedAt, IsCursorAt, IsMemoryOf, IsOnRoot, IsPair, IsPinnedAt, KeepsChanges, TellsSince, after_recovery, begin_time, cursor_owner, draws_made, draws_nothing, leaves_memory, leaves_pins, without_session};
 
 use oak_machine::Law;
 
@@ -44,10 +52,52 @@ pub fn memories_follow_the_journal<L: Law>(law: &L)
     ensures in_flight { (begin : Begin) (clusters : ℕ) (sessions : List ℕ) (past : Past) (k : ℕ) (s : NodeState) → AreNodes clusters sessions → IsRunOf (L.may_start law.now) (L.may_say law.now) clusters sessions begin past → IsNode clusters k → IsMemoryOf begin clusters past k s → flying_in s.above ≡ reverse (flying past k) }
     ensures recovered { (begin : Begin) (clusters : ℕ) (sessions : List ℕ) (past : Past) (k : ℕ) (s : NodeState) → AreNodes clusters sessions → IsRunOf (L.may_start law.now) (L.may_say law.now) clusters sessions begin past → IsNode clusters k → IsTrue (is_stopped past k) → IsMemoryOf begin clusters past k s → IsRunOf (L.may_start law.now) (L.may_say law.now) clusters sessions begin (after_recovery past k) × IsMemoryOf begin clusters (after_recovery past k) k (with_recovery s) }
     ensures recovered_apart { (begin : Begin) (clusters : ℕ) (sessions : List ℕ) (past : Past) (m k : ℕ) (s : NodeState) → AreNodes clusters sessions → IsRunOf (L.may_start law.now) (L.may_say law.now) clusters sessions begin (after_recovery past m) → IsFalse (m == k) → IsMemoryOf begin clusters past k s → IsMemoryOf begin clusters (after_recovery past m) k s }
-    ensures noted { (begin : Begin) (clusters : ℕ) (past : Past) (k : ℕ) (s : NodeState) (path : List (List ℕ)) (r : Revision) → IsMemoryOf begin clusters past k s → IsMemoryOf begin clusters past k (with_note s path r) }
+    ensures noted { (begin : Begin) (clusters : ℕ) (past : Past) (k : ℕ) (s : NodeState) (path : List (List ℕ)) (r : Revision) → r ≡ last_draw s → IsMemoryOf begin clusters past k s → IsMemoryOf begin clusters past k (with_note s path r) }
     ensures published { (begin : Begin) (clusters : ℕ) (past : Past) (k : ℕ) (s : NodeState) → IsMemoryOf begin clusters past k s → IsMemoryOf begin clusters past k (without_seen s) }
     ensures pinned { (begin : Begin) (clusters : ℕ) (past : Past) (k : ℕ) (s : NodeState) (owner : ℕ) (pin : Pin) → IsMemoryOf begin clusters past k s → IsMemoryOf begin clusters past k (with_pin s owner pin) }
     ensures unpinned { (begin : Begin) (clusters : ℕ) (past : Past) (k : ℕ) (s : NodeState) (owner : ℕ) → IsMemoryOf begin clusters past k s → IsMemoryOf begin clusters past k (without_pin s owner) }
+{}
+
+/// A memory keeps what the draws of its node mark, through each step. Where it tells what changed
+/// since a vector, whatever a vector up to the head sees that this one doesn't was drawn by the node,
+/// and what it marks is told.
+pub fn changes_follow_the_journal()
+    ensures begun { (clusters : ℕ) (begin : Begin) (k : ℕ) →
+        KeepsChanges [] k (begun k (begin_at clusters begin)) }
+    ensures drawn { (past : Past) (d : Draw) (s : NodeState) →
+        KeepsChanges past d.revision.cluster s → KeepsChanges (event.Draw d ∷ past) d.revision.cluster
+        (with_notes d.revision (with_draw s d.revision) (marked_paths d.marks)) }
+    ensures apart { (past : Past) (e : Event) (k : ℕ) (s : NodeState) →
+        IsTrue (draws_nothing k e) → KeepsChanges past k s → KeepsChanges (e ∷ past) k s }
+    ensures ended { (past : Past) (k : ℕ) (s : NodeState) (r : Revision) →
+        KeepsChanges past k s → KeepsChanges past k (finished s r) }
+    ensures learned { (past : Past) (k : ℕ) (s : NodeState) (last sweep : RevVec) →
+        KeepsChanges past k s → KeepsChanges past k (learned s last sweep) }
+    ensures published { (past : Past) (k : ℕ) (s : NodeState) →
+        IsMemory s → KeepsChanges past k s → KeepsChanges past k (without_seen s) }
+    ensures pinned { (past : Past) (k : ℕ) (s : NodeState) (owner : ℕ) (pin : Pin) →
+        KeepsChanges past k s → KeepsChanges past k (with_pin s owner pin) }
+    ensures unpinned { (past : Past) (k : ℕ) (s : NodeState) (owner : ℕ) →
+        KeepsChanges past k s → KeepsChanges past k (without_pin s owner) }
+    ensures stopped { (past : Past) (k : ℕ) (s : NodeState) →
+        KeepsChanges past k s → KeepsChanges past k (with_stop s) }
+    ensures recovered { (past : Past) (k : ℕ) (s : NodeState) →
+        KeepsChanges past k s → KeepsChanges (after_recovery past k) k (with_recovery s) }
+    ensures recovered_apart { (past : Past) (m k : ℕ) (s : NodeState) →
+        KeepsChanges past k s → KeepsChanges (after_recovery past m) k s }
+    ensures told { (past : Past) (k : ℕ) (s : NodeState) (old new : RevVec) (notes : List Note) →
+        s.cluster ≡ k → IsMemory s → KeepsChanges past k s →
+        changed_since s old ≡ Some notes → IsTrue (is_below new s.head) →
+        TellsSince past k old new notes }
+{}
+
+/// The tree at such a vector up to the head is, at each path that isn't told, that of the vector since
+/// which it's told. The journal begins before any commit.
+pub fn untold_paths_stay()
+    ensures { (past : Past) (k : ℕ) (old new : RevVec) (notes : List Note) (p : Path) →
+        IsTold past → IsTrue (sees old the_start) → IsTrue (is_below old new) →
+        TellsSince past k old new notes → ((note : Note) → Contains notes note → note.path ≢ p) →
+        node_at (tree_at None past new) p ≡ node_at (tree_at None past old) p }
 {}
 
 /// The pins of a cluster node are those of its sessions that have come and not left, each at the vector of its latest

@@ -25,6 +25,7 @@ use Rattle.core_merge.specs.Orders.{tree_by_commits}
 abbrev pub HasDistinctIds : Nodes → Type 0
 HasDistinctIds t = (p q : Path) (id : List ℕ) → one_text (property_at t p uuid) ≡ Some id → one_text (property_at t q uuid) ≡ Some id → p ≡ q
 
+-- a mark is one of a node as a whole: of its existence, or a guard
 abbrev pub is_of_node : Mark → Bool
 is_of_node Exists = true
 is_of_node Guard = true

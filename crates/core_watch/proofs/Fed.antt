@@ -630,7 +630,7 @@ module _ (table : Entries) (is : IsTable table) (past : Past) (formers : Formers
 
     found_reads : Rattle.core_keep.specs.Readers.Reads ds course (sees pin.base) (sees pin.sweep) at asking.document (is_asked rest at) (look_too asking.look k there)
     found_reads = reads_more ds course (sees pin.base) (sees pin.sweep) at asking.document (asked_too (is_asked ((first, tt) ∷ rest) at) k) (is_asked rest at) (look_too asking.look k there) still_unasked
-        (reads_found ds course (sees pin.base) (sees pin.sweep) at asking.document (is_asked ((first, tt) ∷ rest) at) asking.look asking.reads (course_is ds past done world).falls pair k former.0 (are.former at k former.0 former.1) (λ x h. are.copies at k former.0 x former.1 h) former.2 way)
+        (reads_found ds course (sees pin.base) (sees pin.sweep) at asking.document (is_asked ((first, tt) ∷ rest) at) asking.look asking.reads pair k former.0 (are.former at k former.0 former.1) (λ x h. are.copies at k former.0 x former.1 h) former.2 way)
 
     asking_noted : Asking (with_known known first (documents_in table first)) rest at
     asking_noted = record {
@@ -641,7 +641,7 @@ module _ (table : Entries) (is : IsTable table) (past : Past) (formers : Formers
       found = λ e i asked. found e i asked (eq_by_cmp id_cmp (id.Prev e.number at) first) refl;
       waiting = record { rising = second_part _ _ asking.waiting.rising; unknown = still_unknown known first (documents_in table first) rest (first_part _ _ asking.waiting.rising) (second_part _ _ asking.waiting.unknown) };
       previous = λ x h. asking.previous x (later x (eq_by_cmp id_cmp x first) h);
-      listed = λ e i. let l = asking.listed e i in (l.0, l.1, shown_found asking.document asking.look (sees pin.base) l.0 k there way l.2);
+      listed = λ e i. let l = asking.listed e i in (l.0, l.1, shown_found ds asking.document asking.look (sees pin.base) at l.0 former.0 k (λ x h. are.copies at k former.0 x former.1 h) former.2 way l.2);
     }
       where
         later : (x : DocId) (b : Bool) → is_left rest x ≡ true → is_some (cond b (Some tt) (lookup (is_at (id_cmp x)) rest)) ≡ true

@@ -37,11 +37,11 @@ use Rattle.core_read.proofs.Told.{no_edit}
 use Rattle.core_read.proofs.Updates.{last_own, last_said, last_same, undo_said, undo_same, update_said, update_same, update_says}
 use Rattle.core_keep.specs.Formers.{AreFormers, Former, former_now, Formers, IsCopyOf, StaysOn, with_former}
 use Rattle.core_keep.specs.Journal.{course_of, is_bounded, is_swept, IsKeptWorld}
-use Rattle.core_keep.specs.Keeps.{Course, edit_in}
+use Rattle.core_keep.specs.Keeps.{Course, edit_in, IsCourse}
 use Rattle.core_keep.specs.Steps.{IsChangeAt, IsMainAt, IsMoved, IsPreviousAt, IsPruned, IsUnlisted, IsUnwanted}
 use Rattle.core_keep.proofs.Going.{decide}
 use Rattle.core_keep.proofs.Journal.{edit_is}
-use Rattle.core_keep.proofs.Staying.{besides_stays, formers_moved, formers_on, others_stay, previous_stays, pruned_stays, removed_stays, same_stays, told_stays}
+use Rattle.core_keep.proofs.Staying.{besides_stays, formers_moved, formers_on, old_alone, others_stay, previous_stays, pruned_stays, removed_stays, same_stays, told_stays}
 use Rattle.core_keep.proofs.World.{besides, course, names, open_of, unsaid_at}
 
 or_then : (a b : Bool) → b ≡ true → (a || b) ≡ true
@@ -54,16 +54,17 @@ or_more false b c f h = f h
 
 -- ---- what the journal tells more
 
-event_stays : (ds : Documents) (past : Past) (e : Event) → ((r : Revision) → is_commit_of r e ≡ false) → StaysOn ds ds (course_of past) (course_of (e ∷ past))
-event_stays ds past (event.Commit r) none = absurd (false≢true (sym (none r) ∙ ap is_eq (tied_itself revision_total r)))
-event_stays ds past (event.Bound m t) none = told_stays ds (course_of past) (course_of (event.Bound m t ∷ past)) (λ r ws h. h)
+event_stays : (ds : Documents) (past : Past) (e : Event) → IsCourse (course_of past) → ((r : Revision) → is_commit_of r e ≡ false) → StaysOn ds ds (course_of past) (course_of (e ∷ past))
+event_stays ds past (event.Commit r) course none = absurd (false≢true (sym (none r) ∙ ap is_eq (tied_itself revision_total r)))
+event_stays ds past (event.Bound m t) course none = told_stays ds (course_of past) (course_of (event.Bound m t ∷ past)) (λ r ws h. h)
     (λ r h. or_then (Rattle.core_keep.specs.Journal.bounds r (event.Bound m t)) (is_bounded past r) h)
     (λ r h. or_more (eq_by_cmp revision_cmp r the_start) (is_swept past r) (Rattle.core_keep.specs.Journal.sweeps r (event.Bound m t) || is_swept past r) (λ k. or_then (Rattle.core_keep.specs.Journal.sweeps r (event.Bound m t)) (is_swept past r) k) h)
-event_stays ds past e none = told_stays ds (course_of past) (course_of (e ∷ past)) (λ r ws h. h) (λ r h. h) (λ r h. h)
+    (old_alone (course_of past) course)
+event_stays ds past e course none = told_stays ds (course_of past) (course_of (e ∷ past)) (λ r ws h. h) (λ r h. h) (λ r h. h) (old_alone (course_of past) course)
 
 -- an event that is no Commit
 pub formers_event : (ds : Documents) (past : Past) (done : Progress) → IsKeptWorld ds past done → (e : Event) → ((r : Revision) → is_commit_of r e ≡ false) → (formers : Formers) → AreFormers ds (course_of past) formers → AreFormers ds (course_of (e ∷ past)) formers
-formers_event ds past done world e none formers are = formers_on ds ds (course_of past) (course_of (e ∷ past)) (event_stays ds past e none) world.keeps (course ds past done world) formers are.copies are
+formers_event ds past done world e none formers are = formers_on ds ds (course_of past) (course_of (e ∷ past)) (event_stays ds past e (course ds past done world) none) world.keeps (course ds past done world) formers are.copies are
 
 -- ---- documents change
 
@@ -83,7 +84,7 @@ module _ (ds now : Documents) (past : Past) (done : Progress) (world : IsKeptWor
   still later stays previous formers are = formers_on ds now (course_of past) later stays world.keeps (course ds past done world) formers (λ p k f x h there. are.copies p k f x h (sym (previous k p) ∙ there)) are
 
   change_stays : (r : Revision) (dr : Draw) → draw_of past r ≡ Some dr → is_in_flight past r ≡ true → edit_of past r ≡ None → (p : Path) (d : Document) → IsMainAt ds now p d → IsSameBut r p (ds (id.Node p)) d → has_revision (Some d) r ≡ false → StaysOn ds now (course_of past) (course_of past)
-  change_stays r dr drawn flying uncommitted at d main same unsaid = besides_stays ds now (course_of past) world.keeps (course ds past done world) at d main (λ q. eq_by_cmp revision_cmp q r) (open_of ds past done world r flying uncommitted) (besides ds now past done world r dr drawn flying uncommitted at d main same unsaid)
+  change_stays r dr drawn flying uncommitted at d main same unsaid = besides_stays ds now (course_of past) (course ds past done world) world.keeps at d main (λ q. eq_by_cmp revision_cmp q r) (open_of ds past done world r flying uncommitted) (besides ds now past done world r dr drawn flying uncommitted at d main same unsaid)
 
   -- a committer writes a document
   pub formers_write : (r : Revision) (dr : Draw) → draw_of past r ≡ Some dr → is_in_flight past r ≡ true → edit_of past r ≡ None → (p : Path) (marks : List Change) (op : UpdateOp) (number : ℕ) → IsWriteOp op r dr.edit.writes (commit_root dr.marks) p marks → done r p ≡ false
@@ -120,7 +121,7 @@ module _ (ds now : Documents) (past : Past) (done : Progress) (world : IsKeptWor
       let d : Document = after_changes (ds (id.Node at)) op number in
       let same : IsSameBut the_start at (ds (id.Node at)) d = update_same the_start at (ds (id.Node at)) op number is (names ds past done world at) entries in
       still (course_of past)
-      (besides_stays ds now (course_of past) world.keeps (course ds past done world) at d main (λ q. false) (λ q h. absurd (false≢true h)) (record {
+      (besides_stays ds now (course_of past) (course ds past done world) world.keeps at d main (λ q. false) (λ q h. absurd (false≢true h)) (record {
         at = λ q h. marks_same q at (ds (id.Node at)) op number is all;
         said = λ q h k. update_says the_start q (ds (id.Node at)) op number entries ∙ k;
         unsaid = λ q e o k. update_says the_start q (ds (id.Node at)) op number entries ∙ k;
@@ -131,19 +132,19 @@ module _ (ds now : Documents) (past : Past) (done : Progress) (world : IsKeptWor
 
   -- documents of no node change
   pub formers_others : ((q : Path) → now (id.Node q) ≡ ds (id.Node q)) → ((k : ℕ) (q : Path) → now (id.Prev k q) ≡ ds (id.Prev k q)) → (formers : Formers) → AreFormers ds (course_of past) formers → AreFormers now (course_of past) formers
-  formers_others node previous = still (course_of past) (others_stay ds now (course_of past) node previous) previous
+  formers_others node previous = still (course_of past) (others_stay ds now (course_of past) (course ds past done world) node previous) previous
 
   -- garbage entries go, and previous documents are unlisted
   pub formers_pruned : (at : Path) (old d : Document) → ds (id.Node at) ≡ Some old → IsMainAt ds now at d → IsPruned ds (course_of past) at old d → (formers : Formers) → AreFormers ds (course_of past) formers → AreFormers now (course_of past) formers
-  formers_pruned at old d is main pruned = still (course_of past) (pruned_stays ds now (course_of past) world.keeps (course ds past done world) at old d is main pruned) (previous_still at d main)
+  formers_pruned at old d is main pruned = still (course_of past) (pruned_stays ds now (course_of past) (course ds past done world) world.keeps at old d is main pruned) (previous_still at d main)
 
   -- a document of an absent node goes
   pub formers_removed : (at : Path) (old : Document) → ds (id.Node at) ≡ Some old → IsChangeAt ds now at → now (id.Node at) ≡ None → ((k : ℕ) (q : Path) → now (id.Prev k q) ≡ ds (id.Prev k q)) → IsUnwanted (course_of past) at old → (formers : Formers) → AreFormers ds (course_of past) formers → AreFormers now (course_of past) formers
-  formers_removed at old is elsewhere gone previous unwanted = still (course_of past) (removed_stays ds now (course_of past) at old is elsewhere gone unwanted) previous
+  formers_removed at old is elsewhere gone previous unwanted = still (course_of past) (removed_stays ds now (course_of past) (course ds past done world) at old is elsewhere gone unwanted) previous
 
   -- a previous document that nobody lists goes, or a copy comes of what a former document of its number had
   pub formers_previous : (at : Path) (k : ℕ) → IsPreviousAt ds now at k → IsUnlisted ds at k → (formers : Formers) → ((f : Former) (x : Document) → formers at k ≡ Some f → now (id.Prev k at) ≡ Some x → IsCopyOf at k f x) → AreFormers ds (course_of past) formers → AreFormers now (course_of past) formers
-  formers_previous at k change unlisted formers copied are = formers_on ds now (course_of past) (course_of past) (previous_stays ds now (course_of past) at k change unlisted) world.keeps (course ds past done world) formers (λ p j f x h there. by p j f x h there (eq_by_cmp path_cmp p at) refl (decide j k)) are
+  formers_previous at k change unlisted formers copied are = formers_on ds now (course_of past) (course_of past) (previous_stays ds now (course_of past) (course ds past done world) at k change unlisted) world.keeps (course ds past done world) formers (λ p j f x h there. by p j f x h there (eq_by_cmp path_cmp p at) refl (decide j k)) are
     where
       by : (p : Path) (j : ℕ) (f : Former) (x : Document) → formers p j ≡ Some f → now (id.Prev j p) ≡ Some x → (b : Bool) → eq_by_cmp path_cmp p at ≡ b → (j ≡ k) ⊎ (j ≡ k → ⊥) → IsCopyOf p j f x
       by p j f x h there false m d = are.copies p j f x h (sym (change.elsewhere j p m) ∙ there)
@@ -199,7 +200,7 @@ module _ (ds now : Documents) (past : Past) (done : Progress) (world : IsKeptWor
               subst (λ (z : Path). has_revision (now (id.Node z)) q ≡ true) (sym one) (ap (λ o. has_revision o q) main.at ∙ said q (subst (λ (z : Path). has_revision (ds (id.Node z)) q ≡ true) one h))
 
       documents : StaysOn ds now (course_of past) (course_of past)
-      documents = same_stays ds now (course_of past) root d main still_said same_at same.whole
+      documents = same_stays ds now (course_of past) (course ds past done world) root d main still_said same_at same.whole
 
       edits : (q : Revision) (ws : List Write) → edit_in (course_of past) q ≡ Some ws → edit_in (course_of (event.Commit r ∷ past)) q ≡ Some ws
       edits q ws h = edit_is (event.Commit r ∷ past) then.told q ∙ (committed past r dr none after_start drawn q ∙ by (eq_by_cmp revision_cmp q r) refl)
@@ -212,16 +213,9 @@ module _ (ds now : Documents) (past : Past) (done : Progress) (world : IsKeptWor
           by true k = absurd (false≢true (sym (ap is_some (ap (edit_of past) (same_revision q r k) ∙ none)) ∙ ap is_some was))
 
       stays : StaysOn ds now (course_of past) (course_of (event.Commit r ∷ past))
-      stays = record { edits = edits; bound = λ q h. h; swept = λ q h. h; said = documents.said; lists = documents.lists; stands = documents.stands }
+      stays = record { edits = edits; bound = λ q h. h; swept = λ q h. h; old = old_alone (course_of (event.Commit r ∷ past)) (course now (event.Commit r ∷ past) done then); said = documents.said; lists = documents.lists; stands = documents.stands }
 
   -- a split lists what it moved: the document becomes a former one
-  pub formers_listed : (p : Path) (old d : Document) (e : PrevEntry) (x : Document) → ds (id.Node p) ≡ Some old → ds (id.Prev e.number p) ≡ Some x → IsMainAt ds now p d → IsMoved (course_of past) p old d e x → (formers : Formers) → formers p e.number ≡ None → AreFormers ds (course_of past) formers
+  pub formers_listed : (p : Path) (old d : Document) (e : PrevEntry) (x : Document) → ds (id.Node p) ≡ Some old → ds (id.Prev e.number p) ≡ Some x → IsMainAt ds now p d → IsMoved (course_of past) p old d e x → e.number ≡ old.mod_count → (formers : Formers) → formers p e.number ≡ None → AreFormers ds (course_of past) formers
       → AreFormers now (course_of past) (with_former formers p e.number (former_now (course_of past) old))
-  formers_listed p old d e x is there main moved formers new are = formers_moved ds now (course_of past) world.keeps (course ds past done world) p old d e x is there main moved (λ n r h. edit_only r (moved.listed.done n r h)) formers new are
-    where
-      edit_only : (r : Revision) → (is_some (edit_in (course_of past) r) || false) ≡ true → is_some (edit_in (course_of past) r) ≡ true
-      edit_only r = by (is_some (edit_in (course_of past) r))
-        where
-          by : (b : Bool) → (b || false) ≡ true → b ≡ true
-          by true h = refl
-          by false h = h
+  formers_listed p old d e x is there main moved number formers new are = formers_moved ds now (course_of past) world.keeps (course ds past done world) p old d e x is there main moved number formers new are

@@ -14,6 +14,7 @@ pub record Instant : Type 0 where
   pub moment : Moment
   pub formers : Formers
 
+-- the documents at an instant
 abbrev pub documents_at : Instant → Documents
 documents_at i = documents_in i.moment.table
 
@@ -30,6 +31,7 @@ abbrev pub AreReadable : Pin → Instant → List Instant → Type 0
 AreReadable pin i [] = Unit {0}
 AreReadable pin i (n ∷ ns) = ReadsOn pin (documents_at i) (documents_at n) i.moment.past n.moment.past × Grows i.formers n.formers × CanRead pin n × AreReadable pin n ns
 
+-- the moments of some instants
 abbrev pub moments_of : List Instant → List Moment
 moments_of is = map (λ i. i.moment) is
 

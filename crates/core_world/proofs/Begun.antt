@@ -86,6 +86,6 @@ start_kept starts says clusters sessions nodes = record {
     memory = λ k node. subst (λ (m : NodeState). IsMemoryOf None clusters [] k m) (sym (begun_at clusters k node)) (begun_is None clusters sessions nodes tt k node);
     pins = λ k node. subst (λ (m : NodeState). ArePinsOf sessions [] k m) (sym (begun_at clusters k node)) (begun_pins None clusters sessions k);
   };
-  readers = record { told = record { listed = λ p d h e i. absurd (subst (λ l. IsIn e l) ((start_holds clusters (length sessions)).whole p d h) i); former = λ p k f h. absurd (false≢true (ap is_some h)); copies = λ p k f x h there. absurd (false≢true (ap is_some h)) }; above = λ s r h. absurd (false≢true (ap is_some h)); reads = λ s r h. absurd (false≢true (ap is_some h)); at_base = λ s r h. absurd (false≢true (ap is_some h)); pairs = λ s r h. absurd (false≢true (ap is_some h)) };
+  readers = record { told = record { listed = λ p d h e i. absurd (subst (λ l. IsIn e l) ((start_holds clusters (length sessions)).whole p d h) i); former = λ p k f h. absurd (false≢true (ap is_some h)); there = λ p d h e i f had. absurd (false≢true (ap is_some had)); copies = λ p k f x h there. absurd (false≢true (ap is_some h)) }; above = λ s r h. absurd (false≢true (ap is_some h)); reads = λ s r h. absurd (false≢true (ap is_some h)); at_base = λ s r h. absurd (false≢true (ap is_some h)); pairs = λ s r h. absurd (false≢true (ap is_some h)) };
   observers = record { goes = λ s r h. absurd (false≢true (ap is_some h)); apart = λ s r h. absurd (false≢true (ap is_some h)); between = λ s r h. absurd (false≢true (ap is_some h)); tells = λ s r h. absurd (false≢true (ap is_some h)) };
 }

@@ -13,19 +13,19 @@ use Rattle.jr_rev.proofs.Entries.{number_same}
 use Rattle.jr_tree.proofs.Pointwise.{same_path}
 use Rattle.oak_doc.specs.declared.document.Document.{Document}
 use Rattle.oak_doc.specs.declared.document.PrevEntry.{PrevEntry}
-use Rattle.oak_machine.specs.History.{Past}
 use Rattle.oak_read.specs.Meaning.{Documents, documents_in}
 use Rattle.oak_store.specs.Tables.{Table, next_number, with_document}
 use Rattle.core_clash.specs.Collecting.{IsBoundOf}
 use Rattle.core_keep.specs.Dropping.{is_number_of}
 use Rattle.core_keep.specs.Garbage.{garbage_in, is_garbage_previous, pruning}
-use Rattle.core_keep.specs.Journal.{IsKeptWorld}
+use Rattle.core_keep.specs.Formers.{AreFormers, Former, Formers}
+use Rattle.core_keep.specs.Keeps.{Course}
 use Rattle.core_keep.specs.Readers.{IsListed}
 use Rattle.core_keep.specs.Steps.{IsChangeAt, IsMainAt, IsPreviousAt, IsUnlisted}
 use Rattle.core_keep.proofs.Going.{itself}
 use Rattle.core_keep.proofs.Listing.{listed_garbage}
+use Rattle.core_keep.proofs.Staying.{missing_unlisted}
 use Rattle.core_read.specs.Told.{IsIn}
-use Rattle.core_read.specs.World.{Progress}
 use Rattle.core_read.specs.Writes.{IsOrderedDocument}
 use Rattle.core_world.specs.Collecting.{MayPrune}
 use Rattle.core_world.specs.Copying.{IsCopied, IsFoundIn, LetsCopy}
@@ -37,7 +37,7 @@ use Rattle.core_world.proofs.Tables.{id_itself, put_is}
 
 -- ---- a split writes its previous document where there is none
 
-module _ (t : Table) (past : Past) (done : Progress) (kept : IsKeptWorld (documents_in t.documents) past done) (p : Path) (k : ℕ) (x : Document) (none : documents_in t.documents (id.Prev k p) ≡ None) (early : k < last_number) (low : t.number ≤ last_number) (within : k ≤ t.number) where
+module _ (t : Table) (c : Course) (formers : Formers) (are : AreFormers (documents_in t.documents) c formers) (p : Path) (k : ℕ) (x : Document) (numbered : (f : Former) → formers p k ≡ Some f → f.document.mod_count ≡ k) (none : documents_in t.documents (id.Prev k p) ≡ None) (early : k < last_number) (low : t.number ≤ last_number) (within : k ≤ t.number) where
   put : IsPreviousAt (documents_in t.documents) (documents_in (with_document t (id.Prev k p) x (next_number t)).documents) p k
   put = previous_from (documents_in t.documents) (documents_in (with_document t (id.Prev k p) x (next_number t)).documents) p k (Some x) (put_is t (id.Prev k p) x (next_number t))
 
@@ -45,9 +45,7 @@ module _ (t : Table) (past : Past) (done : Progress) (kept : IsKeptWorld (docume
   copied_now = record {
     early = early;
     within = along k t.number (next_number t) within (next_least t.number low);
-    unlisted = λ d is e i same.
-        let there = (kept.keeps p).previous d (sym (put.node p) ∙ is) e i in
-        false≢true (ap is_some (sym (ap (λ (j : ℕ). documents_in t.documents (id.Prev j p)) same ∙ none) ∙ there.1));
+    unlisted = λ d is e i same. missing_unlisted (documents_in t.documents) c formers are p k numbered none d (sym (put.node p) ∙ is) e i same;
     there = λ d is same. put_is t (id.Prev k p) x (next_number t) (id.Prev k p) ∙ ap (λ b. cond b (Some x) (documents_in t.documents (id.Prev k p))) (id_itself (id.Prev k p));
   }
 

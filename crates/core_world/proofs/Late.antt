@@ -1,5 +1,5 @@
 -- What a split keeps of the document that it has read, while others go on; so what it writes late is a copy of what the former document had.
-use Rattle.std.proofs.Common.{◌≡◌, ◌<◌, ◌⊎◌, inl, inr, ℕ, Bool, true, false, cond, ◌&&◌, Some, None, Option, List, [], refl, sym, ap, ◌∙◌, subst, is_some}
+use Rattle.std.proofs.Common.{◌≡◌, ◌<◌, ◌⊎◌, inl, inr, ℕ, Bool, true, false, cond, ◌&&◌, ◌||◌, Some, None, Option, List, [], refl, sym, ap, ◌∙◌, subst, is_some}
 use Rattle.std.specs.Prelude.{◌==◌}
 use Rattle.std.specs.Option.{option_map_or, unwrap_or}
 use Rattle.std.specs.Ordering.{eq_by_cmp}
@@ -83,6 +83,10 @@ module _ (past : Past) (t : Table) (done : Progress) (world : IsKeptWorld (docum
     former = splits.former;
   }
 
+or_first : (a b : Bool) → a ≡ true → (a || b) ≡ true
+or_first true b h = refl
+or_first false b h = absurd (false≢true h)
+
 -- ---- others go on
 
 -- steps by which no former document comes
@@ -113,14 +117,14 @@ splitting_beside t u past formers known pin p q old its step is early splits tol
     g = former_now (course_of past) its
 
     by : (f : Former) → with_former formers q its.mod_count (former_now (course_of past) its) p old.mod_count ≡ Some f → (a : Bool) → eq_by_cmp path_cmp p q ≡ a → (b : Bool) → (old.mod_count == its.mod_count) ≡ b
-        → (f.document ≡ old) × ((r : Revision) → sees pin.base r ≡ true → is_some (edit_of past r) ≡ true → f.committed r ≡ true)
+        → (f.document ≡ old) × ((r : Revision) → sees pin.base r ≡ true → is_some (edit_of past r) ≡ true → f.done r ≡ true)
     by f h false m b n = splits.former f (sym (ap (λ c. cond (c && (old.mod_count == its.mod_count)) (Some (former_now (course_of past) its)) (formers p old.mod_count)) m) ∙ h)
     by f h true m false n = splits.former f (sym (ap (λ c. cond (c && (old.mod_count == its.mod_count)) (Some (former_now (course_of past) its)) (formers p old.mod_count)) m ∙ ap (λ c. cond c (Some (former_now (course_of past) its)) (formers p old.mod_count)) n) ∙ h)
     by f h true m true n =
         let one : former_now (course_of past) its ≡ f = ap (λ o. unwrap_or o (former_now (course_of past) its)) (sym (ap (λ c. cond (c && (old.mod_count == its.mod_count)) (Some (former_now (course_of past) its)) (formers p old.mod_count)) m ∙ ap (λ c. cond c (Some (former_now (course_of past) its)) (formers p old.mod_count)) n) ∙ h) in
         let number : old.mod_count ≡ its.mod_count = number_same old.mod_count its.mod_count n in
         let same : its ≡ old = splits.read.same (subst (λ (k : ℕ). k < last_number) (sym number) early) its (ap (nodes_in t) (same_path p q m) ∙ is) (sym number) in
-        (ap (λ (x : Former). x.document) (sym one) ∙ same, λ r seen e. ap (λ (x : Former). x.committed r) (sym one) ∙ (ap is_some (edit_is past told r) ∙ e))
+        (ap (λ (x : Former). x.document) (sym one) ∙ same, λ r seen e. ap (λ (x : Former). x.done r) (sym one) ∙ or_first _ _ (ap is_some (edit_is past told r) ∙ e))
 
 -- ---- what it writes
 

@@ -22,9 +22,10 @@ use Rattle.oak_machine.specs.Laws.{Says, Starts}
 use Rattle.oak_machine.specs.Runs.{AreNodes, IsNode, IsRunOf}
 use Rattle.oak_machine.specs.Sessions.{has_left, is_stopped}
 use Rattle.oak_node.specs.Heads.{finished, learned, next_draw, with_draw}
-use Rattle.oak_node.specs.Memory.{NodeState, begun}
-use Rattle.oak_node.specs.Notes.{without_seen}
+use Rattle.oak_node.specs.Memory.{NodeState, begun, last_draw}
+use Rattle.oak_node.specs.Notes.{with_note, without_seen}
 use Rattle.oak_node.specs.Pins.{pin_now, pin_of, with_pin}
+use Rattle.oak_node.proofs.Noting.{drawn_last}
 use Rattle.oak_node.proofs.Places.{insert_sorted, remove_sorted}
 use Rattle.core_nodes.specs.Nodes.{ArePinsOf, IsMemoryOf, IsOnRoot, base_of_pin, cursor_owner, is_of_node, leaves_memory, leaves_pins, without_session}
 use Rattle.oak_machine.specs.Heads.{local}
@@ -35,7 +36,7 @@ use Rattle.core_heads.proofs.Locals.{head_own}
 use Rattle.core_heads.proofs.Runs.{sound_run}
 use Rattle.jr_rev.specs.Revisions.{is_at_most}
 use Rattle.core_nodes.proofs.Learning.{learn_run}
-use Rattle.core_nodes.proofs.Events.{apart_run, draw_run, end_run, leave_run, login_run, notes_kept, refresh_run}
+use Rattle.core_nodes.proofs.Events.{apart_run, draw_run, drop_kept, end_run, leave_run, login_run, note_kept, refresh_run}
 use Rattle.core_nodes.proofs.Pins.{cursor_put, pins_kept}
 use Rattle.core_world.specs.States.{memory_at, with_memory}
 use Rattle.core_world.specs.Steps.{after_notes, pinned, swept_to}
@@ -142,9 +143,9 @@ module _ (starts : Starts) (says : Says) (clusters : ℕ) (sessions : List ℕ) 
     pairs = λ owner pin h. has.pairs owner pin (sym (ap (λ (ps : List (ℕ × Pin)). lookup (is_at (nat_cmp owner)) ps) same) ∙ h);
   }
 
-  notes_memory : (later : Past) (k : ℕ) (r : Revision) (paths : List Path) (m : NodeState) → IsMemoryOf None clusters later k m → IsMemoryOf None clusters later k (after_notes r m paths)
-  notes_memory later k r [] m is = is
-  notes_memory later k r (p ∷ ps) m is = notes_memory later k r ps _ (notes_kept None clusters later k m _ is)
+  notes_memory : (later : Past) (k : ℕ) (r : Revision) (paths : List Path) (m : NodeState) → r ≡ last_draw m → IsMemoryOf None clusters later k m → IsMemoryOf None clusters later k (after_notes r m paths)
+  notes_memory later k r [] m last is = is
+  notes_memory later k r (p ∷ ps) m last is = notes_memory later k r ps (with_note m p r) last (note_kept None clusters later k m p r last is)
 
   notes_pins : (later : Past) (k : ℕ) (r : Revision) (paths : List Path) (m : NodeState) → ArePinsOf sessions later k m → ArePinsOf sessions later k (after_notes r m paths)
   notes_pins later k r [] m has = has
@@ -163,7 +164,7 @@ module _ (starts : Starts) (says : Says) (clusters : ℕ) (sessions : List ℕ) 
       let k = d.revision.cluster in
       let node : IsNode clusters k = nodes.node d.session k run.0.cluster in
       step_on k node (after_notes d.revision (with_draw (memory_at ms k) d.revision) paths) (event.Draw d ∷ past)
-      (notes_memory (event.Draw d ∷ past) k d.revision paths _ (subst (λ (r : Revision). IsMemoryOf None clusters (event.Draw d ∷ past) k (with_draw (memory_at ms k) r)) (sym next) (draw_run None starts says clusters sessions nodes d past run (memory_at ms k) (are.memory k node))))
+      (notes_memory (event.Draw d ∷ past) k d.revision paths (with_draw (memory_at ms k) d.revision) (drawn_last (memory_at ms k) d.revision next) (subst (λ (r : Revision). IsMemoryOf None clusters (event.Draw d ∷ past) k (with_draw (memory_at ms k) r)) (sym next) (draw_run None starts says clusters sessions nodes d past run (memory_at ms k) (are.memory k node))))
       (notes_pins (event.Draw d ∷ past) k d.revision paths _ (same_pins (event.Draw d ∷ past) k (memory_at ms k) (with_draw (memory_at ms k) d.revision) refl (pins_kept sessions past k (memory_at ms k) (are.pins k node) (event.Draw d) refl)))
       (λ j of h. apart_run None starts says clusters sessions nodes (event.Draw d) past j (memory_at ms j) run (apart_node j k h) (are.memory j of))
       (λ j of h. pins_kept sessions past j (memory_at ms j) (are.pins j of) (event.Draw d) refl)
@@ -196,7 +197,7 @@ module _ (starts : Starts) (says : Says) (clusters : ℕ) (sessions : List ℕ) 
   pending_memories s k node run =
       let e : Event = event.Went s kind.Back in
       step_on k node (without_seen (memory_at ms k)) (e ∷ past)
-      (notes_kept None clusters (e ∷ past) k (memory_at ms k) _ (apart_run None starts says clusters sessions nodes e past k (memory_at ms k) run refl (are.memory k node)))
+      (drop_kept None clusters (e ∷ past) k (memory_at ms k) (apart_run None starts says clusters sessions nodes e past k (memory_at ms k) run refl (are.memory k node)))
       (same_pins (e ∷ past) k (memory_at ms k) (without_seen (memory_at ms k)) refl (pins_kept sessions past k (memory_at ms k) (are.pins k node) e refl))
       (λ j of h. apart_run None starts says clusters sessions nodes e past j (memory_at ms j) run refl (are.memory j of))
       (λ j of h. pins_kept sessions past j (memory_at ms j) (are.pins j of) e refl)
@@ -231,6 +232,7 @@ module _ (starts : Starts) (says : Says) (clusters : ℕ) (sessions : List ℕ) 
           of_node = is.memory.of_node;
           times = is.memory.times;
           owners = is.memory.owners;
+          kept = is.memory.kept;
           stop = is.memory.stop;
         };
       })

@@ -54,15 +54,14 @@ module _ (starts : Starts) (says : Says) (proper : StartsProper starts) (w : Sta
           let world = kept.committing.kept in
           let l = in_listed (λ (e : PrevEntry). documents_in w.table.documents (id.Prev e.number p)) old.prev f.0
           (subst (λ (l : List Document). IsIn f.0 l) (ap (λ (o : Option Document). option_map_or (λ d. filter_map (λ (e : PrevEntry). documents_in w.table.documents (id.Prev e.number p)) d.prev) o []) there) f.1) in
-          let y = (world.keeps p).previous old there l.0 l.1 in
-          let same : f.0 ≡ y.0 = ap (λ o. unwrap_or o f.0) (sym l.2 ∙ y.1) in
-          let has : is_some (of_revision (values_of_property (y.0).props n) o) ≡ true = subst (λ (d : Document). has_moved o (Prop n) d ≡ true) same f.2 in
-          let b = (y.2).behind n o has in
-          let us = edit_there w.past o ((y.2).done n o has) in
+          let y = (world.keeps p).previous old there l.0 l.1 f.0 l.2 in
+          let has : is_some (of_revision (values_of_property (f.0).props n) o) ≡ true = f.2 in
+          let b = y.behind n o has in
+          let us = edit_there w.past o (y.done n o has) in
           let vs = edit_there w.past b.0 b.2 in
-          let mine = some_of (of_revision (values_of_property (y.0).props n) o) has in
+          let mine = some_of (of_revision (values_of_property (f.0).props n) o) has in
           let late = some_of (of_revision (values_of_property old.props n) b.0) b.3 in
-          let wrote : written (put_of p n) us.0 ≡ Some mine.0 = (y.2).genuine n o us.0 mine.0 us.1 mine.1 in
+          let wrote : written (put_of p n) us.0 ≡ Some mine.0 = y.genuine n o us.0 mine.0 us.1 mine.1 in
           let stands : of_revision (values_in n (all_at (documents_in w.table.documents) p)) b.0 ≡ Some late.0 =
           ap (λ (o : Option Document). of_revision (values_in n (option_map_or (with_previous (documents_in w.table.documents) p) o [])) b.0) there
           ∙ (value_split (documents_in w.table.documents) p (Some old) n b.0 ∙ ap (λ (o : Option (Option Property)). option_or o (of_revision (values_in n (listed (documents_in w.table.documents) p (Some old))) b.0)) late.1) in

@@ -58,13 +58,13 @@ use Rattle.core_keep.specs.Holding.{IsHoldingStep}
 use Rattle.core_keep.specs.Journal.{course_of, is_bounded, IsHeld, IsKeptWorld}
 use Rattle.core_keep.specs.Splits.{moved_keys, previous_write}
 use Rattle.core_keep.specs.Steps.{IsMainAt, IsMoved, IsPreviousAt, IsPruned, IsUnlisted}
-use Rattle.core_keep.proofs.Collecting.{garbage_keeps, missing_unlisted, removed_garbage_keeps, split_lists}
+use Rattle.core_keep.proofs.Collecting.{garbage_keeps, removed_garbage_keeps, split_lists}
 use Rattle.core_keep.proofs.Garbage.{garbage_pruned, garbage_unwanted}
 use Rattle.core_keep.proofs.Journal.{edit_is}
 use Rattle.core_keep.proofs.Splits.{split_moved}
 use Rattle.core_keep.proofs.World.{kept_previous}
 use Rattle.core_keep.specs.Formers.{AreFormers, Former, former_now, Formers, IsCopyOf, with_former}
-use Rattle.core_keep.proofs.Staying.{grows_by}
+use Rattle.core_keep.proofs.Staying.{grows_by, missing_unlisted}
 use Rattle.core_watch.specs.Reading.{ReadsOn}
 use Rattle.core_watch.proofs.StayingOn.{formers_listed, formers_previous, formers_pruned, formers_removed}
 use Rattle.core_watch.proofs.GoingOn.{on_moved, on_previous, on_pruned, on_removed}
@@ -219,7 +219,7 @@ module _ (starts : Starts) (says : Says) (proper : StartsProper starts) (w : Sta
 
     module _ (new : formers p e.number ≡ None) where
       formers_then : AreFormers (documents_in u.documents) (course_of w.past) more
-      formers_then = formers_listed (documents_in w.table.documents) (documents_in u.documents) w.past done world p old d e x may.there may.copied main moves formers new kept.sessions.readers.told
+      formers_then = formers_listed (documents_in w.table.documents) (documents_in u.documents) w.past done world p old d e x may.there may.copied main moves may.number formers new kept.sessions.readers.told
 
     on : (y : Pin) → IsHeld w.past y.base y.sweep → ReadsOn y (documents_in w.table.documents) (documents_in u.documents) w.past w.past
     on y held = on_moved y (documents_in w.table.documents) (documents_in u.documents) w.past done world held p old d e x may.there may.copied main moves
@@ -296,10 +296,10 @@ module _ (starts : Starts) (says : Says) (proper : StartsProper starts) (w : Sta
     put_copied x copied f y h there = subst (λ (z : Document). IsCopyOf p k f z) (ap (λ o. unwrap_or o x) (sym (put_is w.table (id.Prev k p) x n (id.Prev k p) ∙ ap (λ b. cond b (Some x) (documents_in w.table.documents (id.Prev k p))) (id_itself (id.Prev k p))) ∙ there)) (copied f h)
 
     pub copied_keeps : (x : Document) → documents_in w.table.documents (id.Prev k p) ≡ None → ((f : Former) → formers p k ≡ Some f → IsCopyOf p k f x) → AreLayersKept starts says (after_copied w s p k x)
-    copied_keeps x none new = previous_keeps (with_document w.table (id.Prev k p) x n) p k (put_previous x) (missing_unlisted (documents_in w.table.documents) w.past done world p k none) (put_copied x new) (put_is w.table (id.Prev k p) x n id.Settings) kind.Split refl refl
+    copied_keeps x none new = previous_keeps (with_document w.table (id.Prev k p) x n) p k (put_previous x) (missing_unlisted (documents_in w.table.documents) (course_of w.past) formers kept.sessions.readers.told p k (λ f h. (new f h).numbered) none) (put_copied x new) (put_is w.table (id.Prev k p) x n id.Settings) kind.Split refl refl
 
     pub copied_rises : (x : Document) → documents_in w.table.documents (id.Prev k p) ≡ None → ((f : Former) → formers p k ≡ Some f → IsCopyOf p k f x) → IsHoldingStep (holding_in w) (holding_in (after_copied w s p k x))
-    copied_rises x none new = previous_rises (with_document w.table (id.Prev k p) x n) p k (put_previous x) (missing_unlisted (documents_in w.table.documents) w.past done world p k none) (put_copied x new) (put_is w.table (id.Prev k p) x n id.Settings) kind.Split refl refl
+    copied_rises x none new = previous_rises (with_document w.table (id.Prev k p) x n) p k (put_previous x) (missing_unlisted (documents_in w.table.documents) (course_of w.past) formers kept.sessions.readers.told p k (λ f h. (new f h).numbered) none) (put_copied x new) (put_is w.table (id.Prev k p) x n id.Settings) kind.Split refl refl
 
     module _ (may : MayRemovePrevious w p k) where
       gone : documents_in (without w.table (id.Prev k p)).documents (id.Prev k p) ≡ None
@@ -330,9 +330,7 @@ module _ (starts : Starts) (says : Says) (proper : StartsProper starts) (w : Sta
     named : (f : PrevEntry) → IsIn f old.prev → (x : Document) → documents_in w.table.documents (id.Prev f.number p) ≡ Some x → stays_listed x ≡ not (is_number_of may.numbers f)
     unfolding stays_listed number_stays
     named f i x h =
-        let l = (world.keeps p).previous old may.there f i in
-        let same : x ≡ l.0 = ap (λ o. unwrap_or o x) (sym h ∙ l.1) in
-        ap (number_stays may.numbers) (ap (λ (y : Document). y.id) same ∙ (l.2).named)
+        ap (number_stays may.numbers) ((world.keeps p).previous old may.there f i x h).named
 
     pruned_lists : filter_map (λ (f : PrevEntry). documents_in w.table.documents (id.Prev f.number p)) then.prev ≡ filter stays_listed (moved_in w.table p)
     pruned_lists =
@@ -449,9 +447,7 @@ module _ (starts : Starts) (says : Says) (proper : StartsProper starts) (w : Sta
         let f = any_in (has_moved r k) (moved_in w.table p) h in
         let l = in_listed (λ (f : PrevEntry). documents_in w.table.documents (id.Prev f.number p)) old.prev f.0
         (subst (λ (l : List Document). IsIn f.0 l) (ap (λ (o : Option Document). option_map_or (λ d. filter_map (λ (f : PrevEntry). documents_in w.table.documents (id.Prev f.number p)) d.prev) o []) may.there) f.1) in
-        let x = (world.keeps p).previous old may.there l.0 l.1 in
-        let same : f.0 ≡ x.0 = ap (λ o. unwrap_or o f.0) (sym l.2 ∙ x.1) in
-        of_mark k x.0 (l.0).number x.2 (subst (λ (y : Document). has_moved r k y ≡ true) same f.2)
+        of_mark k f.0 (l.0).number ((world.keeps p).previous old may.there l.0 l.1 f.0 l.2) f.2
       where
         of_name : (n : Name) (x : Document) (j : ℕ) → IsPrevious (course_of w.past) p old j x → is_some (of_revision (values_of_property x.props n) r) ≡ true → is_bounded w.past r ≡ true
         of_name n x j previous has =

@@ -54,6 +54,7 @@ abbrev pub split_now : State → Documents → Pin → Document → PrevEntry �
 split_now w read pin old e =
     after_changes (Some old) (main_write read pin old e) (next_number w.table)
 
+-- a split moves values of a document into a previous one that its node lists
 abbrev pub after_split : State → ℕ → Documents → Pin → Path → Document → PrevEntry → State
 after_split w s read pin p old e =
     let t = with_document w.table (id.Node p) (split_now w read pin old e) (next_number w.table) in
@@ -83,6 +84,7 @@ after_pruned w s p old op =
     (with_document w.table (id.Node p) (after_changes (Some old) op (next_number w.table))
     (next_number w.table))
 
+-- a collection may take this garbage from a document
 pub record MayPrune (w : State) (m t : RevVec) (p : Path) (old : Document) (op : UpdateOp)
     : Type 0 where
   pub bound : IsBoundOf w.past m t
@@ -97,6 +99,7 @@ pub record MayPrune (w : State) (m t : RevVec) (p : Path) (old : Document) (op :
 abbrev pub after_removed : State → ℕ → DocId → State
 after_removed w s i = after_change w s kind.Collect (without w.table i)
 
+-- a collection may take away a node's document that is garbage, below the root
 pub record MayRemove (w : State) (m t : RevVec) (p : Path) (old : Document) : Type 0 where
   pub bound : IsBoundOf w.past m t
   pub sorted : IsTrue (is_sorted id_cmp w.table.documents)
@@ -104,6 +107,7 @@ pub record MayRemove (w : State) (m t : RevVec) (p : Path) (old : Document) : Ty
   pub there : documents_in w.table.documents (id.Node p) ≡ Some old
   pub garbage : IsTrue (is_garbage_document m t old)
 
+-- a collection may take away a previous document that its node doesn't list
 pub record MayRemovePrevious (w : State) (p : Path) (k : ℕ) : Type 0 where
   pub sorted : IsTrue (is_sorted id_cmp w.table.documents)
   pub unlisted : IsUnlisted (documents_in w.table.documents) p k

@@ -212,6 +212,7 @@ pub record AreAboveBounds (past : Past) (h : Holding) : Type 0 where
   pub pins : (k : ℕ) → IsFalse (h.gone k) → (x : Pin) → IsIn x (h.pins k) → IsAboveBounds past x
   pub kept : (x : Pin) → IsIn x h.kept → IsAboveBounds past x
 
+-- each reader at work reads at a pin of its session
 pub record IsPinned (w : State) : Type 0 where
   -- each reader reads at the pin of its session
   pub reads : (s : ℕ) (r : Reader) → w.reading s ≡ Some r → actor_pin w s ≡ Some r.pin

@@ -67,4 +67,4 @@ pub record IsSplitting (past : Past) (t : Table) (formers : Formers) (known : Do
   pub former : (f : Former) → formers p old.mod_count ≡ Some f
       → (f.document ≡ old)
       × ((r : Revision) → IsTrue (sees pin.base r) → IsTrue (is_some (edit_of past r))
-      → IsTrue (f.committed r))
+      → IsTrue (f.done r))

@@ -35,9 +35,11 @@ start_settings sessions = record (document_of None id.Settings) {
   sessions = sessions;
 }
 
+-- the path of the system's node
 abbrev pub system_path : Path
 system_path = codes "jcr:system" ∷ []
 
+-- the path of the node below which all histories stand
 abbrev pub versions_path : Path
 versions_path = codes "jcr:system" ∷ codes "jcr:versionStorage" ∷ []
 

@@ -26,6 +26,7 @@ use Rattle.core_keep.specs.Formers.{Formers}
 use Rattle.core_clash.specs.Core.{Core}
 use Rattle.core_clash.specs.Sessions.{Running}
 
+-- all of a world: its nodes and sessions, its past, its documents, memories, committers and readers
 pub record State : Type 0 where
   -- the number of cluster nodes, and the cluster node of each session
   pub clusters : ℕ

@@ -52,6 +52,7 @@ abbrev pub with_result : Table → DocId → Result Document OpFault → Table
 with_result t id (Ok d) = with_document t id d (next_number t)
 with_result t id (Err fault) = t
 
+-- the table after an update, which may be refused and then changes nothing
 abbrev pub after_update : Table → UpdateOp → Table
 after_update t op =
     with_result t op.id (updated (Rattle.oak_store.specs.Tables.found t op.id) op (next_number t))
@@ -196,6 +197,7 @@ refused w s x item o = record w {
   running = goes_on w s x (record x.writer { due = []; undoing = true });
 }
 
+-- a session's mark on another's commit root is made, or its revision is refused
 abbrev pub marked_by : State → ℕ → Running → Met → List Met → Result Document OpFault → State
 marked_by w s x f rest (Ok d) = record w {
   past = event.Went s kind.Mark ∷ w.past;
@@ -212,6 +214,7 @@ after_mark w s x f rest =
     (updated (nodes_in w.table (root_of w.past f.other))
     (mark_op (root_of w.past f.other) f.other x.draw.revision f.theirs) (next_number w.table))
 
+-- a session's last write is made, which commits, or its revision is refused
 abbrev pub lasted_by : State → ℕ → Running → Result Document OpFault → State
 lasted_by w s x (Ok d) = record w {
   past = event.Commit x.draw.revision ∷ w.past;
@@ -412,6 +415,7 @@ publish_op r = record {
   changes = change.LastRev r ∷ change.SweepRev r ∷ [];
 }
 
+-- what a recovery published for a cluster node is told, and swept up to there
 abbrev pub after_publish : State → ℕ → Revision → State
 after_publish w k r = record w {
   past = event.Sweep k r ∷ event.Out k r ∷ w.past;

@@ -70,7 +70,8 @@ ghost use Rattle.oak_commit.specs.Looking.{whole};
 ghost use Rattle.core_clash.specs.Sessions.{Running};
 ghost use Rattle.core_clash.specs.Sound.{Cause, IsRooted};
 ghost use Rattle.core_clash.specs.Views.{In};
-ghost use Rattle.core_keep.specs.Formers.{Former, former_now, Formers, IsCopyOf, with_former};
+ghost use Rattle.core_keep.specs.Formers.{AreFormers, Former, former_now, Formers, IsCopyOf, with_former};
+ghost use Rattle.core_keep.specs.Keeps.{Course};
 ghost use Rattle.core_keep.specs.Bounds.{root_pair};
 ghost use Rattle.core_keep.specs.Splits.{previous_write, IsInOrder};
 ghost use Rattle.core_keep.specs.Holding.{IsHoldingStep};
@@ -979,8 +980,9 @@ pub fn sweeps_may_be_told<L: Law>(law: &L)
 /// that changes, one that lists another number, garbage that goes, a document that goes, and
 /// previous documents of other numbers, or of numbers behind the node.
 pub fn splits_stay_apart()
-    ensures begins { (t : Table) (past : Past) (done : Progress) (p : Path) (k : ℕ) (x : Document)
-        → IsKeptWorld (documents_in t.documents) past done
+    ensures begins { (t : Table) (c : Course) (formers : Formers) (p : Path) (k : ℕ) (x : Document)
+        → AreFormers (documents_in t.documents) c formers
+        → ((f : Former) → formers p k ≡ Some f → f.document.mod_count ≡ k)
         → documents_in t.documents (id.Prev k p) ≡ None → k < last_number → t.number ≤ last_number
         → k ≤ t.number → IsCopied (with_document t (id.Prev k p) x (next_number t)) p k x }
     ensures apart { (t : Table) (p : Path) (k : ℕ) (x : Document) → IsCopied t p k x

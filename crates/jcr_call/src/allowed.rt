@@ -21,10 +21,6 @@ fn is_built(command: &Command) -> bool
         Command::Split(_)
             | Command::Sweep
             | Command::Collect
-            | Command::Attach(_)
-            | Command::Detach
-            | Command::Observe(_, _, _)
-            | Command::Events
             | Command::Stop(_)
             | Command::Recover(_)
     )

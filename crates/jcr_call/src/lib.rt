@@ -21,5 +21,5 @@ pub use footing::Footing;
 pub use ids::next_id;
 pub use proper::is_proper;
 pub use queries::{pairs_of, query_reply, sets_of, unknown_selector};
-pub use replies::{cause_text, version_reply};
+pub use replies::{cause_text, events_reply, version_reply};
 pub use tokens::{with_token, without_token};

@@ -6,9 +6,11 @@ ghost use Rattle.jcr_trans.specs.Texts.{answer_text};
 ghost use Rattle.jcr_version.specs.Edits.{checked_in_version};
 ghost use Rattle.jcr_law.specs.Commits.{unwritten_answer, version_answer};
 ghost use Rattle.jcr_law.specs.Law.{no_text};
+ghost use Rattle.jcr_law.specs.Queries.{events_reply};
 ghost use Rattle.jcr_law.specs.State.{Call};
 
 use crate::versions::{storage, version_told};
+use jcr_observe::{JcrEvent, events_text};
 use jcr_trans::{Command, null_reply, refusal_text, text_reply};
 use jr_items::own_rule;
 use jr_path::Path;
@@ -35,6 +37,14 @@ pub(crate) fn cause_told(alloc: Global, refusal: Refusal) -> Result<String, Allo
     let text = cause_text(alloc, &refusal);
     drop(refusal);
     text
+}
+
+/// The reply that shows events (JSR 283, 12.3 Events): `ok` and their JSON, as `ok [[1,"/a"]]`.
+pub fn events_reply(alloc: Global, shown: &[JcrEvent]) -> Result<String, AllocError>
+    ensures { IfOk result (λ reply. string_bytes reply ≡ events_reply shown.now) }
+{
+    let text = events_text(alloc, shown)?;
+    Ok(format!(in alloc; "ok {text}")?)
 }
 
 /// The reply that shows the version that a check-in of a node makes, or that is the node's base

@@ -6,8 +6,9 @@ ghost use Rattle.jcr_observe.specs.Observed.{events_of};
 ghost use Rattle.jcr_law.specs.Queries.{events_reply, events_since};
 ghost use Rattle.jcr_eval.specs.Said.{says_events, shows_events};
 
+use jcr_call::events_reply;
 use jcr_law::{Cursor, JcrLaw};
-use jcr_observe::{JcrEvent, events, events_text};
+use jcr_observe::{JcrEvent, events};
 use jcr_past::{call_of, has_pin};
 use jr_rev::RevVec;
 use oak_machine::Journal;
@@ -78,8 +79,7 @@ fn is_events_text(
 fn is_reply(alloc: Global, text: &str, shown: &[JcrEvent]) -> Result<bool, AllocError>
     ensures { IfOk result (λ b. b ≡ bytes_eq text.now (events_reply shown.now)) }
 {
-    let shown = events_text(alloc, shown)?;
-    let reply = format!(in alloc; "ok {shown}")?;
+    let reply = events_reply(alloc, shown)?;
     Ok(text == reply.as_str())
 }
 

@@ -1,5 +1,5 @@
 -- What is held after a command was answered.
-use Rattle.std.proofs.Common.{◌≡◌, ◌+◌, ℕ, Bool, true, false, cond, List, [], refl, sym, ap, ◌∙◌, subst}
+use Rattle.std.proofs.Common.{◌≡◌, ◌+◌, ℕ, Bool, true, false, cond, List, [], Some, refl, sym, ap, ◌∙◌, subst}
 use Rattle.std.specs.Prelude.{IfOk, OnErr, OnOk, Result, Ok, Err, min}
 use Rattle.std.specs.List.{All}
 use Rattle.std.specs.String.{string_bytes}
@@ -15,6 +15,8 @@ use Rattle.jr_tree.specs.declared.shared.Who.{Who}
 use Rattle.jr_tree.specs.Trees.{Nodes}
 use Rattle.jr_types.specs.declared.TypeDef.{TypeDef}
 use Rattle.jr_items.specs.Refusals.{out_of_memory}
+use Rattle.jcr_observe.specs.declared.event.Filter.{Filter}
+use Rattle.jr_path.specs.declared.path.Path.{Path}
 use Rattle.jcr_fill.specs.Makings.{Making, making}
 use Rattle.jcr_trans.specs.Answers.{Answer, Done}
 use Rattle.jcr_trans.specs.Texts.{answer_text}
@@ -28,6 +30,7 @@ use Rattle.jcr_law.specs.declared.state.State.{State}
 use Rattle.jcr_law.specs.State.{Call, accepted, counted, is_ok_text, used, viewed}
 use Rattle.jcr_law.specs.Calls.{call_after, with_state}
 use Rattle.jcr_held.specs.declared.held.Held.{Held}
+use Rattle.jcr_held.specs.Accepts.{IsFilterOf}
 use Rattle.jcr_held.specs.Alike.{AreAlike, with_drawn}
 use Rattle.jcr_held.specs.Holds.{Holds, HoldsView}
 use Rattle.jcr_held.specs.Sees.{IsSeen, Sees, outcome_of, with_outcome}
@@ -42,6 +45,7 @@ holds_own c x h = record {
   who = h.who ∙ ap (λ (n : ℕ). record c.who { ids = n }) h.ids;
   ids = refl;
   tokens = h.tokens;
+  cursor = h.cursor;
   view = h.view;
   references = h.references;
 }
@@ -53,9 +57,34 @@ holds_counted c x state ok drew m h = record {
   who = ap (λ (w : Who). record w { ids = min (w.ids + used ok drew m) 16777215 }) h.who;
   ids = refl;
   tokens = h.tokens;
+  cursor = h.cursor;
   view = h.view;
   references = h.references;
 }
+
+-- once it observes
+observed : (c : Call) (x : Held) (p : Path) (deep : Bool) (mask : ℕ) → Holds c x
+    → Holds (with_state c (accepted c (command.Observe p deep mask)))
+    (record x { cursor = Some (record { at = x.who.base; filter = record { path = p; deep = deep; mask = mask } }) })
+observed c x p deep mask h = record {
+  types = h.types;
+  who = h.who ∙ ap (λ (n : ℕ). record c.who { ids = n }) h.ids;
+  ids = refl;
+  tokens = h.tokens;
+  cursor = ap (λ (w : Who). Some (record { at = w.base; filter = record { path = p; deep = deep; mask = mask } })) h.who;
+  view = h.view;
+  references = h.references;
+}
+
+pub holds_observed : (c : Call) (x y : Held) (m : Command) (f : Filter) → IsFilterOf m f
+    → AreAlike (with_drawn (record x { cursor = Some (record { at = x.who.base; filter = f }) }) (used true false m)) y → Holds c x
+    → Holds (call_after true false c m) y
+holds_observed c x y (command.Observe p deep mask) f is alike h =
+    holds_alike _ _ y alike
+    (subst (λ (g : Filter). Holds (call_after true false c (command.Observe p deep mask))
+    (with_drawn (record x { cursor = Some (record { at = x.who.base; filter = g }) }) 0)) (sym is)
+    (holds_counted c _ (accepted c (command.Observe p deep mask)) true false (command.Observe p deep mask) (observed c x p deep mask h)))
+holds_observed c x y m f is alike h = absurd is
 
 -- ---- commands of the view
 
@@ -191,6 +220,7 @@ module _ (enough : (types : List TypeDef) (who : Who) (t : Nodes) (k : Knowledge
         ∙ as_law (λ (d : Outcome). record c.who { ids = d.ids } ≡ record c.who { ids = e.ids }) refl;
     ids = refl;
     tokens = holds.tokens;
+    cursor = holds.cursor;
     view = subst (λ (b : Bool). HoldsView (with_state c (viewed e c.state)) x.part (with_steps x.part.nodes x.pending o.steps) b)
         (sym settled) view_after;
     references = holds.references;

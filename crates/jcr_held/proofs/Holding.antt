@@ -48,6 +48,7 @@ holds_alike c x y a h = record {
   who = a.who ∙ h.who;
   ids = h.ids;
   tokens = a.tokens ∙ h.tokens;
+  cursor = a.cursor ∙ h.cursor;
   view = subst (λ (k : Knowledge). HoldsView c k y.pending y.is_kept) (sym a.part)
       (subst (λ (p : Changed). HoldsView c x.part p y.is_kept) (sym a.pending)
       (subst (λ (b : Bool). HoldsView c x.part x.pending b) (sym a.is_kept) h.view));
@@ -81,6 +82,7 @@ holds_moved c x v t h settled tree = record {
   who = ap (λ (w : Who). record w { base = v }) h.who;
   ids = h.ids;
   tokens = h.tokens;
+  cursor = h.cursor;
   view = (nothing_part t tree, ap (tree_again t) (pending_changes c x settled h));
   references = tt;
 }
@@ -95,6 +97,7 @@ holds_moved_knowing c x v t k h settled tree order agrees refers =
       who = moved.who;
       ids = moved.ids;
       tokens = moved.tokens;
+      cursor = moved.cursor;
       view = (record { tree = tree; order = order; agrees = agrees (view_settled c x settled h).0.agrees; over = nothing_over t }, moved.view.1);
       references = refers;
     }
@@ -118,6 +121,7 @@ holds_known c x more order agrees h = record {
   who = h.who;
   ids = h.ids;
   tokens = h.tokens;
+  cursor = h.cursor;
   view = view_known c x.part more x.pending x.is_kept order agrees h.view;
   references = h.references;
 }
@@ -155,6 +159,7 @@ module _ (over : (t : Nodes) (k : Knowledge) (ws : List Write) → IsPartOf t k 
     who = h.who;
     ids = h.ids;
     tokens = h.tokens;
+    cursor = h.cursor;
     view = view_again c x.part x.pending x.is_kept kept known h.view;
     references = h.references;
   }
@@ -165,6 +170,10 @@ module _ (over : (t : Nodes) (k : Knowledge) (ws : List Write) → IsPartOf t k 
 pub asks_of_view : (x : Held) (m : Command) → is_viewed m ≡ true → asks_for x m ≡ needs_of x.who x.part x.pending m
 asks_of_view x command.Head h = absurd (false≢true h)
 asks_of_view x (command.Refresh keep) h = absurd (false≢true h)
+asks_of_view x (command.Attach id) h = absurd (false≢true h)
+asks_of_view x command.Detach h = absurd (false≢true h)
+asks_of_view x (command.Observe p deep mask) h = absurd (false≢true h)
+asks_of_view x command.Events h = absurd (false≢true h)
 asks_of_view x m h = ap (λ b. cond b (needs_of x.who x.part x.pending m) (need.All ∷ [])) h
 
 pub view_known_of : (x : Held) (m : Command) → is_viewed m ≡ true → All (LacksNothing x.part) (asks_for x m)
@@ -186,6 +195,10 @@ first_known k (x ∷ xs) n is known =
 asks_alike : (x y : Held) (m : Command) → AreAlike x y → asks_for y m ≡ asks_for x m
 asks_alike x y command.Head a = refl
 asks_alike x y (command.Refresh keep) a = refl
+asks_alike x y (command.Attach id) a = refl
+asks_alike x y command.Detach a = refl
+asks_alike x y (command.Observe p deep mask) a = refl
+asks_alike x y command.Events a = refl
 asks_alike x y m a =
     ap (λ (w : Who). cond (is_viewed m) (needs_of w y.part y.pending m) (need.All ∷ [])) a.who
     ∙ ap (λ (k : Knowledge). cond (is_viewed m) (needs_of x.who k y.pending m) (need.All ∷ [])) a.part
@@ -227,6 +240,7 @@ holds_asked c x u r settled whole told h =
       who = h.who;
       ids = h.ids;
       tokens = h.tokens;
+      cursor = h.cursor;
       view = h.view;
       references = subst (HoldsReferences c.base) (sym is) (told_so c.base (dangling c.base) refl);
     }
@@ -234,6 +248,10 @@ holds_asked c x u r settled whole told h =
 asks_apart : (x : Held) (r : References) (m : Command) → asks_for (record x { references = r }) m ≡ asks_for x m
 asks_apart x r command.Head = refl
 asks_apart x r (command.Refresh keep) = refl
+asks_apart x r (command.Attach id) = refl
+asks_apart x r command.Detach = refl
+asks_apart x r (command.Observe p deep mask) = refl
+asks_apart x r command.Events = refl
 asks_apart x r m = refl
 
 -- a command is ready still, whatever is known of the references

@@ -129,6 +129,10 @@ module _ (c : Call) (x : Held) (h : Holds c x) (n wanted : Need) (lacks : IsFirs
   asked_may : (m : Command) → x.is_kept ≡ false → Contains (asks_for x m) wanted → Contains (may_load c x m) n
   asked_may command.Head settled asked = absurd (is_in [] wanted asked)
   asked_may (command.Refresh keep) settled asked = absurd (is_in [] wanted asked)
+  asked_may (command.Attach id) settled asked = absurd (is_in [] wanted asked)
+  asked_may command.Detach settled asked = absurd (is_in [] wanted asked)
+  asked_may (command.Observe p deep mask) settled asked = absurd (is_in [] wanted asked)
+  asked_may command.Events settled asked = absurd (is_in [] wanted asked)
   asked_may m settled asked = either_may m settled asked
 
   kept_may : (m : Command) → x.is_kept ≡ true → Contains (needs_to_rebase (edit_of x.pending)) wanted → Contains (may_load c x m) n

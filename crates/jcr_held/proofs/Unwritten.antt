@@ -1,4 +1,4 @@
--- A command for which there is nothing to write leaves the lock tokens: a lock always writes its owner.
+-- A command for which there is nothing to write leaves the lock tokens and the cursor: a lock always writes its owner.
 use Rattle.std.proofs.Common.{◌≡◌, ◌∙◌, ℕ, ◌+◌, Bool, true, false, cond, not, ◌&&◌, ◌||◌, List, [], ◌∷◌, ◌++◌, map, Option, None, Some, is_some, is_none, Ok, Err, refl, sym, ap}
 use Rattle.std.specs.Prelude.{Result, option_map}
 use Rattle.std.specs.declared.alloc.Global.{Global}
@@ -39,7 +39,7 @@ use Rattle.jcr_law.specs.State.{Call, accepted, is_ok_text, next_id, viewed}
 use Rattle.jcr_call.specs.Comings.{reply_to_due}
 use Rattle.jcr_call.specs.declared.coming.Coming.TheVariants as coming
 use Rattle.jcr_held.specs.declared.held.Held.{Held}
-use Rattle.jcr_held.specs.Accepts.{TokensFit}
+use Rattle.jcr_held.specs.Accepts.{AcceptsAs, cursor_behind}
 use Rattle.jcr_held.specs.Comes.{ComesTo}
 use Rattle.jcr_held.specs.Holds.{Holds, HoldsView}
 
@@ -193,6 +193,22 @@ unwritten_keeps c tree m h = by (is_viewed m)
     by true = refl
     by false = refl
 
+-- no command that has an edit moves the cursor
+cursor_stays : (c : Call) (x : Held) (m : Command) (due : Result (List Write) Refusal) → x.cursor ≡ c.state.cursor → edit_due c m ≡ Some due
+    → cursor_behind x m ≡ (accepted c m).cursor
+cursor_stays c x command.Save due is h = is
+cursor_stays c x (command.Refresh false) due is h = is
+cursor_stays c x (command.Token t) due is h = is
+cursor_stays c x (command.DropToken t) due is h = is
+cursor_stays c x (command.Lock p deep) due is h = is
+cursor_stays c x (command.Observe p deep mask) due is h = absurd (none-some due h)
+cursor_stays c x command.Events due is h = absurd (none-some due h)
+cursor_stays c x m due is h = by (is_viewed m)
+  where
+    by : (b : Bool) → x.cursor ≡ (cond b (viewed (eval c.types c.who c.base c.state.view m) c.state) c.state).cursor
+    by true = is
+    by false = is
+
 -- a refusal accepts nothing
 refuses : (o : Option Refusal) (text : List ℕ) → option_map no_text o ≡ Some text → is_ok_text text ≡ true → ⊥
 refuses None text h ok = none-some _ h
@@ -208,11 +224,14 @@ base_tree c x h = by x.is_kept h.view
     by true v = v.0.tree
 
 pub said_fits : (c : Call) (x : Held) (m : Command) (text : String Global) → Holds c x → ComesTo c m (coming.Said text)
-    → is_ok_text (string_bytes text) ≡ true → TokensFit x None c m
+    → is_ok_text (string_bytes text) ≡ true → AcceptsAs x None c m
 said_fits c x m text h comes ok = by comes.due comes.is_due comes.comes
   where
     by : (due : Result (List Write) Refusal) → edit_due c m ≡ Some due → reply_to_due c m due ≡ Some (string_bytes text)
-        → TokensFit x None c m
-    by (Ok []) is said = h.tokens ∙ sym (unwritten_keeps c (base_tree c x h) m is)
+        → AcceptsAs x None c m
+    by (Ok []) is said = record {
+      tokens_are = h.tokens ∙ sym (unwritten_keeps c (base_tree c x h) m is);
+      cursor_is = cursor_stays c x m (Ok []) h.cursor is;
+    }
     by (Ok (w ∷ ws)) is said = absurd (refuses (refusal_of_plan c (w ∷ ws)) (string_bytes text) said ok)
     by (Err r) is said = absurd (refuses (Some r) (string_bytes text) said ok)

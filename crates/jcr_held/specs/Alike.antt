@@ -15,6 +15,7 @@ pub record AreAlike (x y : Held) : Type 0 where
   pub is_kept : y.is_kept ≡ x.is_kept
   pub references : y.references ≡ x.references
   pub tokens : y.tokens ≡ x.tokens
+  pub cursor : y.cursor ≡ x.cursor
 
 -- only what is pending changes, and whether it is kept from an earlier base; of the references of the
 -- tree at the base it may be asked, where it wasn't yet
@@ -24,6 +25,7 @@ pub record Readies (old new : Held) : Type 0 where
   pub part : new.part ≡ old.part
   pub references : IsTrue (are_asked old.references) → new.references ≡ old.references
   pub tokens : new.tokens ≡ old.tokens
+  pub cursor : new.cursor ≡ old.cursor
 
 -- the base is at a vector, of whose tree nothing is known, nor of its references; what is pending is
 -- kept

@@ -30,13 +30,19 @@ pub record Holds (c : Call) (x : Held) : Type 0 where
   pub who : x.who ≡ c.who
   pub ids : c.who.ids ≡ c.state.ids
   pub tokens : x.tokens ≡ c.state.tokens
+  pub cursor : x.cursor ≡ c.state.cursor
   pub view : HoldsView c x.part x.pending x.is_kept
   pub references : HoldsReferences c.base x.references
 
--- the command reads the view, or the tree at the base, or commits; others need nothing of these
+-- the command reads the view, or the tree at the base, or commits; others need nothing of these,
+-- but that what is pending is made again
 abbrev pub asks_for : Held → Command → List Need
 asks_for x command.Head = []
 asks_for x (command.Refresh keep) = []
+asks_for x (command.Attach id) = []
+asks_for x command.Detach = []
+asks_for x (command.Observe p deep mask) = []
+asks_for x command.Events = []
 asks_for x m = cond (is_viewed m) (needs_of x.who x.part x.pending m) (need.All ∷ [])
 
 -- what is kept is made again, and nothing lacks of what the command asks for

@@ -1,5 +1,5 @@
 // What a session holds between its commands.
-ghost use Rattle.std.specs.Prelude.{◌≡◌, IsFalse, IsTrue, None, OnErr, OnOk, Some, false, true};
+ghost use Rattle.std.specs.Prelude.{◌≡◌, IsFalse, IsTrue, None, OnErr, OnOk, Some, false, option_map, true};
 ghost use Rattle.std.specs.Option.{unwrap_or};
 ghost use Rattle.std.specs.FinMap.{is_sorted};
 ghost use Rattle.jr_path.specs.Names.{name_cmp};
@@ -11,8 +11,9 @@ ghost use Rattle.jcr_ref.specs.References.{ReferencesOk};
 ghost use Rattle.jcr_view.specs.Outcomes.{is_viewed};
 ghost use Rattle.jcr_law.specs.State.{Call, used};
 ghost use Rattle.jcr_law.specs.Calls.{call_after, call_moved};
+ghost use Rattle.jcr_law.specs.declared.state.Cursor.{Cursor as Standing};
 ghost use Rattle.jcr_held.specs.Alike.{AreAlike, moved_to, with_drawn};
-ghost use Rattle.jcr_held.specs.Accepts.{TokensFit, drops_pending, without_pending};
+ghost use Rattle.jcr_held.specs.Accepts.{AcceptsAs, cursor_behind, drops_pending, without_pending};
 ghost use Rattle.jcr_held.specs.Begins.{IsFirstCall, IsNewHeld};
 ghost use Rattle.jcr_held.specs.Holds.{Holds};
 ghost use Rattle.jcr_held.specs.declared.references.References.TheVariants as references;
@@ -20,6 +21,7 @@ ghost use Rattle.jcr_held.specs.declared.references.References.TheVariants as re
 use crate::held_part::HeldPart;
 use crate::looking::Place;
 use crate::references::References;
+use jcr_law::Cursor;
 use jcr_ref::MAX_IDS;
 use jcr_trans::Command;
 use jcr_view::Pending;
@@ -30,8 +32,8 @@ use jr_types::Registry;
 use std::alloc::{AllocError, Global};
 
 /// What a session holds between its commands: the node types, who it is, what it has read of the
-/// tree at its base, what is pending over that, and its lock tokens (JSR 283, 10.11 Saving; 17.5
-/// Lock Token).
+/// tree at its base, what is pending over that, its lock tokens, and its cursor over the changes
+/// (JSR 283, 10.11 Saving; 12 Observation; 17.5 Lock Token).
 pub struct Held {
     pub(crate) alloc: Global,
     pub(crate) types: Registry,
@@ -43,6 +45,8 @@ pub struct Held {
     // What is known of the REFERENCEs of the tree at the base.
     pub(crate) references: References,
     pub(crate) tokens: List<Text>,
+    // Its cursor over the changes, where it observes.
+    pub(crate) cursor: Option<Cursor>,
     // What is still to be looked at by loading, the next last.
     pub(crate) left: Vec<Place>,
 }
@@ -59,12 +63,14 @@ impl Drop for Held {
             is_kept: _,
             references: _,
             tokens,
+            cursor,
             left,
         } = self;
         drop(types);
         drop(part);
         drop(pending);
         drop(tokens);
+        drop(cursor);
         drop(left);
     }
 }
@@ -96,6 +102,7 @@ impl Held {
             is_kept: false,
             references: References::Unasked,
             tokens: List::new(alloc),
+            cursor: None,
             left: Vec::new(alloc),
         }
     }
@@ -184,14 +191,16 @@ impl Held {
     }
 
     /// A command that the view doesn't answer was accepted: `save`, and `refresh` with false, drop
-    /// what is pending. The tokens are those given, or else they stay. It takes no memory.
+    /// what is pending; `events` moves the cursor to the base. The tokens are those given, or else
+    /// they stay. It takes no memory.
     pub fn accept(&mut self, command: &Command, drew: bool, tokens: Option<List<Text>>)
         requires { IsFalse (is_viewed command.now) }
-        ensures { (c : Call) → Holds c self.old → TokensFit self.old tokens c command.now
+        ensures { (c : Call) → Holds c self.old → AcceptsAs self.old tokens c command.now
             → Holds (call_after true drew c command.now) self.new }
     {
         self.drop_pending(command);
         self.take_tokens(tokens);
+        self.move_cursor(command);
         self.count(used(command, true, drew));
     }
 
@@ -211,6 +220,28 @@ impl Held {
     {
         if let Some(tokens) = tokens {
             self.tokens = tokens;
+        }
+    }
+
+    // The cursor moves to the base, where an accepted reply to the command moves it.
+    fn move_cursor(&mut self, command: &Command)
+        ensures { self.new ≡ record self.old { cursor = cursor_behind self.old command.now } }
+    {
+        if let Command::Events = command {
+            self.move_to_base();
+        }
+    }
+
+    // The cursor, where there is one, moves to the base.
+    fn move_to_base(&mut self)
+        ensures { self.new ≡ record self.old {
+          cursor = option_map (λ (x : Standing). record x { at = self.old.who.base })
+              self.old.cursor;
+        } }
+    {
+        let at = self.who.base;
+        if let Some(cursor) = &mut self.cursor {
+            cursor.at = at;
         }
     }
 
@@ -239,7 +270,7 @@ fn drops_pending(command: &Command) -> bool
 }
 
 // How many identifiers a command has used that is no command of the view.
-fn used(command: &Command, ok: bool, drew: bool) -> u32
+pub(crate) fn used(command: &Command, ok: bool, drew: bool) -> u32
     ensures { result ≡ used ok drew command.now }
 {
     match command {

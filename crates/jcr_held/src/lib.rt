@@ -1,6 +1,6 @@
 //! What a session holds between its commands: the part of the tree at its base that it has read,
-//! its pending changes, its lock tokens, and how many identifiers it has drawn (JSR 283, 10.11
-//! Saving; 17.5 Lock Token).
+//! its pending changes, its lock tokens, its cursor over the changes, and how many identifiers it
+//! has drawn (JSR 283, 10.11 Saving; 12 Observation; 17.5 Lock Token).
 #![tactic(auto)]
 
 mod checkpoints;
@@ -10,6 +10,7 @@ mod held_part;
 mod laws;
 mod loading;
 mod looking;
+mod observing;
 mod references;
 mod seeing;
 

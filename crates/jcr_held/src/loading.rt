@@ -29,8 +29,9 @@ impl Held {
     /// What to read next of the tree at the base, a node or the children of one, before a command
     /// is run; None where all is known that it asks for, and nothing is kept from an earlier base.
     /// Commands that commit, and queries, ask for the whole tree (JSR 283, 6 Query; 10.11 Saving);
-    /// `head` and `refresh` for nothing. Before one that commits, it is asked once at each base
-    /// whether a REFERENCE dangles there, where that isn't known (3.8.2 Referential Integrity).
+    /// `head`, `refresh`, `attach`, `detach`, `observe` and `events` for nothing. Before one that
+    /// commits, it is asked once at each base whether a REFERENCE dangles there, where that isn't
+    /// known (3.8.2 Referential Integrity).
     pub fn next_load(&mut self, command: &Command) -> Result<Option<Need>, AllocError>
         ensures ready { IfOk result (λ load. load ≡ None → IsReady self.new command.now) }
         ensures asked { IfOk result (λ load. load ≡ None → HasAsked self.new command.now) }
@@ -188,6 +189,8 @@ impl Held {
     {
         match command {
             Command::Head | Command::Refresh(_) => Ok(Vec::new(self.alloc)),
+            Command::Attach(_) | Command::Detach => Ok(Vec::new(self.alloc)),
+            Command::Observe(_, _, _) | Command::Events => Ok(Vec::new(self.alloc)),
             _ => self.asked_of_tree(command),
         }
     }

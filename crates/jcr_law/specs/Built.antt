@@ -8,10 +8,6 @@ abbrev pub is_built : Command → Bool
 is_built (command.Split p) = false
 is_built command.Sweep = false
 is_built command.Collect = false
-is_built (command.Attach id) = false
-is_built command.Detach = false
-is_built (command.Observe p deep mask) = false
-is_built command.Events = false
 is_built (command.Stop k) = false
 is_built (command.Recover k) = false
 is_built _ = true

@@ -1,18 +1,14 @@
 -- The next command of a session asks for each event that its tasks append.
-use Rattle.std.proofs.Common.{◌≡◌, Bool, true, Some, None, refl, sym, ap, ◌∙◌, subst}
+use Rattle.std.proofs.Common.{◌≡◌, true, Some, None, refl, sym, ap, ◌∙◌}
 use Rattle.std.specs.Prelude.{ℕ}
 use mathlib.Core.Bool.{false≢true}
-use Rattle.jr_part.specs.declared.need.Need.{Need}
-use Rattle.jr_part.specs.declared.need.Need.TheVariants as need
 use Rattle.oak_machine.specs.declared.event.Event.{Event}
 use Rattle.oak_machine.specs.declared.event.Event.TheVariants as event
 use Rattle.oak_machine.specs.declared.event.StepKind.TheVariants as kind
 use Rattle.oak_machine.specs.Asked.{is_of_commit}
 use Rattle.oak_machine.specs.Laws.{Asks}
-use Rattle.oak_machine.specs.History.{History}
 use Rattle.oak_machine.specs.Sessions.{next_index}
-use Rattle.oak_port.specs.Ports.{Appends, IsAskedOf, Shown, Starting, Work}
-use Rattle.oak_port.specs.declared.task.Task.{Task}
+use Rattle.oak_port.specs.Ports.{Appends, IsAskedOf, Shown}
 use Rattle.oak_port.specs.declared.task.Task.TheVariants as task
 use Rattle.jcr_plan.specs.declared.plans.Plan.{Plan}
 use Rattle.jcr_trans.specs.declared.command.Command.{Command}
@@ -25,10 +21,9 @@ use Rattle.jcr_session.specs.declared.next.Due.TheVariants as due
 use Rattle.jcr_session.specs.declared.run.Phase.TheVariants as phase
 use Rattle.jcr_session.specs.declared.run.SessionRun.{SessionRun}
 use Rattle.jcr_session.specs.Asked.{MayDrawFor}
-use Rattle.jcr_session.specs.Standing.{IsReading, Stands, due_for}
+use Rattle.jcr_session.specs.Standing.{Stands, due_for}
 use Rattle.jcr_session.proofs.Drawing.{commit_commits, next_mid}
 use Rattle.jcr_session.proofs.Living.{outside_at}
-use Rattle.jcr_session.proofs.Nexts.{allowed_due, next_due, only_refresh}
 use Rattle.jcr_session.proofs.Stages.{next_is}
 use Rattle.jcr_session.proofs.Starting.{left_none}
 
@@ -53,24 +48,10 @@ module _ (law : JcrLaw) (p : Shown) (run : SessionRun) (stands : Stands law p ru
   leave_asked leaves e appends = by e appends
     where
       none : command_at law p.session (next_index p.history.past p.session) ≡ None
-      none = next_is law p run stands ∙ left_none run.commands run.index leaves
+      none = next_is law p run stands ∙ left_none run.attached run.commands run.index leaves
 
       by : (e : Event) → Appends task.End e → IsAskedAt law p.session (next_index p.history.past p.session) e
       by (event.Went t kind.End) m = none
-      by e m = absurd m
-
-  -- the move of the base, for a refresh
-  pub refresh_asked : due_for run ≡ due.Refresh → IsAskedOf (asks_of law) p.history p.session task.Refresh
-  refresh_asked next e appends = by e appends
-    where
-      at : (keep : Bool) × (command_at law p.session (next_index p.history.past p.session) ≡ Some (command.Refresh keep))
-      at =
-          let m = next_due run due.Refresh next refl in
-          let k = only_refresh m.0 (allowed_due m.0 due.Refresh m.2 refl).1 in
-          (k.0, next_is law p run stands ∙ (m.1 ∙ ap (λ (x : Command). Some x) k.1))
-
-      by : (e : Event) → Appends task.Refresh e → IsAskedAt law p.session (next_index p.history.past p.session) e
-      by (event.Refresh t v) m = (command.Refresh at.0, at.1, refl, tt)
       by e m = absurd m
 
 -- the events of a commit, for a command that commits
@@ -105,12 +86,3 @@ asked_commit law s i m at h e is = (m, at, commit_built m h, commit_makes m e h 
 pub commit_asked : (law : JcrLaw) (p : Shown) (run : SessionRun) (plan : Plan) → MayDrawFor law p run plan → IsAskedOf (asks_of law) p.history p.session (task.Commit plan.edit plan.marks)
 commit_asked law p run plan may e appends =
     asked_commit law p.session (next_index p.history.past p.session) may.command (next_mid law p run plan may) (commit_commits run may.command may.asked.next may.commits) e appends
-
--- reading appends nothing
-abbrev task_in : Work → Task → Task
-task_in w other = elim w [ Starting t ↦ t | _ ↦ other ]
-
-pub reading_asked : (asks : Asks) (h : History) (s : ℕ) (t : Task) (n : Need) → IsReading (Starting t) (Some n) → IsAskedOf asks h s t
-reading_asked asks h s t (need.Node p) is = subst (λ (x : Task). IsAskedOf asks h s x) (sym (ap (λ (w : Work). task_in w t) is)) (λ e appends. absurd appends)
-reading_asked asks h s t (need.Children p) is = subst (λ (x : Task). IsAskedOf asks h s x) (sym (ap (λ (w : Work). task_in w t) is)) (λ e appends. absurd appends)
-reading_asked asks h s t n is = absurd is

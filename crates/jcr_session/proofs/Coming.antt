@@ -1,10 +1,11 @@
 -- Which answers come to the steps of a session's tasks.
-use Rattle.std.proofs.Common.{◌≡◌, Some, None, is_some, refl, sym, ap, subst}
+use Rattle.std.proofs.Common.{◌≡◌, ◌∙◌, Some, None, is_some, refl, sym, ap, subst}
 use mathlib.Core.Bool.{false≢true}
+use Rattle.jr_path.specs.Lists.{Text}
 use Rattle.jr_path.specs.declared.path.Path.{Path}
 use Rattle.jr_rev.specs.declared.vector.Pin.{Pin}
 use Rattle.jr_tree.specs.declared.edit.Edit.{Edit}
-use Rattle.std.specs.Prelude.{true, List, ℕ}
+use Rattle.std.specs.Prelude.{true, false, List, ℕ, nat_eq}
 use Rattle.oak_clash.specs.declared.mark.MarkAt.{MarkAt}
 use Rattle.oak_machine.specs.declared.event.StepKind.{StepKind}
 use Rattle.oak_machine.specs.History.{History, Past}
@@ -20,8 +21,11 @@ use Rattle.jcr_session.specs.declared.commit.Pledge.{Pledge}
 use Rattle.jcr_session.specs.declared.run.Phase.{Phase}
 use Rattle.jcr_session.specs.declared.run.Phase.TheVariants as phase
 use Rattle.jcr_session.specs.declared.run.SessionRun.{SessionRun}
-use Rattle.jcr_session.specs.Answered.{IsCommitAnswer, IsDrawAnswer, IsLeaveAnswer, IsListAnswer, IsLoadAnswer, IsPinAnswer, ended_by, has_went, pinned_by}
-use Rattle.jcr_session.specs.Standing.{IsCommitting, Stands, StandsAt, is_committing}
+use Rattle.jcr_steps.specs.Answered.{IsAttachAnswer, IsCommitAnswer, IsFirstAnswer, IsLeaveAnswer, IsListAnswer, IsLoadAnswer, IsPinAnswer, attached_by, ended_by}
+use Rattle.jcr_steps.specs.Answered.{has_went, pinned_by}
+use Rattle.jcr_steps.specs.declared.answers.Attached.{Attached}
+use Rattle.jcr_steps.specs.declared.answers.Attached.TheVariants as attached
+use Rattle.jcr_session.specs.Standing.{IsCommitting, Stands, StandsAt, is_committing, is_detaching}
 use Rattle.jcr_session.proofs.Starting.{some_is}
 
 -- ---- of a task that was begun
@@ -43,6 +47,23 @@ module _ (starts : Starts) (says : Says) (mid new : Shown) (answer : StepOut) (s
     where
       by : (a : StepOut) → Makes (after steps.others mid.history) mid.session (Starting task.Refresh) a steps.own new.work → IsPinAnswer a
       by (out.Ready (end.Pinned pin)) m = tt
+      by out.Memory m = tt
+      by a m = absurd m
+
+  pub attach_comes : (i : Text) → mid.work ≡ Starting (task.Attach i) → IsAttachAnswer answer
+  attach_comes i busy = by answer (made_of (task.Attach i) busy)
+    where
+      by : (a : StepOut) → Makes (after steps.others mid.history) mid.session (Starting (task.Attach i)) a steps.own new.work → IsAttachAnswer a
+      by (out.Ready (end.Set (Some pin))) m = tt
+      by (out.Ready end.NoCheckpoint) m = tt
+      by out.Memory m = tt
+      by a m = absurd m
+
+  pub detach_begins_so : mid.work ≡ Starting task.Detach → IsFirstAnswer answer
+  detach_begins_so busy = by answer (made_of task.Detach busy)
+    where
+      by : (a : StepOut) → Makes (after steps.others mid.history) mid.session (Starting task.Detach) a steps.own new.work → IsFirstAnswer a
+      by (out.Went k) m = tt
       by out.Memory m = tt
       by a m = absurd m
 
@@ -72,10 +93,10 @@ module _ (starts : Starts) (says : Says) (mid new : Shown) (answer : StepOut) (s
       by out.Memory m = tt
       by a m = absurd m
 
-  pub draw_comes : (edit : Edit) (marks : List MarkAt) → mid.work ≡ Starting (task.Commit edit marks) → IsDrawAnswer answer
+  pub draw_comes : (edit : Edit) (marks : List MarkAt) → mid.work ≡ Starting (task.Commit edit marks) → IsFirstAnswer answer
   draw_comes edit marks busy = by answer (made_of (task.Commit edit marks) busy)
     where
-      by : (a : StepOut) → Makes (after steps.others mid.history) mid.session (Starting (task.Commit edit marks)) a steps.own new.work → IsDrawAnswer a
+      by : (a : StepOut) → Makes (after steps.others mid.history) mid.session (Starting (task.Commit edit marks)) a steps.own new.work → IsFirstAnswer a
       by (out.Went k) m = tt
       by out.Memory m = tt
       by a m = absurd m
@@ -98,7 +119,8 @@ commit_by past h s w a own now c m never = absurd c
 pub commits_by : (f : Phase) → is_committing f ≡ true → (a : Pledge) × (f ≡ phase.Committing a)
 commits_by phase.Outside h = absurd (false≢true h)
 commits_by phase.Between h = absurd (false≢true h)
-commits_by (phase.Refreshed v) h = absurd (false≢true h)
+commits_by (phase.Moved v) h = absurd (false≢true h)
+commits_by phase.Detaching h = absurd (false≢true h)
 commits_by (phase.Committing a) h = (a, refl)
 commits_by (phase.Committed e a) h = absurd (false≢true h)
 commits_by (phase.Working e) h = absurd (false≢true h)
@@ -143,7 +165,52 @@ unpinned_is (out.Ready (end.Pinned p)) is h = absurd (false≢true (ap is_some (
 unpinned_is out.Memory is h = refl
 unpinned_is a is h = absurd is
 
-pub undrawn_is : (answer : StepOut) → IsDrawAnswer answer → has_went answer ≡ Rattle.std.specs.Prelude.false → answer ≡ out.Memory
+pub undrawn_is : (answer : StepOut) → IsFirstAnswer answer → has_went answer ≡ false → answer ≡ out.Memory
 undrawn_is (out.Went k) is h = absurd (false≢true (sym h))
 undrawn_is out.Memory is h = refl
 undrawn_is a is h = absurd is
+
+-- an attach
+
+abbrev attached_number : Attached → ℕ
+attached_number (attached.To pin) = 0
+attached_number attached.Missed = 1
+attached_number attached.Refused = 2
+
+other_attached : {A : Type 0} (x y : Attached) → nat_eq (attached_number x) (attached_number y) ≡ false → x ≡ y → A
+other_attached x y other same = absurd (false≢true (sym other ∙ (ap (λ (d : Attached). nat_eq (attached_number d) (attached_number y)) same ∙ itself y)))
+  where
+    itself : (z : Attached) → nat_eq (attached_number z) (attached_number z) ≡ true
+    itself (attached.To pin) = refl
+    itself attached.Missed = refl
+    itself attached.Refused = refl
+
+pub attached_is : (answer : StepOut) (pin : Pin) → IsAttachAnswer answer → attached.To pin ≡ attached_by answer → answer ≡ out.Ready (end.Set (Some pin))
+attached_is (out.Ready (end.Set (Some p))) pin is h = ap (λ (x : Attached). elim x [ attached.To q ↦ out.Ready (end.Set (Some q)) | attached.Missed ↦ out.Memory | attached.Refused ↦ out.Memory ]) (sym h)
+attached_is (out.Ready end.NoCheckpoint) pin is h = other_attached (attached.To pin) attached.Missed refl h
+attached_is out.Memory pin is h = other_attached (attached.To pin) attached.Refused refl h
+attached_is a pin is h = absurd is
+
+pub missed_is : (answer : StepOut) → IsAttachAnswer answer → attached.Missed ≡ attached_by answer → answer ≡ out.Ready end.NoCheckpoint
+missed_is (out.Ready (end.Set (Some p))) is h = other_attached attached.Missed (attached.To p) refl h
+missed_is (out.Ready end.NoCheckpoint) is h = refl
+missed_is out.Memory is h = other_attached attached.Missed attached.Refused refl h
+missed_is a is h = absurd is
+
+pub unattached_is : (answer : StepOut) → IsAttachAnswer answer → attached.Refused ≡ attached_by answer → answer ≡ out.Memory
+unattached_is (out.Ready (end.Set (Some p))) is h = other_attached attached.Refused (attached.To p) refl h
+unattached_is (out.Ready end.NoCheckpoint) is h = other_attached attached.Refused attached.Missed refl h
+unattached_is out.Memory is h = refl
+unattached_is a is h = absurd is
+
+-- a session in the middle of a detach
+pub detaching_by : (f : Phase) → is_detaching f ≡ true → f ≡ phase.Detaching
+detaching_by phase.Detaching h = refl
+detaching_by phase.Outside h = absurd (false≢true h)
+detaching_by phase.Between h = absurd (false≢true h)
+detaching_by (phase.Moved v) h = absurd (false≢true h)
+detaching_by (phase.Committing a) h = absurd (false≢true h)
+detaching_by (phase.Committed e a) h = absurd (false≢true h)
+detaching_by (phase.Working e) h = absurd (false≢true h)
+detaching_by (phase.Told t) h = absurd (false≢true h)
+detaching_by phase.Over h = absurd (false≢true h)

@@ -38,6 +38,7 @@ use Rattle.jcr_law.specs.State.{Call, call_of, command_at}
 use Rattle.jcr_call.specs.declared.coming.Coming.TheVariants as coming
 use Rattle.core_calls.specs.Seeing.{SeesTrees, SeesTyped}
 use Rattle.core_calls.proofs.Called.{call_stays}
+use Rattle.core_calls.proofs.Unmoved.{attached_stands}
 use Rattle.jcr_session.specs.declared.next.Due.TheVariants as due
 use Rattle.jcr_session.specs.declared.commit.Pledge.{Pledge}
 use Rattle.jcr_session.specs.declared.run.Phase.{Phase}
@@ -45,10 +46,13 @@ use Rattle.jcr_session.specs.declared.run.Phase.TheVariants as phase
 use Rattle.jcr_session.specs.declared.run.SessionRun.{SessionRun}
 use Rattle.jcr_session.specs.declared.turn.Turn.TheVariants as turn
 use Rattle.jcr_session.specs.Asked.{ComesNext, IsAsked, MayDrawFor, MayForgo}
-use Rattle.jcr_session.specs.Standing.{HasDrawnFor, HasCounted, IsBeside, IsCalled, IsCommitting, IsFresh, IsIn, IsInOrder, IsPlace, IsPrepared, IsTurned, Stands, StandsAt, due_for, due_to, is_allowed, is_writing, stage_at, stage_of}
+use Rattle.jcr_session.specs.Standing.{HasDrawnFor, HasCounted, IsBeside, IsCalled, IsCommitting, IsFresh, IsIn, IsInOrder, IsPlace, IsPrepared, IsTurned, KeepsCursor, Stands, StandsAt, due_for, due_to, is_allowed, is_writing, stage_at, stage_of}
+use Rattle.jcr_session.specs.Standing.{is_events, reads_for}
+use Rattle.jcr_session.proofs.Readying.{ready_by}
 use Rattle.jcr_session.proofs.Committing.{committing_drawn, own as same_number}
 use Rattle.jcr_session.proofs.Lawful.{asked_allowed, at_between, between_asked, called_typed}
-use Rattle.jcr_session.proofs.Nexts.{allowed_due, commits_due, due_at, next_due}
+use Rattle.jcr_session.proofs.Cursors.{cursor_of_call, has_cursor_over}
+use Rattle.jcr_session.proofs.Nexts.{allowed_due, commits_due, commits_forbidden, due_at, next_due, unattached_runs}
 use Rattle.jcr_session.proofs.Stages.{commit_order, next_later}
 use Rattle.jcr_session.proofs.Starting.{some_is}
 use Rattle.jcr_session.proofs.Saying.{asked_like, asked_waits, drawn_waits, get_within}
@@ -56,17 +60,21 @@ use Rattle.jcr_session.proofs.Turning.{is_awaiting, not_ended, plain_step, start
 use Rattle.jcr_session.proofs.Waiting.{by_waits, called_beside, in_beside, next_beside, unmoved_beside, unpinned_beside}
 
 -- a command for which a commit is due may be run
-pub commit_allowed : (run : SessionRun) (m : Command) → slice_get run.commands run.index ≡ Some m → due_for run ≡ due.Commit → is_allowed m ≡ true
-commit_allowed run m next commits = (allowed_due m due.Commit (sym (due_at run m next) ∙ commits) refl).0
+pub commit_allowed : (run : SessionRun) (m : Command) → slice_get run.commands run.index ≡ Some m → due_for run ≡ due.Commit → is_allowed run.attached m ≡ true
+commit_allowed run m next commits = (allowed_due run.attached m due.Commit (sym (due_at run m next) ∙ commits) refl).0
 
 -- and it commits
 pub commit_commits : (run : SessionRun) (m : Command) → slice_get run.commands run.index ≡ Some m → due_for run ≡ due.Commit → does_commit m ≡ true
-commit_commits run m next commits = commits_due m (allowed_due m due.Commit (sym (due_at run m next) ∙ commits) refl).1
+commit_commits run m next commits = commits_due m (allowed_due run.attached m due.Commit (sym (due_at run m next) ∙ commits) refl).1
+
+-- so the session isn't attached to a checkpoint
+pub commit_detached : (run : SessionRun) (m : Command) → slice_get run.commands run.index ≡ Some m → due_for run ≡ due.Commit → run.attached ≡ false
+commit_detached run m next commits = unattached_runs run.attached m (commits_forbidden m (commit_commits run m next commits)) (commit_allowed run m next commits)
 
 -- ---- what a plan lets begin
 
 module _ (law : JcrLaw) (p : Shown) (run : SessionRun) (stands : Stands law p run) (between : run.phase ≡ phase.Between) (ready : IsPrepared run) (commits : due_for run ≡ due.Commit) (plan : Plan) (kept : Pledge) (comes : ComesNext run (coming.Planned plan kept.accepted)) where
-  abbrev m : (m : Command) × (slice_get run.commands run.index ≡ Some m) × (due_to m ≡ due.Commit)
+  abbrev m : (m : Command) × (slice_get run.commands run.index ≡ Some m) × (due_to run.attached m ≡ due.Commit)
   m = next_due run due.Commit commits refl
 
   abbrev c : Call
@@ -76,7 +84,7 @@ module _ (law : JcrLaw) (p : Shown) (run : SessionRun) (stands : Stands law p ru
   planned_run = record run { phase = phase.Committing kept }
 
   asked_planned : IsAsked law p planned_run m.0 c
-  asked_planned = asked_like law m.0 c p run planned_run refl refl refl refl (between_asked law p run stands between m.0 m.1 ready.done)
+  asked_planned = asked_like law m.0 c p run planned_run refl refl refl refl refl (between_asked law p run stands between m.0 m.1 ready.done)
 
   pub planned_forgoes : MayForgo law p planned_run false
   planned_forgoes = let here = (at_between law p run stands between).1 in record {
@@ -103,7 +111,7 @@ module _ (law : JcrLaw) (p : Shown) (run : SessionRun) (stands : Stands law p ru
         unpinned = unpinned_beside law p mid beside asked_planned.inside.nodes here.unpinned;
         commits = commits;
         holds = here.holds;
-        settled = (ready.ready m.0 m.1).settled;
+        settled = (ready_by run m.0 m.1 (ap reads_for commits) (ap is_events commits) ready.ready).settled;
         pledge = kept;
         phase_is = refl;
         accepts = x.comes.3;
@@ -130,7 +138,7 @@ module _ (law : JcrLaw) (mid : Shown) (run : SessionRun) (plan : Plan) (may : Ma
       next = next_mid;
       call = may.asked.call;
     };
-    allowed = asked_allowed mid.history mid.session may.command may.asked.inside.unattached (commit_allowed run may.command may.asked.next may.commits);
+    allowed = asked_allowed mid.history mid.session run.attached may.command may.asked.inside.began (commit_allowed run may.command may.asked.next may.commits);
     first = may.first;
     unmoved = may.unmoved;
     due = may.due;
@@ -139,7 +147,12 @@ module _ (law : JcrLaw) (mid : Shown) (run : SessionRun) (plan : Plan) (may : Ma
   }
 
   pub draw_begins : MayBegin (starts_of law) mid.history mid.session (task.Commit plan.edit plan.marks)
-  draw_begins = (may.asked.inside.login, may.asked.inside.stays, may.asked.inside.detached, starts_mid)
+  draw_begins = (
+    may.asked.inside.login,
+    may.asked.inside.stays,
+    attached_stands mid.history.past mid.session may.unmoved ∙ (may.asked.inside.began ∙ commit_detached run may.command may.asked.next may.commits),
+    starts_mid,
+  )
 
   pub draw_forgoes : MayForgo law mid run false
   draw_forgoes = record {
@@ -178,7 +191,7 @@ module _ (law : JcrLaw) (mid : Shown) (run : SessionRun) (plan : Plan) (may : Ma
     abbrev first_beside : IsBeside law mid begun
     first_beside = by_waits law mid begun (Starting (task.Commit plan.edit plan.marks)) mid.room begins
 
-    in_begun : IsIn law begun
+    in_begun : IsIn law begun run.attached
     in_begun = in_beside law mid begun first_beside may.asked.inside.nodes may.asked.inside
 
     abbrev waiting : Shown
@@ -187,7 +200,7 @@ module _ (law : JcrLaw) (mid : Shown) (run : SessionRun) (plan : Plan) (may : Ma
     waited : IsBeside law begun waiting
     waited = record { others = steps.others; grows = record { grown = refl; theirs = steps.grows.theirs; run = run_drawn.1 }; session = refl; beside = refl; alone = steps.alone }
 
-    in_behind : IsIn law waiting
+    in_behind : IsIn law waiting run.attached
     in_behind = in_beside law begun waiting waited in_begun.nodes in_begun
 
     fresh_mid : IsFresh mid.history.past mid.session
@@ -218,7 +231,10 @@ module _ (law : JcrLaw) (mid : Shown) (run : SessionRun) (plan : Plan) (may : Ma
     moved : (F : History → ℕ → Type 0) → F drawn s → F new.history new.session
     moved F x = subst (λ (h : History). F h new.session) (sym grown) (subst (λ (n : ℕ). F drawn n) (sym steps.session) x)
 
-    in_new : IsIn law new
+    called_drawn : call_of law begun.history.begin (event.Draw made.0 ∷ behind) s ≡ Some may.call
+    called_drawn = call_stays law begun.history.begin (starts_of law) (says_of law) begun.history.clusters begun.history.sessions in_begun.nodes (event.Draw made.0 ∷ []) behind s run_drawn refl ∙ called_behind
+
+    in_new : IsIn law new run.attached
     in_new = record {
       nodes = moved (λ h n. AreNodes h.clusters h.sessions) in_behind.nodes;
       trees = moved (λ h n. SeesTrees law h.clusters h.sessions h.begin) in_behind.trees;
@@ -226,8 +242,10 @@ module _ (law : JcrLaw) (mid : Shown) (run : SessionRun) (plan : Plan) (may : Ma
       run = steps.grows.run;
       login = moved (λ h n. has_login h.past n ≡ true) in_behind.login;
       stays = moved (λ h n. has_left h.past n ≡ false) in_behind.stays;
-      detached = moved (λ h n. is_attached h.past n ≡ false) in_behind.detached;
-      unattached = moved (λ h n. is_attached (before_turn h.past n) n ≡ false) in_behind.unattached;
+      began = moved (λ h n. is_attached (before_turn h.past n) n ≡ run.attached) in_behind.began;
+      cursor = moved (λ h n. KeepsCursor law h n)
+          (cursor_of_call law drawn s may.call called_drawn
+          (λ unpinned. has_cursor_over behind (event.Draw made.0 ∷ behind) s may.call refl (in_behind.cursor may.call called_behind unpinned)));
     }
 
     session_new : new.session ≡ run.session
@@ -240,8 +258,7 @@ module _ (law : JcrLaw) (mid : Shown) (run : SessionRun) (plan : Plan) (may : Ma
         ∙ (sym (moved (λ h n. next_index h.past n ≡ next_index behind s) refl) ∙ ap (next_index new.history.past) session_new))))
 
     called_new : IsCalled law new may.call
-    called_new = moved (λ h n. call_of law h.begin h.past n ≡ Some may.call)
-        (call_stays law begun.history.begin (starts_of law) (says_of law) begun.history.clusters begun.history.sessions in_begun.nodes (event.Draw made.0 ∷ []) behind s run_drawn refl ∙ called_behind)
+    called_new = moved (λ h n. call_of law h.begin h.past n ≡ Some may.call) called_drawn
 
     -- the draw is of the edit that is kept, on the base that is held
     draw_new : draw_since new.history.past new.session ≡ Some made.0
@@ -325,7 +342,7 @@ module _ (law : JcrLaw) (mid : Shown) (run : SessionRun) (plan : Plan) (may : Ma
   pub record HasStopped (new : Shown) : Type 0 where
     pub beside : IsBeside law mid new
     pub idle : new.work ≡ Idle
-    pub room : Rattle.oak_port.specs.Ports.HasRoom new.room Rattle.jcr_session.specs.declared.limits.TheConstants.COMMIT_REPLY_BYTES
+    pub room : Rattle.oak_port.specs.Ports.HasRoom new.room Rattle.jcr_steps.specs.declared.limits.TheConstants.COMMIT_REPLY_BYTES
 
   pub draw_stops : (begun new : Shown) (begins : OthersAlone (starts_of law) (says_of law) mid begun (Starting (task.Commit plan.edit plan.marks)) mid.room) (answer : Rattle.oak_port.specs.declared.task.StepOut.StepOut)
       (steps : Steps (starts_of law) (says_of law) begun new answer) → answer ≡ out.Memory → HasStopped new

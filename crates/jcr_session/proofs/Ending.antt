@@ -1,5 +1,5 @@
 -- What a session answers once its commit has ended.
-use Rattle.std.proofs.Common.{◌≡◌, true, false, not, Some, None, Option, is_some, refl, sym, ap, ◌∙◌, subst}
+use Rattle.std.proofs.Common.{◌≡◌, nat_lt, true, false, not, Some, None, Option, is_some, refl, sym, ap, ◌∙◌, subst}
 use Rattle.std.specs.Prelude.{option_map, slice_get, string_bytes}
 use Rattle.std.specs.Option.{option_map_or}
 use Rattle.std.specs.declared.alloc.Global.{Global}
@@ -44,16 +44,18 @@ use Rattle.core_calls.proofs.Accepting.{answer_accepts}
 use Rattle.core_calls.proofs.Alone.{tree_next}
 use Rattle.core_calls.proofs.Draws.{draw_known}
 use Rattle.core_calls.proofs.Unmoved.{drawn_where_begun}
-use Rattle.jcr_session.specs.declared.limits.TheConstants.{COMMIT_REPLY_BYTES}
+use Rattle.jcr_steps.specs.declared.limits.TheConstants.{COMMIT_REPLY_BYTES}
 use Rattle.jcr_session.specs.declared.commit.Pledge.{Pledge}
 use Rattle.jcr_session.specs.declared.next.Due.TheVariants as due
 use Rattle.jcr_session.specs.declared.run.Phase.TheVariants as phase
 use Rattle.jcr_session.specs.declared.run.SessionRun.{SessionRun}
-use Rattle.jcr_session.specs.Asked.{HasClashed, IsAsked, MayAnswer, MayForgo, SeesCommit, Settles}
+use Rattle.jcr_session.specs.Asked.{HasClashed, IsAsked, MayAnswer, MayForgo, SeesCommit, Settles, has_drawn}
 use Rattle.jcr_session.specs.Standing.{IsAtEnd, IsCalled, IsMadeFor, IsUnmade, Stands, due_by}
-use Rattle.jcr_session.proofs.Drawing.{commit_allowed}
-use Rattle.jcr_session.proofs.Lawful.{forgo_answers, refused_text, says_allowed, settled_asked, settled_leaves, settled_says}
-use Rattle.jcr_session.proofs.Nexts.{allowed_due, apart, due_at, due_number, unviewed_due}
+use Rattle.jcr_session.proofs.Drawing.{commit_allowed, commit_detached}
+use Rattle.jcr_session.proofs.Cursors.{accepts_by, cursor_refused, cursor_settled}
+use Rattle.jcr_session.proofs.Lawful.{attached_still, forgo_answers, refused_text, says_allowed, settled_asked, settled_attached, settled_leaves}
+use Rattle.jcr_session.proofs.Lawful.{settled_says}
+use Rattle.jcr_session.proofs.Nexts.{allowed_due, apart, due_at, due_number, sets_cursor, sets_none, unviewed_due}
 use Rattle.jcr_session.proofs.Saying.{asked_like}
 
 -- ---- the command whose commit has ended
@@ -120,6 +122,7 @@ module _ (law : JcrLaw) (p : Shown) (run now : SessionRun) (item : Item) (o : Re
 
   pub clash_answers : MayAnswer law p now (no_text (clash item o))
   clash_answers = record {
+    began = run.attached;
     command = has.command;
     call = has.call;
     asked = settled_asked law p run now false true None settles has.command has.call has.asked;
@@ -127,6 +130,9 @@ module _ (law : JcrLaw) (p : Shown) (run now : SessionRun) (item : Item) (o : Re
         (says_allowed law p run has.command has.call has.asked (no_text (clash item o)) (commit_allowed run has.command has.asked.next has.commits)
         (clashed has.command has.revision o item has.clash.unmade.drawn has.clash.ended has.clash.told has.clash.unmade.unmoved));
     leaves = settled_leaves law p run now false true None settles has.command has.call (no_text (clash item o)) has.asked.next has.holds (λ ok. absurd (false≢true ok)) (refused_text (clash item o)) clash_forgoes.drew_is;
+    stands = attached_still law p run has.command has.call has.asked has.clash.unmade.unmoved ∙ sym (settled_attached law p run now false true None settles);
+    cursor = cursor_refused p.history.past p.session (no_text (clash item o)) (has_drawn p) has.call has.command (refused_text (clash item o))
+        (has.asked.inside.cursor has.call has.asked.call has.clash.unmade.unpinned);
   }
 
 -- ---- it was made
@@ -154,6 +160,10 @@ moved_tokens c v t command.BackWrite h = apart due.Errand due.Commit refl h
 moved_tokens c v t command.BackRead h = apart due.Errand due.Commit refl h
 moved_tokens c v t command.Checkpoint h = apart due.Errand due.Commit refl h
 moved_tokens c v t (command.Release id) h = apart due.Errand due.Commit refl h
+moved_tokens c v t (command.Attach id) h = apart due.Attach due.Commit refl h
+moved_tokens c v t command.Detach h = apart due.Detach due.Commit refl h
+moved_tokens c v t (command.Observe p deep mask) h = apart due.Observe due.Commit refl h
+moved_tokens c v t command.Events h = apart due.Events due.Commit refl h
 moved_tokens c v t m h = apart due.See due.Commit refl h
 
 -- and it is no refusal
@@ -183,7 +193,7 @@ module _ (law : JcrLaw) (p : Shown) (run : SessionRun) (r : Revision) (a : Pledg
   asked_made = end_asked law p run (commit.Committed r) a stands moved made.idle made.call
 
   allowed : due_by here.for.command ≡ due.Commit
-  allowed = (allowed_due here.for.command due.Commit (sym (due_at run here.for.command here.for.next) ∙ here.for.commits) refl).1
+  allowed = (allowed_due run.attached here.for.command due.Commit (sym (due_at run here.for.command here.for.next) ∙ here.for.commits) refl).1
 
   -- the base has moved to where the pin is
   pub made_pin : (o : Option Pin) (pin : Pin) → o ≡ Some pin → (Rattle.oak_machine.specs.Sessions.has_left p.history.past p.session ≡ false → option_map (λ x. x.base) o ≡ base_of p.history.past p.session) → pin.base ≡ made.base
@@ -216,20 +226,27 @@ module _ (law : JcrLaw) (p : Shown) (run : SessionRun) (r : Revision) (a : Pledg
   begun_made = drawn_where_begun law p.history.clusters p.history.sessions p.history.begin p.session made.made p.history.past
       stands.at.0.run made.draw
 
+  none_set : sets_cursor here.for.command ≡ false
+  none_set = sets_none here.for.command (ap (λ (d : _). nat_lt (due_number d) 10) allowed)
+
   -- once what is held is moved to there, and accepted
   module _ (held : Held) (holds : Holds moved held) (now : SessionRun) (settles : Settles (record run { held = held }) now true true (Some a.accepted.tokens)) where
     pub made_answers : MayAnswer law p now (accepted_text a.accepted r)
     made_answers = record {
+      began = run.attached;
       command = here.for.command;
       call = moved;
-      asked = settled_asked law p (record run { held = held }) now true true (Some a.accepted.tokens) settles here.for.command moved (asked_like law here.for.command moved p run (record run { held = held }) refl refl refl refl asked_made);
+      asked = settled_asked law p (record run { held = held }) now true true (Some a.accepted.tokens) settles here.for.command moved (asked_like law here.for.command moved p run (record run { held = held }) refl refl refl refl refl asked_made);
       says = settled_says law p (record run { held = held }) now true true (Some a.accepted.tokens) settles (accepted_text a.accepted r)
           (says_allowed law p run here.for.command moved asked_made (accepted_text a.accepted r) (commit_allowed run here.for.command here.for.next here.for.commits)
           (subst (λ (t : Text). MaySay law p.history p.session (Allowed here.for.command) t) (sym answer_is)
           (committed here.for.command moved made.made made.base made.draw begun_made ended_made committed_made made.moved
           (ap (Rattle.jr_rev.specs.Vectors.sees made.base) made.revision ∙ made.seen) made.call)));
       leaves = settled_leaves law p (record run { held = held }) now true true (Some a.accepted.tokens) settles here.for.command moved (accepted_text a.accepted r) here.for.next holds
-          (λ ok. here.for.accepts.tokens ∙ sym (moved_tokens c made.base made.tree here.for.command allowed)) accepts (ap is_some made.drawn);
+          (λ ok. accepts_by moved held here.for.command (Some a.accepted.tokens) none_set holds (here.for.accepts.tokens ∙ sym (moved_tokens c made.base made.tree here.for.command allowed))) accepts (ap is_some made.drawn);
+      stands = made.detached ∙ sym (settled_attached law p (record run { held = held }) now true true (Some a.accepted.tokens) settles ∙ commit_detached run here.for.command here.for.next here.for.commits);
+      cursor = cursor_settled p.history.past p.session (is_ok_text (accepted_text a.accepted r)) (has_drawn p) moved here.for.command none_set
+          (stands.at.0.cursor moved made.call made.unpinned);
     }
 
 -- the text that is told: that which was made before, or the revision
@@ -270,7 +287,7 @@ module _ (law : JcrLaw) (p : Shown) (run : SessionRun) (r : Revision) (a : Pledg
       (subst (λ (v : RevVec). SeesCommit at_end.call a.edit r v made_it.tree) (sym is) record { proper = at_end.for.proper; referring = at_end.for.referring; tree_is = made_it.tree_is; alone = made_alone }))
 
   pub made_next : (m : Command) × (slice_get run.commands run.index ≡ Some m) × (Rattle.jcr_view.specs.Outcomes.is_viewed m ≡ false)
-  made_next = (at_end.for.command, at_end.for.next, unviewed_due at_end.for.command (ap (λ (d : _). Rattle.std.proofs.Common.nat_eq (due_number d) 6) (sym (due_at run at_end.for.command at_end.for.next) ∙ at_end.for.commits)))
+  made_next = (at_end.for.command, at_end.for.next, unviewed_due run.attached at_end.for.command (ap (λ (d : _). Rattle.std.proofs.Common.nat_eq (due_number d) 6) (sym (due_at run at_end.for.command at_end.for.next) ∙ at_end.for.commits)))
 
 -- ---- what is held, behind a commit
 

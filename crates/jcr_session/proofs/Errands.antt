@@ -1,13 +1,14 @@
--- Each step of a task of the cluster node or of the settings leaves its session where the history says.
-use Rattle.std.proofs.Common.{◌≡◌, ℕ, ◌≤◌, Bool, true, false, ◌||◌, ◌&&◌, None, Some, Option, List, [], ◌∷◌, ◌++◌, is_some}
+-- Each step of a task of the cluster node, of the settings or of the cursor leaves its session where the history says.
+use Rattle.std.proofs.Common.{◌≡◌, ℕ, ◌≤◌, Bool, true, false, not, ◌||◌, ◌&&◌, None, Some, Option, List, [], ◌∷◌, ◌++◌, is_some}
 use Rattle.std.proofs.Common.{length, refl, sym, ap, ◌∙◌, subst, arith}
-use Rattle.std.specs.Prelude.{Contains, cond, is_none, reverse, slice_get, string_bytes}
+use Rattle.std.specs.Prelude.{Contains, IfSome, cond, is_none, option_map, reverse, slice_get, string_bytes}
 use Rattle.std.specs.List.{list_any}
 use Rattle.std.specs.Option.{option_map_or}
 use mathlib.Core.Bool.{false≢true}
 use Rattle.std.specs.declared.alloc.Global.{Global}
 use Rattle.std.specs.declared.string.String.{String}
 use Rattle.jr_path.specs.Lists.{Text}
+use Rattle.jr_path.specs.declared.path.Path.{Path}
 use Rattle.jr_rev.specs.declared.revision.Revision.{Revision}
 use Rattle.jr_rev.specs.declared.vector.RevVec.{RevVec}
 use Rattle.jr_rev.specs.Revisions.{is_at_most, is_same}
@@ -20,7 +21,7 @@ use Rattle.oak_machine.specs.History.{History, Past}
 use Rattle.oak_machine.specs.Heads.{last_in, local}
 use Rattle.oak_machine.specs.Laws.{after}
 use Rattle.oak_machine.specs.Runs.{IsRun}
-use Rattle.oak_machine.specs.Sessions.{is_attached, kept_checkpoint, next_index, since}
+use Rattle.oak_machine.specs.Sessions.{cursor_at, has_left, is_attached, kept_checkpoint, next_index, pinned_at, session_base, since}
 use Rattle.oak_machine.specs.Commits.{is_committed}
 use Rattle.oak_machine.specs.Steps.{is_appended_by, is_kind}
 use Rattle.oak_port.specs.Ports.{AreOfStep, Grows, HasRoom, Idle, IsOn, Makes, Shown, Steps, Work}
@@ -28,27 +29,36 @@ use Rattle.oak_port.specs.declared.task.StepOut.{StepOut}
 use Rattle.oak_port.specs.declared.task.StepOut.TheVariants as out
 use Rattle.oak_port.specs.declared.task.TaskEnd.TheVariants as end
 use Rattle.core_heads.proofs.Runs.{sound_run}
+use Rattle.core_calls.proofs.Unmoved.{attached_stands}
+use Rattle.jcr_observe.specs.declared.event.Filter.{Filter}
+use Rattle.jcr_observe.specs.declared.event.JcrEvent.{JcrEvent}
 use Rattle.jcr_trans.specs.Answers.{ShowsText}
 use Rattle.jcr_trans.specs.Texts.{answer_text}
 use Rattle.jcr_trans.specs.declared.command.Command.{Command}
 use Rattle.jcr_trans.specs.declared.command.Command.TheVariants as command
 use Rattle.jcr_law.specs.declared.law.JcrLaw.{JcrLaw}
-use Rattle.jcr_law.specs.Built.{Allowed, Asked}
+use Rattle.jcr_law.specs.declared.state.Cursor.{Cursor}
+use Rattle.jcr_law.specs.Built.{Allowed, Asked, is_forbidden}
+use Rattle.jcr_law.specs.Calls.{call_after}
+use Rattle.jcr_law.specs.Queries.{events_reply, events_since}
 use Rattle.jcr_law.specs.Lasting.{says_of, starts_of}
-use Rattle.jcr_law.specs.Law.{MaySay, SaysBy, kept, learned, no_text, released, told, unreleased}
+use Rattle.jcr_law.specs.Law.{MaySay, SaysBy, kept, learned, no_text, observed, observing, released, told, unreleased}
 use Rattle.jcr_law.specs.Makes.{steps_of}
-use Rattle.jcr_law.specs.Since.{before_turn, came, is_unmoved, is_unpinned}
+use Rattle.jcr_law.specs.Since.{before_turn, came, is_pinning, is_unmoved, is_unpinned}
 use Rattle.jcr_law.specs.Tasks.{is_out, knows_published, misses}
 use Rattle.jcr_law.specs.Starting.{call_has_base}
-use Rattle.jcr_law.specs.State.{Call, call_of, command_at, next_id}
+use Rattle.jcr_law.specs.State.{Call, call_of, command_at, is_ok_text, next_id}
+use Rattle.jcr_held.specs.Accepts.{IsFilterOf}
+use Rattle.jcr_session.specs.declared.next.Due.{Due}
+use Rattle.jcr_session.specs.declared.next.Due.TheVariants as due
 use Rattle.core_calls.proofs.Called.{call_stays}
-use Rattle.jcr_session.specs.declared.errand.Came.{Came}
-use Rattle.jcr_session.specs.declared.errand.Came.TheVariants as coming
-use Rattle.jcr_session.specs.declared.errand.Errand.{Errand}
-use Rattle.jcr_session.specs.declared.errand.Errand.TheVariants as errand
-use Rattle.jcr_session.specs.declared.errand.Told.{Told}
-use Rattle.jcr_session.specs.declared.errand.Told.TheVariants as ended
-use Rattle.jcr_session.specs.declared.limits.TheConstants.{COMMIT_REPLY_BYTES, VECTOR_REPLY_BYTES}
+use Rattle.jcr_steps.specs.declared.errand.Came.{Came}
+use Rattle.jcr_steps.specs.declared.errand.Came.TheVariants as coming
+use Rattle.jcr_steps.specs.declared.errand.Errand.{Errand}
+use Rattle.jcr_steps.specs.declared.errand.Errand.TheVariants as errand
+use Rattle.jcr_steps.specs.declared.errand.Told.{Told}
+use Rattle.jcr_steps.specs.declared.errand.Told.TheVariants as ended
+use Rattle.jcr_steps.specs.declared.limits.TheConstants.{COMMIT_REPLY_BYTES, VECTOR_REPLY_BYTES}
 use Rattle.jcr_session.specs.declared.run.Phase.{Phase}
 use Rattle.jcr_session.specs.declared.run.Phase.TheVariants as phase
 use Rattle.jcr_session.specs.declared.run.SessionRun.{SessionRun}
@@ -56,39 +66,107 @@ use Rattle.jcr_session.specs.declared.turn.Turn.{Turn}
 use Rattle.jcr_session.specs.declared.turn.Turn.TheVariants as turn
 use Rattle.jcr_session.specs.Asked.{MayForgo}
 use Rattle.jcr_session.specs.Nearing.{IsReply}
-use Rattle.jcr_session.specs.Answered.{IsErrandAnswer, came_by, phase_came, told_by, turn_came}
-use Rattle.jcr_session.specs.Standing.{HasCounted, HasPlace, IsAtWork, IsBeside, IsEight, IsFresh, IsIn}
-use Rattle.jcr_session.specs.Standing.{IsInOrder, IsKeptFor, IsOnErrand, IsWorkFor, Stands, StandsAt, is_writing, kept_for}
-use Rattle.jcr_session.specs.Standing.{kept_of, reply_of, stage_at, stage_of}
+use Rattle.jcr_steps.specs.Answered.{IsErrandAnswer, MayCome, MayEnd, came_by, kind_told, told_by}
+use Rattle.jcr_session.specs.Phases.{phase_came, turn_came}
+use Rattle.jcr_session.specs.Standing.{HasCounted, HasCursor, IsAtWork, IsBeside, IsFresh, IsIn, IsToldFor, due_for, is_errand, is_told_for}
+use Rattle.jcr_steps.specs.Kept.{HasPlace, IsEight}
+use Rattle.jcr_session.specs.Standing.{IsInOrder, IsKeptFor, IsOnCommand, IsWorkFor, Stands, StandsAt, is_writing}
+use Rattle.jcr_steps.specs.Kept.{kept_for}
+use Rattle.jcr_steps.specs.Kept.{kept_of, reply_of}
+use Rattle.jcr_session.specs.Standing.{stage_at, stage_of}
 use Rattle.jcr_session.proofs.Calling.{is_idle}
 use Rattle.jcr_session.proofs.Committing.{own as same_number, same_itself}
+use Rattle.jcr_session.proofs.Cursors.{cursor_settled, has_cursor_over}
 use Rattle.jcr_session.proofs.Lawful.{asked_allowed}
-use Rattle.jcr_session.proofs.Nexts.{errand_there}
-use Rattle.jcr_session.proofs.Plain.{IsPlain, plain_back, plain_checkpoint, plain_in, plain_out, plain_release, plain_setting}
+use Rattle.jcr_session.proofs.Nexts.{errand_there, sets_cursor, unattached_runs}
+use Rattle.jcr_session.proofs.Pinned.{pinned_base}
+use Rattle.jcr_session.proofs.Plain.{IsPlain, plain_back, plain_checkpoint, plain_in, plain_out, plain_pin, plain_release, plain_setting}
+use Rattle.jcr_session.proofs.Since.{kept_still}
 use Rattle.jcr_session.proofs.Rising.{knows_more, knows_public, local_before}
 use Rattle.jcr_session.proofs.Saying.{replied_like, room_less}
 use Rattle.jcr_session.proofs.Stages.{inside_order, next_is}
 use Rattle.jcr_session.proofs.Starting.{some_is}
 use Rattle.jcr_session.proofs.Stepping.{inside_moment, inside_quiet, moved, run_moment, run_new, turned_quiet}
 use Rattle.jcr_session.proofs.Turning.{is_awaiting, replied_later, unawaited}
-use Rattle.jcr_session.proofs.Waiting.{all_same, call_still, errand_beside, fresh_still, in_beside, next_beside, work_still}
-use Rattle.jcr_session.proofs.Works.{WorkCase, learning, publishing, to_keep, to_read, to_release, to_write, work_case}
+use Rattle.jcr_session.proofs.Waiting.{all_same, call_still, command_beside, fresh_still, in_beside, next_beside, unmoved_beside, unpinned_beside, work_still}
+use Rattle.jcr_session.proofs.Works.{WorkCase, learning, publishing, to_keep, to_observe, to_read, to_release, to_show, to_write, work_case}
 
 -- ---- what is kept
 
-pub kept_reply : (c : Call) (e : Errand) → IsKeptFor c command.Checkpoint e → (reply : String Global) × (e ≡ errand.Checkpoint reply) ×
+pub kept_reply : (h : History) (c : Call) (e : Errand) → IsKeptFor h c command.Checkpoint e → (reply : String Global) × (e ≡ errand.Checkpoint reply) ×
     (string_bytes reply ≡ answer_text (ShowsText (next_id c.who)))
-kept_reply c (errand.Checkpoint reply) is = (reply, refl, is)
-kept_reply c (errand.Release reply) is = absurd is
-kept_reply c errand.Write is = absurd is
-kept_reply c errand.Read is = absurd is
+kept_reply h c (errand.Checkpoint reply) is = (reply, refl, is)
+kept_reply h c e is = absurd is
 
-pub kept_refusal : (c : Call) (id : Text) (e : Errand) → IsKeptFor c (command.Release id) e → (reply : String Global) ×
+pub kept_refusal : (h : History) (c : Call) (id : Text) (e : Errand) → IsKeptFor h c (command.Release id) e → (reply : String Global) ×
     (e ≡ errand.Release reply) × (string_bytes reply ≡ no_text (no_checkpoint id))
-kept_refusal c id (errand.Release reply) is = (reply, refl, is)
-kept_refusal c id (errand.Checkpoint reply) is = absurd is
-kept_refusal c id errand.Write is = absurd is
-kept_refusal c id errand.Read is = absurd is
+kept_refusal h c id (errand.Release reply) is = (reply, refl, is)
+kept_refusal h c id e is = absurd is
+
+pub kept_filter : (h : History) (c : Call) (p : Path) (deep : Bool) (mask : ℕ) (e : Errand) → IsKeptFor h c (command.Observe p deep mask) e
+    → (filter : Filter) × (e ≡ errand.Observe filter) × IsFilterOf (command.Observe p deep mask) filter
+kept_filter h c p deep mask (errand.Observe filter) is = (filter, refl, is)
+kept_filter h c p deep mask e is = absurd is
+
+pub kept_events : (h : History) (c : Call) (e : Errand) → IsKeptFor h c command.Events e → (reply : String Global) × (e ≡ errand.Events reply) ×
+    (string_bytes reply ≡ events_reply (events_since h.begin h.past c.who.base c.state.cursor))
+kept_events h c (errand.Events reply) is = (reply, refl, is)
+kept_events h c e is = absurd is
+
+kept_write : (h g : History) (c : Call) (e : Errand) → IsKeptFor h c command.BackWrite e → IsKeptFor g c command.BackWrite e
+kept_write h g c errand.Write is = tt
+kept_write h g c e is = absurd is
+
+kept_read : (h g : History) (c : Call) (e : Errand) → IsKeptFor h c command.BackRead e → IsKeptFor g c command.BackRead e
+kept_read h g c errand.Read is = tt
+kept_read h g c e is = absurd is
+
+-- what is kept of a task is kept of one that may end so
+may_write : (h : History) (c : Call) (e : Errand) → IsKeptFor h c command.BackWrite e → (r : Revision) → MayEnd (coming.Published r) e
+may_write h c errand.Write is r = tt
+may_write h c e is r = absurd is
+
+may_read : (h : History) (c : Call) (e : Errand) → IsKeptFor h c command.BackRead e → (v : RevVec) → MayEnd (coming.Learnt v) e
+may_read h c errand.Read is v = tt
+may_read h c e is v = absurd is
+
+may_keep : (h : History) (c : Call) (e : Errand) → IsKeptFor h c command.Checkpoint e → MayEnd coming.Set e
+may_keep h c (errand.Checkpoint reply) is = tt
+may_keep h c e is = absurd is
+
+may_release : (h : History) (c : Call) (id : Text) (e : Errand) → IsKeptFor h c (command.Release id) e
+    → MayEnd coming.Set e × MayEnd coming.Missed e
+may_release h c id (errand.Release reply) is = (tt, tt)
+may_release h c id e is = absurd is
+
+may_observe : (h : History) (c : Call) (p : Path) (deep : Bool) (mask : ℕ) (e : Errand) → IsKeptFor h c (command.Observe p deep mask) e
+    → MayEnd coming.Pinned e
+may_observe h c p deep mask (errand.Observe filter) is = tt
+may_observe h c p deep mask e is = absurd is
+
+may_show : (h : History) (c : Call) (e : Errand) → IsKeptFor h c command.Events e → MayEnd coming.Pinned e
+may_show h c (errand.Events reply) is = tt
+may_show h c e is = absurd is
+
+-- the reply that shows events accepts
+events_ok : (es : List JcrEvent) → is_ok_text (events_reply es) ≡ true
+events_ok es = refl
+
+-- such a task is told
+told_errand : (d : Due) → is_errand d ≡ true → is_told_for d ≡ true
+told_errand due.Attach h = refl
+told_errand d h = h
+
+-- where such a step doesn't go on, the task has ended
+pub ends_so : (x : Came) (e : Errand) → ((k : StepKind) → x ≡ coming.Going k → ⊥)
+    → (phase_came x e ≡ phase.Told (told_by x e)) × (turn_came x ≡ turn.Stepped (kind_told x))
+ends_so (coming.Going k) e never = absurd (never k refl)
+ends_so (coming.Published r) e never = (refl, refl)
+ends_so (coming.Learnt v) e never = (refl, refl)
+ends_so coming.Set e never = (refl, refl)
+ends_so coming.Missed e never = (refl, refl)
+ends_so coming.Pinned e never = (refl, refl)
+ends_so coming.Refused e never = (refl, refl)
 
 abbrev is_refused : Came → Bool
 is_refused coming.Refused = true
@@ -109,7 +187,7 @@ module _ (law : JcrLaw) (old new : Shown) (answer : StepOut) (run : SessionRun) 
   abbrev at : SessionRun
   at = record run { phase = phase.Working e }
 
-  abbrev here : IsIn law old × IsAtWork law old at e
+  abbrev here : IsIn law old run.attached × IsAtWork law old at e
   here = stands.at
 
   abbrev s : ℕ
@@ -123,7 +201,10 @@ module _ (law : JcrLaw) (old new : Shown) (answer : StepOut) (run : SessionRun) 
 
   -- ---- what stays
 
-  module _ (m : Command) (c : Call) (for : IsOnErrand law old at m c) (plain : IsPlain s steps.own) where
+  module _ (m : Command) (c : Call) (for : IsOnCommand law old at m c) (plain : IsPlain s steps.own) where
+    abbrev called_moment : call_of law moment.begin moment.past s ≡ Some c
+    called_moment = call_still law old.history s steps.others here.0.nodes run_then steps.grows.theirs ∙ for.is
+
     called_then : call_of law moment.begin (steps.own ++ moment.past) s ≡ Some c
     called_then = call_stays law old.history.begin (starts_of law) (says_of law) old.history.clusters old.history.sessions here.0.nodes
         steps.own moment.past s (run_new law old new answer at stands here.0 steps) plain.quiet.calls
@@ -131,27 +212,31 @@ module _ (law : JcrLaw) (old new : Shown) (answer : StepOut) (run : SessionRun) 
 
     unmoved_then : is_unmoved (steps.own ++ moment.past) s ≡ true
     unmoved_then = plain.unmoved moment.past ∙
-        ((all_same law old.history s steps.others here.0.nodes run_then steps.grows.theirs).still ∙ for.unmoved)
+        ((all_same law old.history s steps.others here.0.nodes run_then steps.grows.theirs).still ∙ here.1.unmoved)
 
     fresh_then : IsFresh (steps.own ++ moment.past) s
     fresh_then = let f = fresh_still law old.history s steps.others here.0.nodes run_then steps.grows.theirs for.fresh in
         record { first = plain.drawn moment.past ∙ f.first; idle = plain.idle moment.past f.idle }
 
-    for_now : (f : Phase) → IsOnErrand law new (record run { phase = f }) m c
+    for_now : (f : Phase) → IsOnCommand law new (record run { phase = f }) m c
     for_now f = record {
       unread = for.unread;
       next = for.next;
-      errands = for.errands;
       is = moved law old new answer at stands here.0 steps (λ h n. call_of law h.begin h.past n ≡ Some c) called_then;
       holds = for.holds;
       fresh = moved law old new answer at stands here.0 steps (λ h n. IsFresh h.past n) fresh_then;
-      unmoved = moved law old new answer at stands here.0 steps (λ h n. is_unmoved h.past n ≡ true) unmoved_then;
-      unpinned = moved law old new answer at stands here.0 steps (λ h n. is_unpinned h.past n ≡ true)
-          (plain.unpinned moment.past ∙
-          ((all_same law old.history s steps.others here.0.nodes run_then steps.grows.theirs).unpinned ∙ for.unpinned));
     }
 
-    inside_now : IsIn law new
+    -- where no pin was moved, the cursor stands where it stood
+    has_cursor_then : is_unpinned (steps.own ++ moment.past) s ≡ is_unpinned moment.past s → HasCursor (steps.own ++ moment.past) s c
+    has_cursor_then still = has_cursor_over moment.past (steps.own ++ moment.past) s c
+        (plain.quiet.cursor moment.past (still ∙ unpinned_moment))
+        ((inside_moment law old new answer at stands here.0 steps).cursor c called_moment unpinned_moment)
+      where
+        unpinned_moment : is_unpinned moment.past s ≡ true
+        unpinned_moment = (all_same law old.history s steps.others here.0.nodes run_then steps.grows.theirs).unpinned ∙ here.1.unpinned
+
+    inside_now : IsIn law new run.attached
     inside_now = inside_quiet law old new answer at stands here.0 steps plain.quiet
 
     -- the law lets a text be said
@@ -160,9 +245,9 @@ module _ (law : JcrLaw) (old new : Shown) (answer : StepOut) (run : SessionRun) 
       m,
       ap (λ (n : ℕ). command_at law n run.index) stands.session ∙ (stands.commands run.index ∙ for.next),
       subst (λ (a : Asked). MaySay law (after steps.own moment) s a text)
-          (sym (asked_allowed (after steps.own moment) s m
+          (sym (asked_allowed (after steps.own moment) s run.attached m
           (ap (λ (p : Past). is_attached p s) (plain.quiet.begins moment.past) ∙
-          (inside_moment law old new answer at stands here.0 steps).unattached) (errand_there run m for.errands for.next).0)) may,
+          (inside_moment law old new answer at stands here.0 steps).began) (errand_there run m here.1.errands for.next).0)) may,
     )
 
     -- the step is one of its command, of the stage at that place
@@ -187,16 +272,20 @@ module _ (law : JcrLaw) (old new : Shown) (answer : StepOut) (run : SessionRun) 
 
     -- it goes on
     goes_on : (k : StepKind) → is_awaiting old.work ≡ false → is_appended_by moment s k (reverse steps.own) ≡ true → IsInOrder law old new
-        at at (turn.Stepped k) → IsKeptFor c m e → IsWorkFor (after steps.own moment) s c m new.work
-        → HasCounted law old new at at (turn.Stepped k)
-    goes_on k awaits appended order kept_is works = goes (phase.Working e) k awaits appended order (
+        at at (turn.Stepped k) → IsKeptFor (after steps.own moment) c m e → is_unpinned (steps.own ++ moment.past) s ≡ is_unpinned moment.past s
+        → IsWorkFor (after steps.own moment) s c m new.work → HasCounted law old new at at (turn.Stepped k)
+    goes_on k awaits appended order kept_is still works = goes (phase.Working e) k awaits appended order (
       inside_now,
       record {
         command = m;
         call = c;
         for = for_now (phase.Working e);
+        errands = here.1.errands;
+        unmoved = moved law old new answer at stands here.0 steps (λ h n. is_unmoved h.past n ≡ true) unmoved_then;
+        unpinned = moved law old new answer at stands here.0 steps (λ h n. is_unpinned h.past n ≡ true)
+            (still ∙ ((all_same law old.history s steps.others here.0.nodes run_then steps.grows.theirs).unpinned ∙ here.1.unpinned));
         works = moved law old new answer at stands here.0 steps (λ h n. IsWorkFor h n c m new.work) works;
-        kept = kept_is;
+        kept = moved law old new answer at stands here.0 steps (λ h n. IsKeptFor h c m e) kept_is;
         place = subst (λ (x : Option ℕ). HasPlace x (kept_for e)) (sym steps.room) here.1.place;
       },
     )
@@ -204,20 +293,34 @@ module _ (law : JcrLaw) (old new : Shown) (answer : StepOut) (run : SessionRun) 
     -- it has ended
     has_ended : (t : Told) (k : StepKind) → is_awaiting old.work ≡ false → is_appended_by moment s k (reverse steps.own) ≡ true → IsInOrder
         law old new at (record run { phase = phase.Told t }) (turn.Stepped k) → new.work ≡ Idle
-        → MaySay law (after steps.own moment) s (Allowed m) (reply_of t) → HasPlace old.room (kept_of t) → IsEight t → HasCounted law old
-        new at (record run { phase = phase.Told t }) (turn.Stepped k)
-    has_ended t k awaits appended order idle may place eight = goes (phase.Told t) k awaits appended order (
+        → MaySay law (after steps.own moment) s (Allowed m) (reply_of t) → IsToldFor m t
+        → HasCursor (steps.own ++ moment.past) s (call_after (is_ok_text (reply_of t)) false c m) → HasPlace old.room (kept_of t) → IsEight t
+        → HasCounted law old new at (record run { phase = phase.Told t }) (turn.Stepped k)
+    has_ended t k awaits appended order idle may by cursor place eight = goes (phase.Told t) k awaits appended order (
       inside_now,
       record {
         idle = idle;
         command = m;
         call = c;
         for = for_now (phase.Told t);
+        tells = told_errand (due_for run) here.1.errands;
+        unmoved = moved law old new answer at stands here.0 steps (λ h n. is_unmoved h.past n ≡ true) unmoved_then;
         says = says_now (reply_of t) may;
+        by = by;
+        cursor = moved law old new answer at stands here.0 steps (λ h n. HasCursor h.past n (call_after (is_ok_text (reply_of t)) false c m)) cursor;
         place = subst (λ (x : Option ℕ). HasPlace x (kept_of t)) (sym steps.room) place;
         eight = eight;
       },
     )
+
+    -- a command that sets no cursor has ended
+    ended_plain : (t : Told) (k : StepKind) → is_awaiting old.work ≡ false → is_appended_by moment s k (reverse steps.own) ≡ true → IsInOrder
+        law old new at (record run { phase = phase.Told t }) (turn.Stepped k) → new.work ≡ Idle
+        → MaySay law (after steps.own moment) s (Allowed m) (reply_of t) → IsToldFor m t → sets_cursor m ≡ false
+        → is_unpinned (steps.own ++ moment.past) s ≡ is_unpinned moment.past s → HasPlace old.room (kept_of t) → IsEight t
+        → HasCounted law old new at (record run { phase = phase.Told t }) (turn.Stepped k)
+    ended_plain t k awaits appended order idle may by none still place eight = has_ended t k awaits appended order idle may by
+        (cursor_settled (steps.own ++ moment.past) s (is_ok_text (reply_of t)) false c m none (has_cursor_then still)) place eight
 
   -- ---- case by case
 
@@ -233,7 +336,49 @@ module _ (law : JcrLaw) (old new : Shown) (answer : StepOut) (run : SessionRun) 
   abbrev Turned : StepOut → Type 0
   Turned x = HasCounted law old new at (record run { phase = phase_came (came_by x) e }) (turn_came (came_by x))
 
-  step_by : (m : Command) (c : Call) (w : Work) (x : StepOut) → old.work ≡ w → WorkCase moment s c m w → IsKeptFor c m e → IsOnErrand law
+  -- the step pins the cursor
+  pin_came : came s (λ earlier x. is_pinning s x) (event.Went s kind.Pin ∷ moment.past) ≡ true
+  pin_came = ap (λ (b : Bool). b || came s (λ earlier x. is_pinning s x) moment.past) (same_number s)
+
+  pinned_came : steps.own ≡ event.Went s kind.Pin ∷ [] → came s (λ earlier x. is_pinning s x) (steps.own ++ moment.past) ≡ true
+  pinned_came mine = subst (λ (p : Past). came s (λ earlier x. is_pinning s x) (p ++ moment.past) ≡ true) (sym mine) pin_came
+
+  -- a session that may run what an attached one may not is attached to no checkpoint
+  free : (m : Command) (c : Call) → IsOnCommand law old at m c → is_forbidden true m ≡ true → is_attached moment.past s ≡ false
+  free m c for forbidden =
+      attached_stands moment.past s ((all_same law old.history s steps.others here.0.nodes run_then steps.grows.theirs).still ∙ here.1.unmoved)
+      ∙ ((inside_moment law old new answer at stands here.0 steps).began
+      ∙ unattached_runs run.attached m forbidden (errand_there run m here.1.errands for.next).0)
+
+  -- the cursor is pinned at its base
+  pin_at : (m : Command) (c : Call) → IsOnCommand law old at m c → is_forbidden true m ≡ true → steps.own ≡ event.Went s kind.Pin ∷ []
+      → cursor_at (steps.own ++ moment.past) s ≡ Some c.who.base
+  pin_at m c for forbidden mine = subst (λ (p : Past). cursor_at (p ++ moment.past) s ≡ Some c.who.base) (sym mine)
+      (ap (λ (b : Bool). cond b (session_base moment.past s) (cursor_at moment.past s)) (same_number s)
+      ∙ (ap (λ (b : Bool). cond (b && not (has_left moment.past s)) (pinned_at moment.past s) None) inside.login
+      ∙ (ap (λ (b : Bool). cond (not b) (pinned_at moment.past s) None) inside.stays
+      ∙ (pinned_base moment.past s (free m c for forbidden)
+      ∙ call_has_base law moment.begin moment.past s c
+      (call_still law old.history s steps.others here.0.nodes run_then steps.grows.theirs ∙ for.is)))))
+    where
+      inside : IsIn law (record old { history = moment }) run.attached
+      inside = inside_moment law old new answer at stands here.0 steps
+
+  -- where `events` told those since it
+  shown_cursor : (c : Call) (text : Text) → is_ok_text text ≡ true → cursor_at (steps.own ++ moment.past) s ≡ Some c.who.base
+      → HasCursor (steps.own ++ moment.past) s (call_after (is_ok_text text) false c command.Events)
+  shown_cursor c text accepts pinned = subst (λ (b : Bool). HasCursor (steps.own ++ moment.past) s (call_after b false c command.Events)) (sym accepts)
+      (by c.state.cursor)
+    where
+      by : (o : Option Cursor) → IfSome (option_map {T = Cursor} (λ y. record y { at = c.who.base }) o) (λ x. cursor_at (steps.own ++ moment.past) s ≡ Some x.at)
+      by None = tt
+      by (Some x) = pinned
+
+  -- where the events are these, no pin is moved
+  unpinning : (p : Past) → steps.own ≡ p → ((q : Past) → is_unpinned (p ++ q) s ≡ is_unpinned q s) → is_unpinned (steps.own ++ moment.past) s ≡ is_unpinned moment.past s
+  unpinning p mine still = subst (λ (x : Past). is_unpinned (x ++ moment.past) s ≡ is_unpinned moment.past s) (sym mine) (still moment.past)
+
+  step_by : (m : Command) (c : Call) (w : Work) (x : StepOut) → old.work ≡ w → WorkCase moment s c m w → IsKeptFor moment c m e → IsOnCommand law
       old at m c → Makes moment s w x steps.own new.work → AreOfStep moment s w x steps.own → (x ≡ out.Memory → ⊥) → Turned x
   step_by _ c _ (out.Went k) was to_write kept_is for (j, on, is, mine, work) appended never =
       let plain = subst (λ (p : Past). IsPlain s p) (sym mine) (plain_back s) in
@@ -242,7 +387,7 @@ module _ (law : JcrLaw) (old new : Shown) (answer : StepOut) (run : SessionRun) 
       (subst (λ (y : StepKind). list_any (is_kind y) (kind.Back ∷ []) ≡ true) (sym is) refl)
       (subst (λ (y : Work). stage_of y ≤ 0) (sym was) (let le : 0 ≤ 0 = omega arith in le))
       (let le : 0 ≤ stage_of new.work = omega arith in le))
-      kept_is
+      (kept_write moment (after steps.own moment) c e kept_is) (unpinning (event.Went s kind.Back ∷ []) mine (λ q. refl))
       (subst (λ (y : Work). IsWorkFor (after steps.own moment) s c command.BackWrite y) (sym work) (λ i there.
       subst (λ (p : Past). is_at_most (local moment.begin p i) (local moment.begin moment.past j) ≡ true)
       (sym (plain.quiet.begins moment.past))
@@ -258,12 +403,12 @@ module _ (law : JcrLaw) (old new : Shown) (answer : StepOut) (run : SessionRun) 
       (subst (λ (y : StepKind). list_any (is_kind y) (kind.Back ∷ []) ≡ true) (sym is) refl)
       (subst (λ (y : Work). stage_of y ≤ 0) (sym was) (let le : 0 ≤ 0 = omega arith in le))
       (let le : 0 ≤ stage_of new.work = omega arith in le))
-      kept_is
+      (kept_write moment (after steps.own moment) c e kept_is) (unpinning (event.Went s kind.Back ∷ []) mine (λ q. refl))
       (subst (λ (y : Work). IsWorkFor (after steps.own moment) s c command.BackWrite y) (sym work) (λ i there.
       subst (λ (p : Past). is_at_most (local moment.begin p i) r ≡ true) (sym (plain.quiet.begins moment.past)) (all i there)))
   step_by _ c _ (out.Ready (end.Published o)) was (publishing r all) kept_is for (j, on, same, mine, idle) appended never =
       let plain = subst (λ (p : Past). IsPlain s p) (sym mine) (plain_out s j r) in
-      has_ended command.BackWrite c for plain (ended.Published o) kind.Back (ap is_awaiting was) appended
+      ended_plain command.BackWrite c for plain (ended.Published o) kind.Back (ap is_awaiting was) appended
       (ordered command.BackWrite c for plain (phase.Told (ended.Published o)) kind.Back 0 (kind.Back ∷ []) refl refl
       (subst (λ (y : Work). stage_of y ≤ 0) (sym was) (let le : 0 ≤ 0 = omega arith in le)) (let le : 0 ≤ 1 = omega arith in le))
       idle
@@ -272,6 +417,7 @@ module _ (law : JcrLaw) (old new : Shown) (answer : StepOut) (run : SessionRun) 
       (subst (λ (p : Past). is_at_most (local moment.begin p j) o ≡ true) (sym (plain.quiet.begins moment.past))
       (subst (λ (q : Revision). is_at_most (local moment.begin (before_turn moment.past s) j) q ≡ true) (sym same) (all j on)))
       (unmoved_then command.BackWrite c for plain))
+      tt refl (unpinning (event.Out j r ∷ []) mine (λ q. refl))
       (empty_place old.room (kept_for e) here.1.place) tt
     where
       published_came : (j : ℕ) (o r : Revision) → o ≡ r → came s (λ earlier x. is_out j o x) (event.Out j r ∷ moment.past) ≡ true
@@ -288,7 +434,7 @@ module _ (law : JcrLaw) (old new : Shown) (answer : StepOut) (run : SessionRun) 
       (subst (λ (y : StepKind). list_any (is_kind y) (kind.Back ∷ []) ≡ true) (sym is) refl)
       (subst (λ (y : Work). stage_of y ≤ 0) (sym was) (let le : 0 ≤ 0 = omega arith in le))
       (let le : 0 ≤ stage_of new.work = omega arith in le))
-      kept_is
+      (kept_read moment (after steps.own moment) c e kept_is) (unpinning (event.Went s kind.Back ∷ []) mine (λ q. refl))
       (subst (λ (y : Work). IsWorkFor (after steps.own moment) s c command.BackRead y) (sym work) (λ i there.
       subst (λ (p : Past). knows_published moment.clusters moment.begin p i v ≡ true) (sym (plain.quiet.begins moment.past))
       (knows_public moment.clusters moment.sessions here.0.nodes moment.begin (starts_of law) (says_of law) moment.past run_then s i v
@@ -297,7 +443,7 @@ module _ (law : JcrLaw) (old new : Shown) (answer : StepOut) (run : SessionRun) 
   step_by _ c _ x was to_read kept_is for made appended never = absurd made
   step_by _ c _ (out.Ready (end.Learnt v)) was (learning u all) kept_is for (j, on, more, mine, idle) appended never =
       let plain = subst (λ (p : Past). IsPlain s p) (sym mine) (plain_in s j v) in
-      has_ended command.BackRead c for plain (ended.Learnt v) kind.Learn (ap is_awaiting was) appended
+      ended_plain command.BackRead c for plain (ended.Learnt v) kind.Learn (ap is_awaiting was) appended
       (ordered command.BackRead c for plain (phase.Told (ended.Learnt v)) kind.Learn 1 (kind.Learn ∷ []) refl refl
       (subst (λ (y : Work). stage_of y ≤ 1) (sym was) (let le : 1 ≤ 1 = omega arith in le)) (let le : 1 ≤ 2 = omega arith in le))
       idle
@@ -308,6 +454,7 @@ module _ (law : JcrLaw) (old new : Shown) (answer : StepOut) (run : SessionRun) 
       (knows_more moment.clusters moment.sessions here.0.nodes moment.begin (starts_of law) (says_of law) moment.past run_then s j u v more
       (all j on)))
       (unmoved_then command.BackRead c for plain))
+      tt refl (unpinning (event.In j v ∷ []) mine (λ q. refl))
       (empty_place old.room (kept_for e) here.1.place)
       (learned_eight j v on
       (subst (λ (p : Past). IsRun (starts_of law) (says_of law) (after p moment)) mine (run_new law old new answer at stands here.0 steps)))
@@ -315,10 +462,10 @@ module _ (law : JcrLaw) (old new : Shown) (answer : StepOut) (run : SessionRun) 
   step_by _ c _ x was (learning u all) kept_is for made appended never = absurd made
   step_by _ c _ (out.Ready (end.Set None)) was (to_keep id named counted) kept_is for (v, based, mine, idle) appended never =
       let plain = subst (λ (p : Past). IsPlain s p) (sym mine) (plain_checkpoint s id v) in
-      let reply = kept_reply c e kept_is in
+      let reply = kept_reply moment c e kept_is in
       subst (λ (t : Told). HasCounted law old new at (record run { phase = phase.Told t }) (turn.Stepped kind.Settings))
       (ap (λ (y : Errand). told_by coming.Set y) (sym reply.1))
-      (has_ended command.Checkpoint c for plain (ended.Text reply.0) kind.Settings (ap is_awaiting was) appended
+      (ended_plain command.Checkpoint c for plain (ended.Text reply.0) kind.Settings (ap is_awaiting was) appended
       (ordered command.Checkpoint c for plain (phase.Told (ended.Text reply.0)) kind.Settings 0 (kind.Settings ∷ []) refl refl
       (subst (λ (y : Work). stage_of y ≤ 0) (sym was) (let le : 0 ≤ 0 = omega arith in le)) (let le : 0 ≤ 1 = omega arith in le))
       idle
@@ -332,15 +479,16 @@ module _ (law : JcrLaw) (old new : Shown) (answer : StepOut) (run : SessionRun) 
       (call_still law old.history s steps.others here.0.nodes run_then steps.grows.theirs ∙ for.is)))
       (first_of (event.Checkpoint id v) (since moment.past s)))))
       (unmoved_then command.Checkpoint c for plain)))
+      tt refl (unpinning (event.Checkpoint id v ∷ []) mine (λ q. refl))
       (subst (λ (y : Errand). HasPlace old.room (kept_for y)) reply.1 here.1.place) tt)
   step_by _ c _ out.Memory was (to_keep id named counted) kept_is for made appended never = absurd (never refl)
   step_by _ c _ x was (to_keep id named counted) kept_is for made appended never = absurd made
   step_by _ c _ (out.Ready (end.Set None)) was (to_release id i is) kept_is for (mine, idle) appended never =
       let plain = subst (λ (p : Past). IsPlain s p) (sym mine) (plain_release s i) in
-      let reply = kept_refusal c id e kept_is in
+      let reply = kept_refusal moment c id e kept_is in
       subst (λ (t : Told). HasCounted law old new at (record run { phase = phase.Told t }) (turn.Stepped kind.Settings))
       (ap (λ (y : Errand). told_by coming.Set y) (sym reply.1))
-      (has_ended (command.Release id) c for plain ended.Done kind.Settings (ap is_awaiting was) appended
+      (ended_plain (command.Release id) c for plain ended.Done kind.Settings (ap is_awaiting was) appended
       (ordered (command.Release id) c for plain (phase.Told ended.Done) kind.Settings 0 (kind.Settings ∷ []) refl refl
       (subst (λ (y : Work). stage_of y ≤ 0) (sym was) (let le : 0 ≤ 0 = omega arith in le)) (let le : 0 ≤ 1 = omega arith in le))
       idle
@@ -349,13 +497,14 @@ module _ (law : JcrLaw) (old new : Shown) (answer : StepOut) (run : SessionRun) 
       (subst (λ (j : Text). Contains (since (event.Release i ∷ moment.past) s) (event.Release j)) is
       (first_of (event.Release i) (since moment.past s))))
       (unmoved_then (command.Release id) c for plain))
+      tt refl (unpinning (event.Release i ∷ []) mine (λ q. refl))
       (empty_place old.room (kept_for e) here.1.place) tt)
   step_by _ c _ (out.Ready end.NoCheckpoint) was (to_release id i is) kept_is for (none, mine, idle) appended never =
       let plain = subst (λ (p : Past). IsPlain s p) (sym mine) (plain_setting s) in
-      let reply = kept_refusal c id e kept_is in
+      let reply = kept_refusal moment c id e kept_is in
       subst (λ (t : Told). HasCounted law old new at (record run { phase = phase.Told t }) (turn.Stepped kind.Settings))
       (ap (λ (y : Errand). told_by coming.Missed y) (sym reply.1))
-      (has_ended (command.Release id) c for plain (ended.Text reply.0) kind.Settings (ap is_awaiting was) appended
+      (ended_plain (command.Release id) c for plain (ended.Text reply.0) kind.Settings (ap is_awaiting was) appended
       (ordered (command.Release id) c for plain (phase.Told (ended.Text reply.0)) kind.Settings 0 (kind.Settings ∷ []) refl refl
       (subst (λ (y : Work). stage_of y ≤ 0) (sym was) (let le : 0 ≤ 0 = omega arith in le)) (let le : 0 ≤ 1 = omega arith in le))
       idle
@@ -364,6 +513,7 @@ module _ (law : JcrLaw) (old new : Shown) (answer : StepOut) (run : SessionRun) 
       (subst (λ (p : Past). came s (misses s id) (p ++ moment.past) ≡ true) (sym mine)
       (missed_came id (subst (λ (j : Text). kept_checkpoint moment.past j ≡ None) is none)))
       (unmoved_then (command.Release id) c for plain)))
+      tt refl (unpinning (event.Went s kind.Settings ∷ []) mine (λ q. refl))
       (subst (λ (y : Errand). HasPlace old.room (kept_for y)) reply.1 here.1.place) tt)
     where
       missed_came : (id : Text) → kept_checkpoint moment.past id ≡ None → came s (misses s id) (event.Went s kind.Settings ∷ moment.past) ≡
@@ -373,14 +523,52 @@ module _ (law : JcrLaw) (old new : Shown) (answer : StepOut) (run : SessionRun) 
           ∙ ap (λ (o : Option RevVec). is_none o || came s (misses s id) moment.past) none
   step_by _ c _ out.Memory was (to_release id i is) kept_is for made appended never = absurd (never refl)
   step_by _ c _ x was (to_release id i is) kept_is for made appended never = absurd made
+  step_by _ c _ (out.Ready (end.Pinned pin)) was (to_observe q deep mask within) kept_is for (based, mine, idle) appended never =
+      let plain = subst (λ (p : Past). IsPlain s p) (sym mine) (plain_pin s) in
+      let filter = kept_filter moment c q deep mask e kept_is in
+      subst (λ (t : Told). HasCounted law old new at (record run { phase = phase.Told t }) (turn.Stepped kind.Pin))
+      (ap (λ (y : Errand). told_by coming.Pinned y) (sym filter.1))
+      (has_ended (command.Observe q deep mask) c for plain (ended.Observed filter.0) kind.Pin (ap is_awaiting was) appended
+      (ordered (command.Observe q deep mask) c for plain (phase.Told (ended.Observed filter.0)) kind.Pin 0 (kind.Pin ∷ []) refl refl
+      (subst (λ (y : Work). stage_of y ≤ 0) (sym was) (let le : 0 ≤ 0 = omega arith in le)) (let le : 0 ≤ 1 = omega arith in le))
+      idle
+      (observing q deep mask within (pinned_came mine) (unmoved_then (command.Observe q deep mask) c for plain))
+      filter.2
+      (pin_at (command.Observe q deep mask) c for refl mine)
+      (empty_place old.room (kept_for e) here.1.place) tt)
+  step_by _ c _ out.Memory was (to_observe q deep mask within) kept_is for made appended never = absurd (never refl)
+  step_by _ c _ x was (to_observe q deep mask within) kept_is for made appended never = absurd made
+  step_by _ c _ (out.Ready (end.Pinned pin)) was to_show kept_is for (based, mine, idle) appended never =
+      let plain = subst (λ (p : Past). IsPlain s p) (sym mine) (plain_pin s) in
+      let reply = kept_events moment c e kept_is in
+      subst (λ (t : Told). HasCounted law old new at (record run { phase = phase.Told t }) (turn.Stepped kind.Pin))
+      (ap (λ (y : Errand). told_by coming.Pinned y) (sym reply.1))
+      (has_ended command.Events c for plain (ended.Text reply.0) kind.Pin (ap is_awaiting was) appended
+      (ordered command.Events c for plain (phase.Told (ended.Text reply.0)) kind.Pin 0 (kind.Pin ∷ []) refl refl
+      (subst (λ (y : Work). stage_of y ≤ 0) (sym was) (let le : 0 ≤ 0 = omega arith in le)) (let le : 0 ≤ 1 = omega arith in le))
+      idle
+      (subst (λ (t : Text). MaySay law (after steps.own moment) s (Allowed command.Events) t) (sym reply.2)
+      (subst (λ (p : Past). MaySay law (after p moment) s (Allowed command.Events)
+      (events_reply (events_since moment.begin moment.past c.who.base c.state.cursor))) (sym mine)
+      (observed c (subst (λ (p : Past). call_of law moment.begin (p ++ moment.past) s ≡ Some c) mine (called_then command.Events c for plain))
+      pin_came (subst (λ (p : Past). is_unmoved (p ++ moment.past) s ≡ true) mine (unmoved_then command.Events c for plain)))))
+      tt
+      (shown_cursor c (string_bytes reply.0) (ap is_ok_text reply.2 ∙ events_ok (events_since moment.begin moment.past c.who.base c.state.cursor))
+      (pin_at command.Events c for refl mine))
+      (subst (λ (y : Errand). HasPlace old.room (kept_for y)) reply.1 here.1.place) tt)
+  step_by _ c _ out.Memory was to_show kept_is for made appended never = absurd (never refl)
+  step_by _ c _ x was to_show kept_is for made appended never = absurd made
 
   abbrev case_then : WorkCase moment s here.1.call here.1.command old.work
   case_then = work_case moment s here.1.call here.1.command old.work
       (work_still law old.history s steps.others here.0.nodes run_then steps.grows.theirs here.1.call here.1.command old.work here.1.works)
 
+  kept_then : IsKeptFor moment here.1.call here.1.command e
+  kept_then = kept_still law old.history s steps.others here.0.nodes run_then steps.grows.theirs here.1.call here.1.for.is here.1.command e here.1.kept
+
   -- a step of a task is a turn
   pub errand_turns : (answer ≡ out.Memory → ⊥) → Turned answer
-  errand_turns never = step_by here.1.command here.1.call old.work answer refl case_then here.1.kept here.1.for steps.makes steps.of_step
+  errand_turns never = step_by here.1.command here.1.call old.work answer refl case_then kept_then here.1.for steps.makes steps.of_step
       never
 
   -- which answers come
@@ -409,9 +597,40 @@ module _ (law : JcrLaw) (old new : Shown) (answer : StepOut) (run : SessionRun) 
       by _ c _ (out.Ready end.NoCheckpoint) (to_release id i is) made = tt
       by _ c _ out.Memory (to_release id i is) made = tt
       by _ c _ x (to_release id i is) made = absurd made
+      by _ c _ (out.Ready (end.Pinned pin)) (to_observe q deep mask within) made = tt
+      by _ c _ out.Memory (to_observe q deep mask within) made = tt
+      by _ c _ x (to_observe q deep mask within) made = absurd made
+      by _ c _ (out.Ready (end.Pinned pin)) to_show made = tt
+      by _ c _ out.Memory to_show made = tt
+      by _ c _ x to_show made = absurd made
 
   refused_is : (x : StepOut) → x ≡ out.Memory → came_by x ≡ coming.Refused
   refused_is x memory = ap came_by memory
+
+  -- what it came to is what this task may come to
+  pub errand_may : (x : Came) → x ≡ came_by answer → (x ≡ coming.Refused → ⊥) → MayCome x e
+  errand_may x is never = subst (λ (y : Came). MayCome y e) (sym is)
+      (by here.1.command here.1.call old.work answer case_then here.1.kept steps.makes (λ memory. never (is ∙ refused_is answer memory)))
+    where
+      by : (m : Command) (c : Call) (w : Work) (x : StepOut) → WorkCase moment s c m w → IsKeptFor old.history c m e
+          → Makes moment s w x steps.own new.work → (x ≡ out.Memory → ⊥) → MayCome (came_by x) e
+      by _ c _ (out.Went k) case keeps made never = tt
+      by _ c _ out.Memory case keeps made never = absurd (never refl)
+      by _ c _ (out.Ready (end.Published o)) (publishing r all) keeps made never = may_write old.history c e keeps o
+      by _ c _ (out.Ready (end.Learnt v)) (learning u all) keeps made never = may_read old.history c e keeps v
+      by _ c _ (out.Ready (end.Set None)) (to_keep id named counted) keeps made never = may_keep old.history c e keeps
+      by _ c _ (out.Ready (end.Set None)) (to_release id i same) keeps made never = (may_release old.history c id e keeps).0
+      by _ c _ (out.Ready end.NoCheckpoint) (to_release id i same) keeps made never = (may_release old.history c id e keeps).1
+      by _ c _ (out.Ready (end.Pinned pin)) (to_observe q deep mask within) keeps made never = may_observe old.history c q deep mask e keeps
+      by _ c _ (out.Ready (end.Pinned pin)) to_show keeps made never = may_show old.history c e keeps
+      by _ c _ x to_write keeps made never = absurd made
+      by _ c _ x (publishing r all) keeps made never = absurd made
+      by _ c _ x to_read keeps made never = absurd made
+      by _ c _ x (learning u all) keeps made never = absurd made
+      by _ c _ x (to_keep id named counted) keeps made never = absurd made
+      by _ c _ x (to_release id i same) keeps made never = absurd made
+      by _ c _ x (to_observe q deep mask within) keeps made never = absurd made
+      by _ c _ x to_show keeps made never = absurd made
 
   -- by what it came to
   pub errand_turned : (x : Came) → x ≡ came_by answer → (x ≡ coming.Refused → ⊥) → (now : SessionRun) → now ≡ record run
@@ -435,6 +654,8 @@ module _ (law : JcrLaw) (old new : Shown) (answer : StepOut) (run : SessionRun) 
       by _ c _ (learning u all) made = made
       by _ c _ (to_keep id named counted) made = made
       by _ c _ (to_release id i is) made = made
+      by _ c _ (to_observe q deep mask within) made = made
+      by _ c _ to_show made = made
 
   pub refused_beside : answer ≡ out.Memory → IsBeside law old new
   refused_beside memory = record {
@@ -457,6 +678,8 @@ module _ (law : JcrLaw) (old new : Shown) (answer : StepOut) (run : SessionRun) 
       by _ c _ (learning u all) = refl
       by _ c _ (to_keep id named counted) = refl
       by _ c _ (to_release id i is) = refl
+      by _ c _ (to_observe q deep mask within) = refl
+      by _ c _ to_show = refl
 
   -- want of memory may be answered
   pub refused_forgoes : answer ≡ out.Memory → MayForgo law new run false
@@ -477,8 +700,8 @@ module _ (law : JcrLaw) (old new : Shown) (answer : StepOut) (run : SessionRun) 
       next = for.next;
       call = for.is;
     };
-    unmoved = for.unmoved;
-    unpinned = for.unpinned;
+    unmoved = unmoved_beside law old new beside here.0.nodes here.1.unmoved;
+    unpinned = unpinned_beside law old new beside here.0.nodes here.1.unpinned;
     drew_is = ap is_some for.fresh.first;
     uncommitted = ap (λ (o : Option Revision). option_map_or (is_committed new.history.past) o false) for.fresh.first;
     holds = for.holds;
@@ -487,8 +710,8 @@ module _ (law : JcrLaw) (old new : Shown) (answer : StepOut) (run : SessionRun) 
       beside : IsBeside law old new
       beside = refused_beside memory
 
-      for : IsOnErrand law new at here.1.command here.1.call
-      for = errand_beside law old new beside here.0.nodes at here.1.command here.1.call here.1.for
+      for : IsOnCommand law new at here.1.command here.1.call
+      for = command_beside law old new beside here.0.nodes at here.1.command here.1.call here.1.for
 
   -- there is a place for that
   pub refused_room : HasRoom new.room COMMIT_REPLY_BYTES
@@ -517,6 +740,8 @@ errand_busy law p run e stands idle = by stands.at.1.command stands.at.1.call p.
     by _ c _ (learning u all) is = false≢true (ap is_idle is)
     by _ c _ (to_keep id named counted) is = false≢true (ap is_idle is)
     by _ c _ (to_release id i same) is = false≢true (ap is_idle is)
+    by _ c _ (to_observe q deep mask within) is = false≢true (ap is_idle is)
+    by _ c _ to_show is = false≢true (ap is_idle is)
 
 -- what a refusal is
 pub memory_is : (answer : StepOut) → IsErrandAnswer answer → came_by answer ≡ coming.Refused → answer ≡ out.Memory
@@ -526,4 +751,5 @@ memory_is (out.Ready (end.Published r)) is h = absurd (false≢true (ap is_refus
 memory_is (out.Ready (end.Learnt v)) is h = absurd (false≢true (ap is_refused h))
 memory_is (out.Ready (end.Set pin)) is h = absurd (false≢true (ap is_refused h))
 memory_is (out.Ready end.NoCheckpoint) is h = absurd (false≢true (ap is_refused h))
+memory_is (out.Ready (end.Pinned pin)) is h = absurd (false≢true (ap is_refused h))
 memory_is a is h = absurd is

@@ -5,7 +5,7 @@ use Rattle.std.specs.Fmt.{digits}
 use Rattle.serde_json.proofs.OnLiterals.{serde_json_on_literals}
 use Rattle.jcr_trans.specs.Texts.{memory_text}
 use Rattle.oak_port.specs.Ports.{HasRoom}
-use Rattle.jcr_session.specs.declared.limits.TheConstants.{COMMIT_REPLY_BYTES}
+use Rattle.jcr_steps.specs.declared.limits.TheConstants.{COMMIT_REPLY_BYTES}
 
 -- the text that is said for want of memory
 pub memory_reply_is : memory_text ≡ codes "no 16 []"

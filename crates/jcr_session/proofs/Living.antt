@@ -6,7 +6,7 @@ use Rattle.std.proofs.lemmas.Bool.Decides.{nat_tests}
 use mathlib.Core.Bool.{false≢true}
 use Rattle.jr_rev.specs.declared.vector.Pin.{Pin}
 use Rattle.jr_rev.specs.declared.vector.RevVec.{RevVec}
-use Rattle.jr_part.specs.declared.need.Need.{Need}
+use Rattle.jr_tree.specs.declared.shared.CommitChanges.{CommitChanges}
 use Rattle.jr_tree.specs.declared.shared.Who.{Who}
 use Rattle.oak_machine.specs.declared.event.Event.TheVariants as event
 use Rattle.oak_machine.specs.declared.event.StepKind.TheVariants as kind
@@ -31,13 +31,15 @@ use Rattle.jcr_held.specs.declared.held.Held.{Held}
 use Rattle.core_calls.specs.Events.{state_at_login}
 use Rattle.core_calls.specs.Seeing.{SeesTrees, SeesTyped}
 use Rattle.core_calls.proofs.Called.{login_call}
+use Rattle.jcr_session.specs.declared.read.Fetch.{Fetch}
 use Rattle.jcr_session.specs.declared.run.Phase.{Phase}
 use Rattle.jcr_session.specs.declared.run.Phase.TheVariants as phase
 use Rattle.jcr_session.specs.declared.run.SessionRun.{SessionRun}
 use Rattle.jcr_session.specs.declared.turn.Turn.{Turn}
 use Rattle.jcr_session.specs.declared.turn.Turn.TheVariants as turn
-use Rattle.jcr_session.specs.Standing.{HasCounted, IsBetween, IsFresh, IsIn, IsOutside, IsReading, Stands, StandsAt, is_writing}
+use Rattle.jcr_session.specs.Standing.{AreSince, HasCounted, IsBetween, IsFetchFor, IsFresh, IsIn, IsOutside, IsReading, KeepsCursor, Stands, StandsAt, is_writing}
 use Rattle.jcr_session.proofs.Committing.{own}
+use Rattle.jcr_session.proofs.Cursors.{cursor_of_call}
 use Rattle.jcr_session.proofs.Nexts.{unwanted}
 use Rattle.jcr_session.proofs.Stages.{outside_order}
 use Rattle.jcr_session.proofs.Turning.{is_awaiting, not_ended, plain_step, started, turned_later}
@@ -138,7 +140,11 @@ module _ (law : JcrLaw) (old mid new : Shown) (run : SessionRun) (stands : Stand
   detached_now : is_attached logged.past s ≡ false
   detached_now = ap (λ b. cond b false (is_attached q s)) (own s)
 
-  inside_now : IsIn law new
+  -- what its first command is run with
+  abbrev first : Call
+  first = call_at law mid.history.begin q s pin.base (state_at_login mid.history.begin (tree_at mid.history.begin q pin.base))
+
+  inside_now : IsIn law new run.attached
   inside_now = record {
     nodes = moved (λ h n. AreNodes h.clusters h.sessions) nodes_mid;
     trees = moved (λ h n. SeesTrees law h.clusters h.sessions h.begin) trees_mid;
@@ -146,9 +152,9 @@ module _ (law : JcrLaw) (old mid new : Shown) (run : SessionRun) (stands : Stand
     run = steps.grows.run;
     login = moved (λ h n. has_login h.past n ≡ true) login_now;
     stays = moved (λ h n. has_left h.past n ≡ false) (not_left (starts_of law) (says_of law) mid.history.clusters mid.history.sessions mid.history.begin q run_logged.1 s out_now);
-    detached = moved (λ h n. is_attached h.past n ≡ false) detached_now;
-    unattached = moved (λ h n. is_attached (before_turn h.past n) n ≡ false)
-        (subst (λ (p : Past). is_attached p s ≡ false) (sym (ap (λ b. cond b logged.past (before_turn q s)) (own s))) detached_now);
+    began = moved (λ h n. is_attached (before_turn h.past n) n ≡ run.attached)
+        (subst (λ (p : Past). is_attached p s ≡ false) (sym (ap (λ b. cond b logged.past (before_turn q s)) (own s))) detached_now ∙ sym is_out.detached);
+    cursor = moved (λ h n. KeepsCursor law h n) (cursor_of_call law logged s first (login_call law mid.history.begin q s pin.base) (λ unpinned. tt));
   }
 
   fresh_now : IsFresh logged.past s
@@ -163,10 +169,6 @@ module _ (law : JcrLaw) (old mid new : Shown) (run : SessionRun) (stands : Stand
   unpinned_now : is_unpinned logged.past s ≡ true
   unpinned_now = ap (λ b. not (list_any (is_pinning s) (cond b [] (event.Login s pin.base ∷ Rattle.oak_machine.specs.Sessions.since q s))))
       (own s)
-
-  -- what its first command is run with
-  abbrev first : Call
-  first = call_at law mid.history.begin q s pin.base (state_at_login mid.history.begin (tree_at mid.history.begin q pin.base))
 
   called_now : call_of law new.history.begin new.history.past new.session ≡ Some first
   called_now = moved (λ h n. call_of law h.begin h.past n ≡ Some first) (login_call law mid.history.begin q s pin.base)
@@ -184,6 +186,7 @@ module _ (law : JcrLaw) (old mid new : Shown) (run : SessionRun) (stands : Stand
     tree = trees_mid logged.past run_logged s pin.base based_now;
     view = refl;
     tokens = refl;
+    cursor = refl;
     ids = refl;
   }
 
@@ -202,8 +205,10 @@ module _ (law : JcrLaw) (old mid new : Shown) (run : SessionRun) (stands : Stand
       unmoved = moved (λ h n. is_unmoved h.past n ≡ true) unmoved_now;
       unpinned = moved (λ h n. is_unpinned h.past n ≡ true) unpinned_now;
       fresh = moved (λ h n. IsFresh h.past n) fresh_now;
-      reads = subst (λ (o : Option Need). IsReading new.work o) (sym is_out.unread) made.1;
+      reads = subst (λ (o : Option Fetch). IsReading new.work o) (sym is_out.unread) made.1;
       due = λ some. absurd (false≢true (sym (ap is_some is_out.unread) ∙ some));
+      for = subst (λ (o : Option Fetch). IsFetchFor run_now o) (sym is_out.unread) tt;
+      changes = subst (λ (o : Option (List CommitChanges)). AreSince new.history first o) (sym is_out.unlisted) tt;
       wanted = unwanted first run_now is_out.unread;
     }
 

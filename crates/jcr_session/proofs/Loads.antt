@@ -6,9 +6,9 @@ use Rattle.jr_path.specs.Names.{name_cmp}
 use Rattle.jr_path.specs.declared.name.Name.{Name}
 use Rattle.jr_path.specs.declared.path.Path.{Path}
 use Rattle.jr_rev.specs.declared.revision.Revision.{Revision}
+use Rattle.jr_tree.specs.declared.shared.CommitChanges.{CommitChanges}
 use Rattle.jr_tree.specs.declared.tree.Node.{Node}
 use Rattle.jr_tree.specs.Trees.{IsTree, dated_children_of, node_at}
-use Rattle.jr_part.specs.declared.need.Need.{Need}
 use Rattle.jr_part.specs.declared.need.Need.TheVariants as need
 use Rattle.jr_part.proofs.Children.{children_sorted}
 use Rattle.oak_machine.specs.declared.event.StepKind.{StepKind}
@@ -24,17 +24,20 @@ use Rattle.jcr_law.specs.Starting.{call_based, call_has_base}
 use Rattle.jcr_law.specs.State.{Call}
 use Rattle.jcr_held.specs.Holds.{Holds}
 use Rattle.jcr_held.specs.declared.held.Held.{Held}
-use Rattle.jcr_session.specs.declared.read.Listed.{Listed}
-use Rattle.jcr_session.specs.declared.read.Listed.TheVariants as listed
-use Rattle.jcr_session.specs.declared.read.Loaded.{Loaded}
-use Rattle.jcr_session.specs.declared.read.Loaded.TheVariants as loaded
+use Rattle.jcr_steps.specs.declared.answers.Listed.{Listed}
+use Rattle.jcr_steps.specs.declared.answers.Listed.TheVariants as listed
+use Rattle.jcr_steps.specs.declared.answers.Loaded.{Loaded}
+use Rattle.jcr_steps.specs.declared.answers.Loaded.TheVariants as loaded
+use Rattle.jcr_session.specs.declared.read.Fetch.{Fetch}
+use Rattle.jcr_session.specs.declared.read.Fetch.TheVariants as fetch
 use Rattle.jcr_session.specs.declared.run.SessionRun.{SessionRun}
-use Rattle.jcr_session.specs.Answered.{IsListAnswer, IsLoadAnswer, listed_by, loaded_by}
-use Rattle.jcr_session.specs.Standing.{HasLooked, HasRead, IsCalled, IsIn, IsReading, IsReadyNext, IsRefused, IsSame, IsWantedNext, Stands, may_read}
+use Rattle.jcr_steps.specs.Answered.{IsListAnswer, IsLoadAnswer, listed_by, loaded_by}
+use Rattle.jcr_session.specs.Standing.{AreSince, HasLooked, HasRead, IsCalled, IsFetchFor, IsIn, IsReading, IsReadyNext, IsRefused, IsSame, IsWantedNext, Stands, may_read}
 use Rattle.jcr_session.proofs.Coming.{list_comes, load_comes}
 use Rattle.jcr_session.proofs.Lawful.{at_between}
 use Rattle.jcr_session.proofs.Looking.{read_looked, read_refused}
 use Rattle.jcr_session.proofs.Nexts.{reads_between, unwanted}
+use Rattle.jcr_session.proofs.Since.{since_beside}
 use Rattle.jcr_session.proofs.Reading.{HasStepped, beside_itself, list_found, list_refused, list_went, node_found, node_refused, node_went}
 use Rattle.jcr_session.proofs.Waiting.{by_waits}
 
@@ -108,18 +111,27 @@ list_stops (out.Ready (end.Children f)) is h = other_listed (listed.Names f) lis
 list_stops out.Memory is h = refl
 list_stops a is h = absurd is
 
+-- nothing is being read
+pub unfetched : (run : SessionRun) → run.fetch ≡ None → IsFetchFor run run.fetch
+unfetched run none = subst (λ (o : Option Fetch). IsFetchFor run o) (sym none) tt
+
+-- what is read is for the command, whether it is being read or not
+fetch_like : (run : SessionRun) (n : Fetch) → IsFetchFor run (Some n) → IsFetchFor (record run { fetch = Some n }) (Some n)
+fetch_like run (fetch.Tree n) suits = suits
+fetch_like run (fetch.Changes v) suits = suits
+
 -- a session is called on a tree
-pub called_tree : (law : JcrLaw) (p : Shown) (c : Call) → IsIn law p → IsCalled law p c → IsTree c.base
+pub called_tree : {attached : Bool} (law : JcrLaw) (p : Shown) (c : Call) → IsIn law p attached → IsCalled law p c → IsTree c.base
 called_tree law p c inside is =
     subst (λ (y : Call). IsTree y.base) (sym (call_based law p.history.begin p.history.past p.session c is))
     (inside.trees p.history.past inside.run p.session c.who.base (call_has_base law p.history.begin p.history.past p.session c is))
 
 -- ---- a step of reading a node
 
-module _ (law : JcrLaw) (old new : Shown) (run : SessionRun) (path : Path) (stands : Stands law old (record run { fetch = Some (need.Node path) })) (reads : may_read run ≡ true) (none : run.fetch ≡ None)
+module _ (law : JcrLaw) (old new : Shown) (run : SessionRun) (path : Path) (stands : Stands law old (record run { fetch = Some (fetch.Tree (need.Node path)) })) (reads : may_read run ≡ true) (none : run.fetch ≡ None)
     (answer : StepOut) (steps : Steps (starts_of law) (says_of law) old new answer) where
   abbrev loading : SessionRun
-  loading = record run { fetch = Some (need.Node path) }
+  loading = record run { fetch = Some (fetch.Tree (need.Node path)) }
 
   pub load_busy : old.work ≡ Starting (task.Load path)
   load_busy = (at_between law old loading stands (reads_between loading reads)).1.reads
@@ -134,12 +146,16 @@ module _ (law : JcrLaw) (old new : Shown) (run : SessionRun) (path : Path) (stan
   load_going h =
       let k = load_goes answer load_is h in
       let x = node_went law old new path stands.nodes k.0 load_busy (subst By k.1 steps) in
-      read_looked law old new loading stands reads x.beside loading (record { session = refl; commands = refl; index = refl; phase = refl }) (λ c holds is. holds) x.work_is (λ c is wanted. wanted)
+      read_looked law old new loading stands reads x.beside loading (record { session = refl; commands = refl; index = refl; phase = refl; attached = refl }) (λ c holds is. holds) x.work_is
+      (at_between law old loading stands (reads_between loading reads)).1.for
+      (λ c is since. since_beside law old new x.beside stands.nodes c is run.changes since) (λ c is wanted. wanted)
 
   load_ended : (held : Held) → (x : HasStepped law old new path stands.nodes Idle) → ((c : Call) → Holds c run.held → IsCalled law old c → Holds c held) → HasLooked law old new loading (record run { held = held }) × IsRefused new (record run { held = held })
   load_ended held x holds = (
-    read_looked law old new loading stands reads x.beside (record run { held = held }) (record { session = refl; commands = refl; index = refl; phase = refl }) holds (subst (λ (o : Option Need). IsReading new.work o) (sym none) x.work_is) (λ c is wanted. unwanted c (record run { held = held }) none),
-    read_refused law old new loading stands reads x.beside (record run { held = held }) (record { session = refl; commands = refl; index = refl; phase = refl }) holds (subst (λ (o : Option Need). IsReading new.work o) (sym none) x.work_is) none,
+    read_looked law old new loading stands reads x.beside (record run { held = held }) (record { session = refl; commands = refl; index = refl; phase = refl; attached = refl }) holds (subst (λ (o : Option Fetch). IsReading new.work o) (sym none) x.work_is)
+        (unfetched (record run { held = held }) none) (λ c is since. since_beside law old new x.beside stands.nodes c is run.changes since) (λ c is wanted. unwanted c (record run { held = held }) none),
+    read_refused law old new loading stands reads x.beside (record run { held = held }) (record { session = refl; commands = refl; index = refl; phase = refl; attached = refl }) holds (subst (λ (o : Option Fetch). IsReading new.work o) (sym none) x.work_is)
+        (unfetched (record run { held = held }) none) (λ c is since. since_beside law old new x.beside stands.nodes c is run.changes since) none,
   )
 
   pub load_found : (found : Option Node) (held : Held) → loaded_by answer ≡ loaded.Found found → ((c : Call) → Holds c run.held → found ≡ node_at c.base path → Holds c held)
@@ -153,10 +169,10 @@ module _ (law : JcrLaw) (old new : Shown) (run : SessionRun) (path : Path) (stan
 
 -- ---- a step of reading the names of children
 
-module _ (law : JcrLaw) (old new : Shown) (run : SessionRun) (path : Path) (stands : Stands law old (record run { fetch = Some (need.Children path) })) (reads : may_read run ≡ true) (none : run.fetch ≡ None)
+module _ (law : JcrLaw) (old new : Shown) (run : SessionRun) (path : Path) (stands : Stands law old (record run { fetch = Some (fetch.Tree (need.Children path)) })) (reads : may_read run ≡ true) (none : run.fetch ≡ None)
     (answer : StepOut) (steps : Steps (starts_of law) (says_of law) old new answer) where
   abbrev listing : SessionRun
-  listing = record run { fetch = Some (need.Children path) }
+  listing = record run { fetch = Some (fetch.Tree (need.Children path)) }
 
   pub list_busy : old.work ≡ Starting (task.List path)
   list_busy = (at_between law old listing stands (reads_between listing reads)).1.reads
@@ -171,12 +187,16 @@ module _ (law : JcrLaw) (old new : Shown) (run : SessionRun) (path : Path) (stan
   list_going h =
       let k = list_goes answer list_is h in
       let x = list_went law old new path stands.nodes k.0 list_busy (subst ByList k.1 steps) in
-      read_looked law old new listing stands reads x.beside listing (record { session = refl; commands = refl; index = refl; phase = refl }) (λ c holds is. holds) x.work_is (λ c is wanted. wanted)
+      read_looked law old new listing stands reads x.beside listing (record { session = refl; commands = refl; index = refl; phase = refl; attached = refl }) (λ c holds is. holds) x.work_is
+      (at_between law old listing stands (reads_between listing reads)).1.for
+      (λ c is since. since_beside law old new x.beside stands.nodes c is run.changes since) (λ c is wanted. wanted)
 
   list_ended : (held : Held) → (x : HasStepped law old new path stands.nodes Idle) → ((c : Call) → Holds c run.held → IsCalled law old c → Holds c held) → HasLooked law old new listing (record run { held = held }) × IsRefused new (record run { held = held })
   list_ended held x holds = (
-    read_looked law old new listing stands reads x.beside (record run { held = held }) (record { session = refl; commands = refl; index = refl; phase = refl }) holds (subst (λ (o : Option Need). IsReading new.work o) (sym none) x.work_is) (λ c is wanted. unwanted c (record run { held = held }) none),
-    read_refused law old new listing stands reads x.beside (record run { held = held }) (record { session = refl; commands = refl; index = refl; phase = refl }) holds (subst (λ (o : Option Need). IsReading new.work o) (sym none) x.work_is) none,
+    read_looked law old new listing stands reads x.beside (record run { held = held }) (record { session = refl; commands = refl; index = refl; phase = refl; attached = refl }) holds (subst (λ (o : Option Fetch). IsReading new.work o) (sym none) x.work_is)
+        (unfetched (record run { held = held }) none) (λ c is since. since_beside law old new x.beside stands.nodes c is run.changes since) (λ c is wanted. unwanted c (record run { held = held }) none),
+    read_refused law old new listing stands reads x.beside (record run { held = held }) (record { session = refl; commands = refl; index = refl; phase = refl; attached = refl }) holds (subst (λ (o : Option Fetch). IsReading new.work o) (sym none) x.work_is)
+        (unfetched (record run { held = held }) none) (λ c is since. since_beside law old new x.beside stands.nodes c is run.changes since) none,
   )
 
   pub names_found : (names : List (Name × Option Revision)) (held : Held) → listed_by answer ≡ listed.Names names → ((c : Call) → Holds c run.held → names ≡ dated_children_of c.base path → Holds c held)
@@ -200,29 +220,37 @@ module _ (law : JcrLaw) (old new : Shown) (run : SessionRun) (path : Path) (stan
 
 module _ (law : JcrLaw) (p : Shown) (run : SessionRun) (stands : Stands law p run) (reads : may_read run ≡ true) where
   idle_here : run.fetch ≡ None → IsReading p.work None
-  idle_here none = subst (λ (o : Option Need). IsReading p.work o) none (at_between law p run stands (reads_between run reads)).1.reads
+  idle_here none = subst (λ (o : Option Fetch). IsReading p.work o) none (at_between law p run stands (reads_between run reads)).1.reads
 
   -- with what is held otherwise
   pub held_looked : (now : SessionRun) → run.fetch ≡ None → now ≡ record run { held = now.held } → ((c : Call) → Holds c run.held → Holds c now.held) → HasLooked law p p run now × IsRefused p now
   held_looked now none same holds =
-      let fetch : now.fetch ≡ None = ap (λ (r : SessionRun). r.fetch) same ∙ none in
-      let is : IsSame run now = record { session = ap (λ (r : SessionRun). r.session) same; commands = ap (λ (r : SessionRun). r.commands) same; index = ap (λ (r : SessionRun). r.index) same; phase = ap (λ (r : SessionRun). r.phase) same } in
-      let work : IsReading p.work now.fetch = subst (λ (o : Option Need). IsReading p.work o) (sym fetch) (idle_here none) in (
-        read_looked law p p run stands reads (beside_itself law p stands.run_is) now is (λ c has called. holds c has) work (λ c called wanted. unwanted c now fetch),
-        read_refused law p p run stands reads (beside_itself law p stands.run_is) now is (λ c has called. holds c has) work fetch,
+      let unread : now.fetch ≡ None = ap (λ (r : SessionRun). r.fetch) same ∙ none in
+      let is : IsSame run now = record { session = ap (λ (r : SessionRun). r.session) same; commands = ap (λ (r : SessionRun). r.commands) same; index = ap (λ (r : SessionRun). r.index) same; phase = ap (λ (r : SessionRun). r.phase) same; attached = ap (λ (r : SessionRun). r.attached) same } in
+      let beside = beside_itself law p stands.run_is in
+      let since : (c : Call) → IsCalled law p c → AreSince p.history c run.changes → AreSince p.history c now.changes =
+      λ c called before. subst (λ (o : Option (List CommitChanges)). AreSince p.history c o) (sym (ap (λ (r : SessionRun). r.changes) same)) before in
+      let work : IsReading p.work now.fetch = subst (λ (o : Option Fetch). IsReading p.work o) (sym unread) (idle_here none) in (
+        read_looked law p p run stands reads beside now is (λ c has called. holds c has) work (unfetched now unread) since (λ c called wanted. unwanted c now unread),
+        read_refused law p p run stands reads beside now is (λ c has called. holds c has) work (unfetched now unread) since unread,
       )
 
   -- what is read next is begun
-  pub begun_looked : (new : Shown) (t : Task) (n : Need) → OthersAlone (starts_of law) (says_of law) p new (Starting t) p.room → IsReading (Starting t) (Some n) → ((c : Call) → IsCalled law p c → IsWantedNext c (record run { fetch = Some n })) → HasLooked law p new run (record run { fetch = Some n })
-  begun_looked new t n waits is wanted =
-      read_looked law p new run stands reads (by_waits law p new (Starting t) p.room waits) (record run { fetch = Some n }) (record { session = refl; commands = refl; index = refl; phase = refl }) (λ c has called. has)
-      (subst (λ (w : Work). IsReading w (Some n)) (sym waits.work_is) is) (λ c called before. wanted c called)
+  pub begun_looked : (new : Shown) (t : Task) (n : Fetch) → OthersAlone (starts_of law) (says_of law) p new (Starting t) p.room → IsReading (Starting t) (Some n) → IsFetchFor run (Some n) → ((c : Call) → IsCalled law p c → IsWantedNext c (record run { fetch = Some n })) → HasLooked law p new run (record run { fetch = Some n })
+  begun_looked new t n waits is suits wanted =
+      let beside = by_waits law p new (Starting t) p.room waits in
+      read_looked law p new run stands reads beside (record run { fetch = Some n }) (record { session = refl; commands = refl; index = refl; phase = refl; attached = refl }) (λ c has called. has)
+      (subst (λ (w : Work). IsReading w (Some n)) (sym waits.work_is) is) (fetch_like run n suits)
+      (λ c called since. since_beside law p new beside stands.nodes c called run.changes since) (λ c called before. wanted c called)
 
   pub unbegun_looked : (new : Shown) → run.fetch ≡ None → OthersAlone (starts_of law) (says_of law) p new Idle p.room → HasLooked law p new run run × IsRefused new run
   unbegun_looked new none waits =
-      let work : IsReading new.work run.fetch = subst (λ (o : Option Need). IsReading new.work o) (sym none) waits.work_is in (
-        read_looked law p new run stands reads (by_waits law p new Idle p.room waits) run (record { session = refl; commands = refl; index = refl; phase = refl }) (λ c has called. has) work (λ c called wanted. wanted),
-        read_refused law p new run stands reads (by_waits law p new Idle p.room waits) run (record { session = refl; commands = refl; index = refl; phase = refl }) (λ c has called. has) work none,
+      let work : IsReading new.work run.fetch = subst (λ (o : Option Fetch). IsReading new.work o) (sym none) waits.work_is in
+      let beside = by_waits law p new Idle p.room waits in (
+        read_looked law p new run stands reads beside run (record { session = refl; commands = refl; index = refl; phase = refl; attached = refl }) (λ c has called. has) work (unfetched run none)
+            (λ c called since. since_beside law p new beside stands.nodes c called run.changes since) (λ c called wanted. wanted),
+        read_refused law p new run stands reads beside run (record { session = refl; commands = refl; index = refl; phase = refl; attached = refl }) (λ c has called. has) work (unfetched run none)
+            (λ c called since. since_beside law p new beside stands.nodes c called run.changes since) none,
       )
 
 -- ---- what was made of a reading step

@@ -1,8 +1,7 @@
 -- What a session reads before its turn leaves it where the history says.
-use Rattle.std.proofs.Common.{◌≡◌, ◌≤◌, ℕ, List, length, true, false, Some, None, Option, [], refl, sym, ap, ◌∙◌, subst, arith}
+use Rattle.std.proofs.Common.{◌≡◌, ◌≤◌, ℕ, Bool, List, length, true, false, Some, None, Option, [], refl, sym, ap, ◌∙◌, subst, arith}
 use Rattle.std.specs.Prelude.{slice_get}
 use mathlib.Core.Bool.{false≢true}
-use Rattle.jr_part.specs.declared.need.Need.{Need}
 use Rattle.jr_part.specs.declared.need.Need.TheVariants as need
 use Rattle.oak_machine.specs.Runs.{AreNodes}
 use Rattle.oak_machine.specs.Sessions.{next_index}
@@ -12,13 +11,15 @@ use Rattle.jcr_law.specs.declared.law.JcrLaw.{JcrLaw}
 use Rattle.jcr_law.specs.State.{Call}
 use Rattle.jcr_held.specs.Holds.{Holds}
 use Rattle.jcr_session.specs.declared.limits.TheConstants.{MOST_COMMANDS}
+use Rattle.jcr_session.specs.declared.read.Fetch.{Fetch}
+use Rattle.jcr_session.specs.declared.read.Fetch.TheVariants as fetch
 use Rattle.jcr_session.specs.declared.run.Phase.{Phase}
 use Rattle.jcr_session.specs.declared.run.Phase.TheVariants as phase
 use Rattle.jcr_session.specs.declared.run.SessionRun.{SessionRun}
 use Rattle.jcr_session.specs.declared.turn.Turn.{Turn}
 use Rattle.jcr_session.specs.declared.turn.Turn.TheVariants as turn
 use Rattle.jcr_session.specs.Asked.{MayForgo}
-use Rattle.jcr_session.specs.Standing.{HasLooked, HasCounted, IsBeside, IsBetween, IsCalled, IsIn, IsReading, IsRefused, IsSame, IsTurned, IsWantedNext, Stands, StandsAt, is_writing, may_read, stage_at, stage_of}
+use Rattle.jcr_session.specs.Standing.{AreSince, HasLooked, HasCounted, IsBeside, IsBetween, IsCalled, IsFetchFor, IsIn, IsReading, IsRefused, IsSame, IsTurned, IsWantedNext, Stands, StandsAt, is_writing, may_read, stage_at, stage_of}
 use Rattle.jcr_session.proofs.Lawful.{at_between, between_forgoes}
 use Rattle.jcr_session.proofs.Nexts.{reads_between, reads_due, reads_next, same_reads}
 use Rattle.jcr_session.proofs.Reading.{beside_both, nobody}
@@ -30,11 +31,12 @@ use Rattle.jcr_session.proofs.Waiting.{unpinned_beside}
 -- ---- a session before a command for which it reads
 
 module _ (law : JcrLaw) (old new : Shown) (run : SessionRun) (stands : Stands law old run) (reads : may_read run ≡ true) (beside : IsBeside law old new) where
-  here : IsIn law old × IsBetween law old run
+  here : IsIn law old run.attached × IsBetween law old run
   here = at_between law old run stands (reads_between run reads)
 
   -- it stands where it stood, with what is read by now and what is being read
-  module _ (now : SessionRun) (same : IsSame run now) (holds : (c : Call) → Holds c run.held → IsCalled law old c → Holds c now.held) (work : IsReading new.work now.fetch) where
+  module _ (now : SessionRun) (same : IsSame run now) (holds : (c : Call) → Holds c run.held → IsCalled law old c → Holds c now.held) (work : IsReading new.work now.fetch) (for : IsFetchFor now now.fetch)
+      (since : (c : Call) → IsCalled law old c → AreSince old.history c run.changes → AreSince new.history c now.changes) where
     pub read_stands : ((c : Call) → IsCalled law old c → IsWantedNext c run → IsWantedNext c now) → Stands law new now
     read_stands wanted = record {
       nodes = nodes_beside law old new beside stands.nodes;
@@ -47,7 +49,7 @@ module _ (law : JcrLaw) (old new : Shown) (run : SessionRun) (stands : Stands la
       index = same.index ∙ (stands.index ∙ (ap (next_index old.history.past) (sym stands.session) ∙ (sym (next_beside law old new beside) ∙ ap (next_index new.history.past) (beside.session ∙ (stands.session ∙ sym same.session)))));
       within = subst (λ (cs : List Command). now.index ≤ length cs) (sym same.commands) (subst (λ (i : ℕ). i ≤ length run.commands) (sym same.index) stands.within);
       at = subst (λ (f : Phase). StandsAt law new now f) (sym (same.phase ∙ reads_between run reads)) (
-        in_beside law old new beside stands.nodes here.0,
+        subst (λ (b : Bool). IsIn law new b) (sym same.attached) (in_beside law old new beside stands.nodes here.0),
         record {
           call = here.1.call;
           is = called_beside law old new beside stands.nodes here.1.call here.1.is;
@@ -56,8 +58,10 @@ module _ (law : JcrLaw) (old new : Shown) (run : SessionRun) (stands : Stands la
           unpinned = unpinned_beside law old new beside stands.nodes here.1.unpinned;
           fresh = fresh_beside law old new beside stands.nodes here.1.fresh;
           reads = work;
-          due = λ some. reads_due now (same_reads run now same.phase same.commands same.index ∙ reads);
+          due = λ some. reads_due now (same_reads run now same.phase same.commands same.index same.attached ∙ reads);
+          for = for;
           wanted = wanted here.1.call here.1.is here.1.wanted;
+          changes = since here.1.call here.1.is here.1.changes;
         },
       );
     }
@@ -72,9 +76,9 @@ module _ (law : JcrLaw) (old new : Shown) (run : SessionRun) (stands : Stands la
 
     pub read_refused : now.fetch ≡ None → IsRefused new now
     read_refused none = record {
-      idle = subst (λ (o : Option Need). IsReading new.work o) none work;
+      idle = subst (λ (o : Option Fetch). IsReading new.work o) none work;
       unread = none;
-      reads = same_reads run now same.phase same.commands same.index ∙ reads;
+      reads = same_reads run now same.phase same.commands same.index same.attached ∙ reads;
     }
 
 pub looked_both : (law later : JcrLaw) (a b c : Shown) (r s t : SessionRun) → later ≡ law → AreNodes a.history.clusters a.history.sessions → HasLooked law a b r s → HasLooked later b c s t → HasLooked law a c r t
@@ -86,13 +90,14 @@ looked_both law later a b c r s t laws nodes first then =
         commands = second.same.commands ∙ first.same.commands;
         index = second.same.index ∙ first.same.index;
         phase = second.same.phase ∙ first.same.phase;
+        attached = second.same.attached ∙ first.same.attached;
       };
       beside = beside_both law a b c nodes first.beside second.beside;
       still = λ read. (let x = first.still read in let y = second.still (ap may_read x.1 ∙ read) in (y.0 ∙ x.0, y.1 ∙ x.1));
     }
 
 pub looked_reads : (law : JcrLaw) (a b : Shown) (r s : SessionRun) → HasLooked law a b r s → may_read s ≡ may_read r
-looked_reads law a b r s looked = same_reads r s looked.same.phase looked.same.commands looked.same.index
+looked_reads law a b r s looked = same_reads r s looked.same.phase looked.same.commands looked.same.index looked.same.attached
 
 -- ---- memory was refused for reading: the command that reads is answered so
 
@@ -103,19 +108,21 @@ refused_forgoes law p run stands refused =
 -- ---- a turn after the reading steps
 
 -- a session that reads waits for nothing else
-reading_unawaited : (w : Work) (o : Option Need) → IsReading w o → is_awaiting w ≡ false
+reading_unawaited : (w : Work) (o : Option Fetch) → IsReading w o → is_awaiting w ≡ false
 reading_unawaited w None h = ap is_awaiting h
-reading_unawaited w (Some (need.Node p)) h = ap is_awaiting h
-reading_unawaited w (Some (need.Children p)) h = ap is_awaiting h
-reading_unawaited w (Some (need.Subtree p)) h = absurd h
-reading_unawaited w (Some need.All) h = absurd h
+reading_unawaited w (Some (fetch.Tree (need.Node p))) h = ap is_awaiting h
+reading_unawaited w (Some (fetch.Tree (need.Children p))) h = ap is_awaiting h
+reading_unawaited w (Some (fetch.Changes v)) h = ap is_awaiting h
+reading_unawaited w (Some (fetch.Tree (need.Subtree p))) h = absurd h
+reading_unawaited w (Some (fetch.Tree need.All)) h = absurd h
 
-reading_first : (w : Work) (o : Option Need) → IsReading w o → stage_of w ≡ 0
+reading_first : (w : Work) (o : Option Fetch) → IsReading w o → stage_of w ≡ 0
 reading_first w None h = ap stage_of h
-reading_first w (Some (need.Node p)) h = ap stage_of h
-reading_first w (Some (need.Children p)) h = ap stage_of h
-reading_first w (Some (need.Subtree p)) h = absurd h
-reading_first w (Some need.All) h = absurd h
+reading_first w (Some (fetch.Tree (need.Node p))) h = ap stage_of h
+reading_first w (Some (fetch.Tree (need.Children p))) h = ap stage_of h
+reading_first w (Some (fetch.Changes v)) h = ap stage_of h
+reading_first w (Some (fetch.Tree (need.Subtree p))) h = absurd h
+reading_first w (Some (fetch.Tree need.All)) h = absurd h
 
 module _ (law : JcrLaw) (a b c : Shown) (run like now : SessionRun) (t : Turn) (old : Stands law a run) (reads : may_read run ≡ true) (looked : HasLooked law a b run like) where
   link_read : b.work ≡ Idle → Link a b

@@ -1,5 +1,6 @@
--- Between the turns of a session its base has moved for a refresh, or behind its commit.
+-- Between the turns of a session its base has moved for a refresh, an attach or a detach, or behind its commit.
 use Rattle.std.proofs.Common.{◌≡◌, inl, inr, ℕ, true, false, Some, refl, sym, ap, ◌∙◌}
+use Rattle.std.specs.Prelude.{slice_get}
 use mathlib.Core.Bool.{false≢true}
 use Rattle.oak_machine.specs.History.{Past}
 use Rattle.oak_machine.specs.Sessions.{has_left, has_login}
@@ -7,16 +8,27 @@ use Rattle.oak_port.specs.Ports.{Awaiting, Deciding, Detaching, Idle, Learning, 
 use Rattle.oak_commit.specs.declared.outcome.CommitEnd.{CommitEnd}
 use Rattle.oak_commit.specs.declared.outcome.CommitEnd.TheVariants as commit
 use Rattle.jcr_trans.specs.declared.command.Command.{Command}
+use Rattle.jcr_trans.specs.declared.command.Command.TheVariants as command
 use Rattle.jcr_law.specs.declared.law.JcrLaw.{JcrLaw}
 use Rattle.jcr_law.specs.Since.{is_unmoved}
 use Rattle.jcr_law.specs.State.{Call}
-use Rattle.jcr_session.specs.declared.next.Due.TheVariants as due
 use Rattle.jcr_session.specs.declared.run.Phase.{Phase}
 use Rattle.jcr_session.specs.declared.run.Phase.TheVariants as phase
 use Rattle.jcr_session.specs.declared.run.SessionRun.{SessionRun}
-use Rattle.jcr_session.specs.Standing.{HasCommitted, IsCommitting, MovesBase, Stands, StandsAt}
-use Rattle.jcr_session.proofs.Nexts.{allowed_due, next_due, only_refresh}
+use Rattle.jcr_session.specs.Standing.{HasCommitted, IsCommitting, MovesBase, Stands, StandsAt, due_by, due_for, is_move, is_moving}
+use Rattle.jcr_session.proofs.Lawful.{moving_due}
+use Rattle.jcr_session.proofs.Nexts.{due_at}
 use Rattle.jcr_session.proofs.Stages.{next_is}
+
+-- a command that is to move the base
+moves_its_base : (run : SessionRun) (m : Command) → slice_get run.commands run.index ≡ Some m → is_moving (due_for run) ≡ true → is_move m ≡ true
+moves_its_base run m next moves = by m (moving_due run.attached m (ap is_moving (sym (due_at run m next)) ∙ moves)).1
+  where
+    by : (m : Command) → is_moving (due_by m) ≡ true → is_move m ≡ true
+    by (command.Refresh keep) h = refl
+    by (command.Attach id) h = refl
+    by command.Detach h = refl
+    by m h = absurd (false≢true h)
 
 -- a commit under way
 still_there : (past : Past) (s : ℕ) (work : Work) → IsCommitting past s work → is_unmoved past s ≡ true
@@ -42,14 +54,13 @@ module _ (law : JcrLaw) (p : Shown) (run : SessionRun) (stands : Stands law p ru
   by_phase : (f : Phase) → StandsAt law p run f → MovesBase law p.history p.session
   by_phase phase.Outside h = absurd (false≢true (sym h.out ∙ login))
   by_phase phase.Between h = never h.1.unmoved
-  by_phase (phase.Refreshed v) h =
-      let m = next_due run due.Refresh h.1.refreshes refl in
-      let k = only_refresh m.0 (allowed_due m.0 due.Refresh m.2 refl).1 in
-      inl (k.0, next_is law p run stands ∙ (m.1 ∙ ap (λ (x : Command). Some x) k.1))
+  by_phase (phase.Moved v) h = inl (h.1.command, next_is law p run stands ∙ h.1.for.next, moves_its_base run h.1.command h.1.for.next h.1.moves)
+  by_phase phase.Detaching h =
+      inl (h.1.half.command, next_is law p run stands ∙ h.1.half.next, moves_its_base run h.1.half.command h.1.half.next (ap is_moving h.1.half.detaches))
   by_phase (phase.Committing a) h = never (still_there p.history.past p.session p.work h.1.commits)
   by_phase (phase.Committed e a) h = by_commit h.1.call e h.1.ended
-  by_phase (phase.Working e) h = never h.1.for.unmoved
-  by_phase (phase.Told t) h = never h.1.for.unmoved
+  by_phase (phase.Working e) h = never h.1.unmoved
+  by_phase (phase.Told t) h = never h.1.unmoved
   by_phase phase.Over h = absurd (false≢true (sym stays ∙ h.left))
 
   pub base_moves : MovesBase law p.history p.session

@@ -21,15 +21,16 @@ use Rattle.jcr_session.specs.declared.run.Phase.TheVariants as phase
 use Rattle.jcr_session.specs.declared.run.SessionRun.{SessionRun}
 use Rattle.jcr_session.specs.declared.turn.Turn.{Turn}
 use Rattle.jcr_session.specs.declared.turn.Turn.TheVariants as turn
-use Rattle.jcr_session.specs.declared.errand.Came.{Came}
-use Rattle.jcr_session.specs.declared.errand.Came.TheVariants as came
-use Rattle.jcr_session.specs.declared.errand.Errand.{Errand}
-use Rattle.jcr_session.specs.declared.errand.Told.{Told}
-use Rattle.jcr_session.specs.declared.errand.Told.TheVariants as told
-use Rattle.jcr_session.specs.Answered.{IsErrandAnswer, phase_by, phase_came, told_by, turn_by, turn_came}
+use Rattle.jcr_steps.specs.declared.errand.Came.{Came}
+use Rattle.jcr_steps.specs.declared.errand.Came.TheVariants as came
+use Rattle.jcr_steps.specs.declared.errand.Errand.{Errand}
+use Rattle.jcr_steps.specs.declared.errand.Told.{Told}
+use Rattle.jcr_steps.specs.declared.errand.Told.TheVariants as told
+use Rattle.jcr_steps.specs.Answered.{IsErrandAnswer, told_by}
+use Rattle.jcr_session.specs.Phases.{phase_by, phase_came, turn_by, turn_came}
 use Rattle.jcr_session.specs.Nearing.{ComesNearer, EndsOrStays, EndsSooner, IsReply, ReadsOn, StaysBehindStep, StepsOn, WorksSooner}
 use Rattle.jcr_session.specs.Nearing.{turns_left, stages_left}
-use Rattle.jcr_session.specs.Standing.{HasCounted, HasTurned, IsSame, Stands, is_committing, is_on_errand, is_working}
+use Rattle.jcr_session.specs.Standing.{HasCounted, HasTurned, IsSame, Stands, is_committing, is_detaching, is_on_errand, is_working}
 use Rattle.jcr_session.proofs.Nearing.{memory_sooner, sooner_by}
 
 -- ---- what is left
@@ -49,7 +50,8 @@ few_stages (phase.Committing a) = let lt : 2 < 5 = omega arith in lt
 few_stages (phase.Committed e a) = let lt : 1 < 5 = omega arith in lt
 few_stages (phase.Working e) = let lt : 2 < 5 = omega arith in lt
 few_stages (phase.Told t) = let lt : 1 < 5 = omega arith in lt
-few_stages (phase.Refreshed v) = let lt : 1 < 5 = omega arith in lt
+few_stages (phase.Moved v) = let lt : 1 < 5 = omega arith in lt
+few_stages phase.Detaching = let lt : 2 < 5 = omega arith in lt
 few_stages phase.Over = let lt : 0 < 5 = omega arith in lt
 
 same_replies : (run now : SessionRun) → now.commands ≡ run.commands → now.index ≡ run.index → length now.commands - now.index ≡ length run.commands - run.index
@@ -88,7 +90,8 @@ committing_less : (f : Phase) → is_committing f ≡ true → stages_left f < 3
 committing_less (phase.Committing a) h = let lt : 2 < 3 = omega arith in lt
 committing_less phase.Outside h = absurd (false≢true h)
 committing_less phase.Between h = absurd (false≢true h)
-committing_less (phase.Refreshed x) h = absurd (false≢true h)
+committing_less (phase.Moved x) h = absurd (false≢true h)
+committing_less phase.Detaching h = absurd (false≢true h)
 committing_less (phase.Committed e a) h = absurd (false≢true h)
 committing_less (phase.Working e) h = absurd (false≢true h)
 committing_less (phase.Told t) h = absurd (false≢true h)
@@ -125,6 +128,7 @@ module _ (run : SessionRun) (e : Errand) where
   errand_nears sooner (came.Learnt v) soon = inl (told_less (told.Learnt v))
   errand_nears sooner came.Set soon = inl (told_less (told_by came.Set e))
   errand_nears sooner came.Missed soon = inl (told_less (told_by came.Missed e))
+  errand_nears sooner came.Pinned soon = inl (told_less (told_by came.Pinned e))
   errand_nears sooner came.Refused soon = inl (told_less (told_by came.Refused e))
 
   pub nears_by : (sooner : Type 0) (x : Came) (now : SessionRun) (t : Turn) → now ≡ record run { phase = phase_came x e } → t ≡ turn_came x
@@ -166,7 +170,7 @@ pub worked_steps : (before later : ℕ) (p : Shown) (run now : SessionRun) (t : 
     (EndsSooner before later p) run now t → StepsOn (WorksSooner before later p run) (turns_left run) (turns_left now) t
 worked_steps before later p run now (turn.Stepped k) works (inl less) = inl less
 worked_steps before later p run now (turn.Stepped k) works (inr same) = inr
-    (ap turns_left same.0, (both (is_committing run.phase) works, same.1))
+    (ap turns_left same.0, (ap (λ (b : Bool). b || is_detaching run.phase) (both (is_committing run.phase) works), same.1))
   where
     both : (a : Bool) {b : Bool} → b ≡ true → (a || b) ≡ true
     both true h = refl

@@ -82,12 +82,20 @@ module _ (law : JcrLaw) (old new : Shown) (t : Task) (answer : StepOut) (nodes :
       alone = steps.alone;
     }
 
+    -- what is shown then
+    pub step_shown : new.history ≡ after steps.others old.history
+    step_shown = steps.grows.grown ∙ ap (λ (own : Past). after own (after steps.others old.history)) none
+
+    -- what the next command is run with, where it reads
+    pub step_called : (c : Call) → IsCalled law old c → call_of law old.history.begin (steps.others ++ old.history.past) old.session ≡ Some c
+    step_called c is =
+        subst (λ (n : ℕ). call_of law old.history.begin (steps.others ++ old.history.past) n ≡ Some c) steps.session
+        (subst (λ (h : History). call_of law h.begin h.past new.session ≡ Some c) step_shown (called_beside law old new step_beside nodes c is))
+
     -- the tree that it reads
     pub step_tree : (c : Call) → IsCalled law old c → tree_of old.history.begin (steps.others ++ old.history.past) old.session ≡ c.base
     step_tree c is =
-        tree_called law old.history.begin (steps.others ++ old.history.past) old.session c
-        (subst (λ (n : ℕ). call_of law old.history.begin (steps.others ++ old.history.past) n ≡ Some c) steps.session
-        (subst (λ (h : History). call_of law h.begin h.past new.session ≡ Some c) (steps.grows.grown ∙ ap (λ (own : Past). after own (after steps.others old.history)) none) (called_beside law old new step_beside nodes c is)))
+        tree_called law old.history.begin (steps.others ++ old.history.past) old.session c (step_called c is)
 
 -- ---- reading steps
 

@@ -1,5 +1,5 @@
 -- What was local to a cluster node when a command began, and what was published then, stays at most what is so later.
-use Rattle.std.proofs.Common.{◌≡◌, ℕ, Bool, true, false, cond, inl, inr, List, [], ◌∷◌, ◌++◌, refl, sym, ap, ◌∙◌, subst, arith}
+use Rattle.std.proofs.Common.{◌≡◌, ℕ, Bool, true, false, inl, inr, List, [], ◌∷◌, ◌++◌, refl, sym, ap, ◌∙◌, subst, arith}
 use Rattle.std.specs.Prelude.{◌==◌, ◌||◌, ◌&&◌}
 use Rattle.std.specs.List.{list_all, range_with_len}
 use Rattle.std.specs.Option.{option_map_or}
@@ -18,18 +18,9 @@ use Rattle.core_heads.proofs.Later.{published_is}
 use Rattle.core_heads.proofs.Learned.{IsAmong, among_range}
 use Rattle.core_heads.proofs.Orders.{and_both}
 use Rattle.core_heads.proofs.Runs.{earlier_run, later_run, sound_run}
-use Rattle.jcr_law.specs.Since.{before_turn, is_beginning}
+use Rattle.jcr_law.specs.Since.{before_turn}
 use Rattle.jcr_law.specs.Tasks.{knows_published}
-
--- a past is what came since the command began, on what lay behind then
-pub parted : (past : Past) (s : ℕ) → since past s ++ before_turn past s ≡ past
-parted [] s = refl
-parted (e ∷ past) s = by (is_beginning s e) (parted past s)
-  where
-    by : (b : Bool) → since past s ++ before_turn past s ≡ past → cond b [] (e ∷ since past s) ++ cond b (e ∷ past) (before_turn past s) ≡
-        e ∷ past
-    by true rest = refl
-    by false rest = ap (λ (p : Past). e ∷ p) rest
+use Rattle.core_calls.proofs.Unmoved.{parted}
 
 both_true : (a b : Bool) → a ≡ true → b ≡ true → (a && b) ≡ true
 both_true a b h k = ap (λ (x : Bool). x && b) h ∙ k

@@ -5,7 +5,6 @@ use Rattle.std.specs.List.{list_any}
 use mathlib.Core.Bool.{false≢true}
 use Rattle.jr_path.specs.Lists.{Text}
 use Rattle.jr_rev.specs.declared.revision.Revision.{Revision}
-use Rattle.jr_part.specs.declared.need.Need.{Need}
 use Rattle.oak_machine.specs.declared.event.Event.TheVariants as event
 use Rattle.oak_machine.specs.declared.event.StepKind.{StepKind}
 use Rattle.oak_machine.specs.History.{History, Past}
@@ -13,7 +12,7 @@ use Rattle.std.specs.Option.{option_map_or}
 use Rattle.oak_machine.specs.Commits.{is_committed}
 use Rattle.oak_machine.specs.Laws.{after}
 use Rattle.oak_machine.specs.Runs.{AreNodes, IsRun}
-use Rattle.oak_machine.specs.Sessions.{drawn_among, drawn_since, is_drawing, next_index, since}
+use Rattle.oak_machine.specs.Sessions.{drawn_among, drawn_since, is_attached, is_drawing, next_index, since}
 use Rattle.oak_port.specs.Ports.{Answers, HasRoom, Idle, OthersAlone, Shown, Work}
 use Rattle.jcr_trans.specs.declared.command.Command.{Command}
 use Rattle.core_heads.proofs.Passing.{among_same, next_more, next_stays}
@@ -26,19 +25,23 @@ use Rattle.jcr_law.specs.Calls.{call_after}
 use Rattle.jcr_held.specs.Holds.{Holds}
 use Rattle.core_calls.specs.Seeing.{SeesTrees, SeesTyped}
 use Rattle.core_calls.proofs.Called.{said_call}
-use Rattle.jcr_session.specs.declared.limits.TheConstants.{COMMIT_REPLY_BYTES, MOST_COMMANDS, VECTOR_REPLY_BYTES}
+use Rattle.jcr_steps.specs.declared.limits.TheConstants.{COMMIT_REPLY_BYTES, VECTOR_REPLY_BYTES}
+use Rattle.jcr_session.specs.declared.limits.TheConstants.{MOST_COMMANDS}
+use Rattle.jcr_session.specs.declared.read.Fetch.{Fetch}
 use Rattle.jcr_session.specs.declared.run.Phase.TheVariants as phase
 use Rattle.jcr_session.specs.declared.run.SessionRun.{SessionRun}
 use Rattle.jcr_session.specs.declared.turn.Turn.{Turn}
 use Rattle.jcr_session.specs.declared.turn.Turn.TheVariants as turn
 use Rattle.jcr_session.specs.Asked.{IsAsked, MayAnswer, MayForgo, has_drawn}
 use Rattle.jcr_session.specs.Nearing.{IsReply}
-use Rattle.jcr_session.specs.Standing.{HasCounted, IsBeside, IsBetween, IsFresh, IsIn, IsReading, IsSeenFor, IsTurned, is_writing, stage_at}
+use Rattle.jcr_session.specs.Standing.{HasCounted, HasCursor, IsBeside, IsBetween, IsFetchFor, IsFresh, IsIn, IsReading, IsSeenFor, IsTurned, KeepsCursor, is_writing, stage_at}
 use Rattle.jcr_session.proofs.Committing.{own}
+use Rattle.jcr_session.proofs.Cursors.{cursor_of_call, has_cursor_over}
 use Rattle.jcr_session.proofs.Nexts.{unwanted}
 use Rattle.jcr_session.proofs.Stages.{order_like}
 use Rattle.jcr_session.proofs.Turning.{has_turned_later, is_awaiting, kept, never_ends, started}
-use Rattle.jcr_session.proofs.Waiting.{all_beside, by_waits, called_beside, in_beside, next_beside, shown_beside, unmoved_beside}
+use Rattle.jcr_session.proofs.Waiting.{all_beside, attached_beside, by_waits, called_beside, has_cursor_beside, in_beside, next_beside}
+use Rattle.jcr_session.proofs.Waiting.{shown_beside, unmoved_beside}
 use Rattle.jcr_session.proofs.Waiting.{unpinned_beside}
 
 -- ---- before a reply
@@ -50,9 +53,9 @@ get_within (y ∷ xs) (suc i) x h = let r : i < length xs = get_within xs i x h 
 
 module _ (law : JcrLaw) (m : Command) (c : Call) where
   -- the session is asked for the same command, whatever it holds, and wherever it says that it stands
-  pub asked_like : (p : Shown) (a b : SessionRun) → b.session ≡ a.session → b.commands ≡ a.commands → b.index ≡ a.index → b.fetch ≡ a.fetch → IsAsked law p a m c → IsAsked law p b m c
-  asked_like p a b session commands index fetch asked = record {
-    inside = asked.inside;
+  pub asked_like : (p : Shown) (a b : SessionRun) → b.session ≡ a.session → b.commands ≡ a.commands → b.index ≡ a.index → b.fetch ≡ a.fetch → b.attached ≡ a.attached → IsAsked law p a m c → IsAsked law p b m c
+  asked_like p a b session commands index fetch attached asked = record {
+    inside = subst (λ (x : Bool). IsIn law p x) (sym attached) asked.inside;
     session = asked.session ∙ sym session;
     few = subst (λ (cs : List Command). length cs ≤ MOST_COMMANDS) (sym commands) asked.few;
     commands = λ i. ap (λ n. command_at law n i) session ∙ (asked.commands i ∙ ap (λ (cs : List Command). slice_get cs i) (sym commands));
@@ -91,18 +94,26 @@ module _ (law : JcrLaw) (m : Command) (c : Call) where
 -- ---- a reply is said
 
 module _ (law : JcrLaw) (old new : Shown) (run : SessionRun) (text : Text) (may : MayAnswer law old run text) where
+  -- the session as its command began
+  abbrev asking : SessionRun
+  asking = record run { attached = may.began }
+
   -- what may be answered may still be answered after events of others
   pub answer_waits : IsBeside law old new → new.work ≡ Idle → MayAnswer law new run text
   answer_waits beside idle = record {
+    began = may.began;
     command = may.command;
     call = may.call;
-    asked = asked_waits law may.command may.call old new run may.asked beside idle;
-    says = says_waits law may.command may.call old new run may.asked beside text may.says;
-    leaves = subst (λ (o : Option Revision). Holds (call_after (is_ok_text text) (is_some o) may.call may.command) run.held) (sym (drawn_waits law may.command may.call old new run may.asked beside)) may.leaves;
+    asked = asked_waits law may.command may.call old new asking may.asked beside idle;
+    says = says_waits law may.command may.call old new asking may.asked beside text may.says;
+    stands = attached_beside law old new beside may.asked.inside.nodes ∙ may.stands;
+    cursor = subst (λ (o : Option Revision). HasCursor new.history.past new.session (call_after (is_ok_text text) (is_some o) may.call may.command)) (sym (drawn_waits law may.command may.call old new asking may.asked beside))
+        (has_cursor_beside law old new beside may.asked.inside.nodes (call_after (is_ok_text text) (has_drawn old) may.call may.command) may.cursor);
+    leaves = subst (λ (o : Option Revision). Holds (call_after (is_ok_text text) (is_some o) may.call may.command) run.held) (sym (drawn_waits law may.command may.call old new asking may.asked beside)) may.leaves;
   }
 
   abbrev then_run : SessionRun
-  then_run = record run { index = run.index + 1; phase = phase.Between }
+  then_run = record run { index = run.index + 1; phase = phase.Between; changes = None }
 
   -- once it is said, the session stands before its next command
   pub answered_turns : Answers (starts_of law) (says_of law) old new run.index text → IsTurned law old new run then_run (turn.Said run.index)
@@ -167,24 +178,8 @@ module _ (law : JcrLaw) (old new : Shown) (run : SessionRun) (text : Text) (may 
       waited : IsBeside law old before_shown
       waited = record { others = done.others; grows = record { grown = refl; theirs = done.grows.theirs; run = whole.1 }; session = refl; beside = refl; alone = done.alone }
 
-      inside_before : IsIn law before_shown
+      inside_before : IsIn law before_shown may.began
       inside_before = in_beside law old before_shown waited may.asked.inside.nodes may.asked.inside
-
-      inside_said : IsIn law (record old { history = record old.history { past = said } })
-      inside_said = record {
-        nodes = inside_before.nodes;
-        trees = inside_before.trees;
-        typed = inside_before.typed;
-        run = whole;
-        login = inside_before.login;
-        stays = inside_before.stays;
-        detached = inside_before.detached;
-        unattached = subst (λ (p : Past). Rattle.oak_machine.specs.Sessions.is_attached p old.session ≡ false) (sym (ap (λ (b : Bool). cond (b || false) said (before_turn q old.session)) (own old.session))) inside_before.detached;
-      }
-
-      inside_now : IsIn law new
-      inside_now = let y = moved (λ h s. IsIn law (record old { history = h; session = s })) inside_said in
-          record { nodes = y.nodes; trees = y.trees; typed = y.typed; run = y.run; login = y.login; stays = y.stays; detached = y.detached; unattached = y.unattached }
 
       -- what the command after it is run with
       called_said : call_of law old.history.begin said old.session ≡ Some (call_after (is_ok_text text) (is_some (drawn_since q old.session)) may.call may.command)
@@ -193,7 +188,32 @@ module _ (law : JcrLaw) (old new : Shown) (run : SessionRun) (text : Text) (may 
           (ap (λ (s : ℕ). command_at law s run.index) may.asked.session ∙ (may.asked.commands run.index ∙ may.asked.next))
 
       drawn_same : drawn_since q old.session ≡ drawn_since old.history.past old.session
-      drawn_same = drawn_waits law may.command may.call old before_shown run may.asked waited
+      drawn_same = drawn_waits law may.command may.call old before_shown asking may.asked waited
+
+      stands_before : is_attached q old.session ≡ run.attached
+      stands_before = attached_beside law old before_shown waited may.asked.inside.nodes ∙ may.stands
+
+      cursor_said : KeepsCursor law (record old.history { past = said }) old.session
+      cursor_said = cursor_of_call law (record old.history { past = said }) old.session (call_after (is_ok_text text) (is_some (drawn_since q old.session)) may.call may.command) called_said
+          (λ unpinned. subst (λ (o : Option Revision). HasCursor said old.session (call_after (is_ok_text text) (is_some o) may.call may.command)) (sym drawn_same)
+          (has_cursor_over q said old.session (call_after (is_ok_text text) (has_drawn old) may.call may.command) refl
+          (has_cursor_beside law old before_shown waited may.asked.inside.nodes (call_after (is_ok_text text) (has_drawn old) may.call may.command) may.cursor)))
+
+      inside_said : IsIn law (record old { history = record old.history { past = said } }) run.attached
+      inside_said = record {
+        nodes = inside_before.nodes;
+        trees = inside_before.trees;
+        typed = inside_before.typed;
+        run = whole;
+        login = inside_before.login;
+        stays = inside_before.stays;
+        began = subst (λ (p : Past). is_attached p old.session ≡ run.attached) (sym (ap (λ (b : Bool). cond (b || false) said (before_turn q old.session)) (own old.session))) stands_before;
+        cursor = cursor_said;
+      }
+
+      inside_now : IsIn law new run.attached
+      inside_now = let y = moved (λ h s. IsIn law (record old { history = h; session = s }) run.attached) inside_said in
+          record { nodes = y.nodes; trees = y.trees; typed = y.typed; run = y.run; login = y.login; stays = y.stays; began = y.began; cursor = y.cursor }
 
       fresh_said : IsFresh said old.session
       fresh_said = record {
@@ -219,8 +239,10 @@ module _ (law : JcrLaw) (old new : Shown) (run : SessionRun) (text : Text) (may 
         unmoved = moved (λ h s. is_unmoved h.past s ≡ true) unmoved_said;
         unpinned = moved (λ h s. is_unpinned h.past s ≡ true) unpinned_said;
         fresh = moved (λ h s. IsFresh h.past s) fresh_said;
-        reads = subst (λ (o : Option Need). IsReading new.work o) (sym may.asked.unread) done.work;
+        reads = subst (λ (o : Option Fetch). IsReading new.work o) (sym may.asked.unread) done.work;
         due = λ some. absurd (false≢true (sym (ap is_some may.asked.unread) ∙ some));
+        for = subst (λ (o : Option Fetch). IsFetchFor then_run o) (sym may.asked.unread) tt;
+        changes = tt;
         wanted = unwanted (call_after (is_ok_text text) (has_drawn old) may.call may.command) then_run may.asked.unread;
       }
 
@@ -271,7 +293,7 @@ module _ (law : JcrLaw) (old : Shown) (run : SessionRun) (text : Text) (may : Ma
 -- ---- behind calls that left nothing being done
 
 -- a session that was idle and is so, behind events of others
-pub idle_later : (law : JcrLaw) (old mid new : Shown) (run now : SessionRun) (t : Turn) → IsIn law old → old.work ≡ Idle → mid.work ≡ Idle → IsBeside law old mid → HasCounted law mid new run now t → HasCounted law old new run now t
+pub idle_later : (law : JcrLaw) (old mid new : Shown) (run now : SessionRun) (t : Turn) → {attached : Bool} → IsIn law old attached → old.work ≡ Idle → mid.work ≡ Idle → IsBeside law old mid → HasCounted law mid new run now t → HasCounted law old new run now t
 idle_later law old mid new run now t inside was is beside turned =
     has_turned_later law old mid new run now t inside.nodes (started old mid (ap is_writing is) (ap is_awaiting is) was) beside
     (never_ends law mid new run now (in_beside law old mid beside inside.nodes inside)) turned

@@ -20,7 +20,7 @@ use Rattle.jcr_law.specs.declared.law.JcrLaw.{JcrLaw}
 use Rattle.jcr_law.specs.Makes.{commit_stages, commits, stages_of, steps_of}
 use Rattle.jcr_law.specs.State.{command_at}
 use Rattle.jcr_session.specs.declared.commit.Pledge.{Pledge}
-use Rattle.jcr_session.specs.declared.errand.Told.TheVariants as told
+use Rattle.jcr_steps.specs.declared.errand.Told.TheVariants as told
 use Rattle.jcr_session.specs.declared.run.Phase.{Phase}
 use Rattle.jcr_session.specs.declared.run.Phase.TheVariants as phase
 use Rattle.jcr_session.specs.declared.run.SessionRun.{SessionRun}
@@ -68,11 +68,13 @@ commit_steps m h = ap (λ (l : List (List StepKind)). l ++ (kind.Say ∷ []) ∷
 
 -- as many stages are behind, or more
 stage_later : (f : Phase) (w v : Work) → stage_of w ≤ stage_of v → stage_at f w ≤ stage_at f v
-stage_later (phase.Refreshed x) w v h = let le : 1 ≤ 1 = omega arith in le
+stage_later (phase.Moved x) w v h = let le : 1 ≤ 1 = omega arith in le
+stage_later phase.Detaching w v h = let le : 1 ≤ 1 = omega arith in le
 stage_later (phase.Committed e a) w v h = let le : 6 ≤ 6 = omega arith in le
 stage_later (phase.Working e) w v h = h
 stage_later (phase.Told (told.Learnt x)) w v h = let le : 2 ≤ 2 = omega arith in le
 stage_later (phase.Told (told.Published r)) w v h = let le : 1 ≤ 1 = omega arith in le
+stage_later (phase.Told (told.Observed f)) w v h = let le : 1 ≤ 1 = omega arith in le
 stage_later (phase.Told told.Done) w v h = let le : 1 ≤ 1 = omega arith in le
 stage_later (phase.Told (told.Text text)) w v h = let le : 1 ≤ 1 = omega arith in le
 stage_later phase.Outside w v h = h

@@ -1,37 +1,43 @@
 -- A session stands where it stood while others make their steps; and a new one stands before its login.
-use Rattle.std.proofs.Common.{◌≡◌, ℕ, ◌≤◌, true, false, Some, Option, List, [], ◌∷◌, ◌++◌, length, refl, sym, ap, ◌∙◌, subst, arith}
+use Rattle.std.proofs.Common.{◌≡◌, ℕ, ◌≤◌, Bool, true, false, Option, List, [], ◌∷◌, ◌++◌, length, refl, sym, ap, ◌∙◌, subst, arith}
 use Rattle.std.specs.Prelude.{slice_get}
 use Rattle.std.specs.List.{list_any}
-use Rattle.oak_machine.specs.History.{History, Past}
+use Rattle.oak_machine.specs.History.{Past}
 use Rattle.oak_machine.specs.Laws.{is_event_of}
 use Rattle.oak_machine.specs.Runs.{AreNodes, IsRun}
-use Rattle.oak_machine.specs.Sessions.{has_left, has_login, is_drawing, is_end_of_session, next_index, refreshed_since}
+use Rattle.oak_machine.specs.Sessions.{has_left, has_login, is_drawing, is_end_of_session, next_index}
 use Rattle.oak_machine.proofs.Stays.{any_later}
 use Rattle.oak_port.specs.Ports.{HasRoom, Idle, Shown, OthersAlone, Work}
 use Rattle.jcr_trans.specs.declared.command.Command.{Command}
 use Rattle.core_heads.proofs.Passing.{idle_stays, next_stays}
 use Rattle.jcr_law.specs.declared.law.JcrLaw.{JcrLaw}
-use Rattle.jcr_law.specs.Lasting.{says_last, says_of, starts_of}
-use Rattle.jcr_law.specs.Law.{SaysBy}
+use Rattle.jcr_trans.specs.Answers.{ShowsVector}
+use Rattle.jcr_trans.specs.Texts.{answer_text}
+use Rattle.jcr_law.specs.Calls.{call_after}
+use Rattle.jcr_law.specs.Lasting.{says_of, starts_of}
 use Rattle.jcr_law.specs.Since.{draw_since}
-use Rattle.jcr_law.specs.State.{Call, command_at}
+use Rattle.jcr_law.specs.State.{Call, command_at, is_ok_text}
 use Rattle.core_calls.specs.Seeing.{SeesTrees, SeesTyped}
-use Rattle.jcr_session.specs.declared.limits.TheConstants.{MOST_COMMANDS, VECTOR_REPLY_BYTES}
+use Rattle.jcr_session.specs.declared.limits.TheConstants.{MOST_COMMANDS}
+use Rattle.jcr_steps.specs.declared.limits.TheConstants.{VECTOR_REPLY_BYTES}
 use Rattle.jcr_session.specs.declared.commit.Pledge.{Pledge}
 use Rattle.jcr_session.specs.declared.run.Phase.{Phase}
 use Rattle.jcr_session.specs.declared.run.Phase.TheVariants as phase
 use Rattle.jcr_session.specs.declared.run.SessionRun.{SessionRun}
-use Rattle.jcr_session.specs.Standing.{HasPlace, IsBeside, IsCommitting, IsFor, IsIn, IsNew, IsOutside, IsPlace, IsReading, IsWorkFor}
-use Rattle.jcr_session.specs.Standing.{Stands, StandsAt, kept_for, kept_of, reply_of}
-use Rattle.jcr_session.proofs.Waiting.{all_beside, by_waits, called_beside, committed_beside, committing_beside, errand_beside}
-use Rattle.jcr_session.proofs.Waiting.{fresh_beside, in_beside, login_stays, next_beside, nodes_beside, shown_beside, unmoved_beside}
-use Rattle.jcr_session.proofs.Waiting.{unpinned_beside, work_beside}
+use Rattle.jcr_steps.specs.Kept.{HasPlace}
+use Rattle.jcr_session.specs.Standing.{IsBeside, IsCommitting, IsFor, IsIn, IsNew, IsOutside, IsPlace, IsReading, IsWorkFor}
+use Rattle.jcr_session.specs.Standing.{Stands, StandsAt}
+use Rattle.jcr_steps.specs.Kept.{kept_for, kept_of, reply_of}
+use Rattle.jcr_session.proofs.Since.{kept_beside, since_beside}
+use Rattle.jcr_session.proofs.Waiting.{all_beside, attached_beside, by_waits, called_beside, command_beside, committed_beside, committing_beside}
+use Rattle.jcr_session.proofs.Waiting.{fresh_beside, half_beside, has_cursor_beside, in_beside, login_stays, next_beside, nodes_beside}
+use Rattle.jcr_session.proofs.Waiting.{says_beside, shown_beside, unmoved_beside, unpinned_beside, work_beside}
 
 module _ (law : JcrLaw) (p q : Shown) (run : SessionRun) (stands : Stands law p run) (beside : IsBeside law p q) (work : q.work ≡ p.work) (room : q.room ≡ p.room) where
   abbrev added : Past
   added = beside.others
 
-  in_now : IsIn law p → IsIn law q
+  in_now : {attached : Bool} → IsIn law p attached → IsIn law q attached
   in_now = in_beside law p q beside stands.nodes
 
   for_now : (c : Call) (a : Pledge) → IsFor p run c a → IsFor q run c a
@@ -54,7 +60,9 @@ module _ (law : JcrLaw) (p q : Shown) (run : SessionRun) (stands : Stands law p 
     first = h.first;
     out = shown_beside law p q beside (λ h n. has_login h.past n ≡ false) (login_stays (added ++ p.history.past) added p.history.past p.session beside.grows.theirs h.out);
     unread = h.unread;
+    unlisted = h.unlisted;
     holds = h.holds;
+    detached = h.detached;
     still = shown_beside law p q beside (λ h n. is_drawing h.past n ≡ false) (idle_stays (added ++ p.history.past) added p.history.past p.session beside.grows.theirs h.still);
   }
   at_now phase.Between h = (
@@ -68,22 +76,32 @@ module _ (law : JcrLaw) (p q : Shown) (run : SessionRun) (stands : Stands law p 
       fresh = fresh_beside law p q beside stands.nodes h.1.fresh;
       reads = subst (λ (w : Work). IsReading w run.fetch) (sym work) h.1.reads;
       due = h.1.due;
+      for = h.1.for;
       wanted = h.1.wanted;
+      changes = since_beside law p q beside stands.nodes h.1.call h.1.is run.changes h.1.changes;
     },
   )
-  at_now (phase.Refreshed v) h = (
+  at_now (phase.Moved v) h = (
     in_now h.0,
     record {
+      idle = work ∙ h.1.idle;
+      command = h.1.command;
+      call = h.1.call;
+      for = command_beside law p q beside stands.nodes run h.1.command h.1.call h.1.for;
+      moves = h.1.moves;
+      unpinned = unpinned_beside law p q beside stands.nodes h.1.unpinned;
+      stands = attached_beside law p q beside stands.nodes ∙ h.1.stands;
+      says = says_beside law p q beside stands.nodes stands.run_is run.index (answer_text (ShowsVector v)) h.1.says;
       eight = h.1.eight;
       place = subst (λ (x : Option ℕ). HasRoom x VECTOR_REPLY_BYTES) (sym room) h.1.place;
-      idle = work ∙ h.1.idle;
-      unread = h.1.unread;
-      refreshes = h.1.refreshes;
-      moved = shown_beside law p q beside (λ h n. refreshed_since h.past n ≡ Some v) ((all_beside law p q beside stands.nodes).refreshed ∙ h.1.moved);
-      fresh = fresh_beside law p q beside stands.nodes h.1.fresh;
-      call = h.1.call;
-      is = called_beside law p q beside stands.nodes h.1.call h.1.is;
-      holds = h.1.holds;
+    },
+  )
+  at_now phase.Detaching h = (
+    in_now h.0,
+    record {
+      vector = h.1.vector;
+      works = work ∙ h.1.works;
+      half = half_beside law p q beside stands.nodes run h.1.vector room h.1.half;
     },
   )
   at_now (phase.Committing a) h = (
@@ -111,10 +129,13 @@ module _ (law : JcrLaw) (p q : Shown) (run : SessionRun) (stands : Stands law p 
     record {
       command = h.1.command;
       call = h.1.call;
-      for = errand_beside law p q beside stands.nodes run h.1.command h.1.call h.1.for;
+      for = command_beside law p q beside stands.nodes run h.1.command h.1.call h.1.for;
+      errands = h.1.errands;
+      unmoved = unmoved_beside law p q beside stands.nodes h.1.unmoved;
+      unpinned = unpinned_beside law p q beside stands.nodes h.1.unpinned;
       works = subst (λ (w : Work). IsWorkFor q.history q.session h.1.call h.1.command w) (sym work)
           (work_beside law p q beside stands.nodes h.1.call h.1.command p.work h.1.works);
-      kept = h.1.kept;
+      kept = kept_beside law p q beside stands.nodes h.1.call h.1.for.is h.1.command e h.1.kept;
       place = subst (λ (x : Option ℕ). HasPlace x (kept_for e)) (sym room) h.1.place;
     },
   )
@@ -124,11 +145,12 @@ module _ (law : JcrLaw) (p q : Shown) (run : SessionRun) (stands : Stands law p 
       idle = work ∙ h.1.idle;
       command = h.1.command;
       call = h.1.call;
-      for = errand_beside law p q beside stands.nodes run h.1.command h.1.call h.1.for;
-      says = shown_beside law p q beside (λ h n. SaysBy law h n run.index (reply_of t))
-          (says_last law p.history beside.others p.session run.index (reply_of t) stands.nodes stands.run_is
-          (subst (λ (h : History). IsRun (starts_of law) (says_of law) h) beside.grows.grown beside.grows.run) beside.grows.theirs
-          h.1.says);
+      for = command_beside law p q beside stands.nodes run h.1.command h.1.call h.1.for;
+      tells = h.1.tells;
+      unmoved = unmoved_beside law p q beside stands.nodes h.1.unmoved;
+      says = says_beside law p q beside stands.nodes stands.run_is run.index (reply_of t) h.1.says;
+      by = h.1.by;
+      cursor = has_cursor_beside law p q beside stands.nodes (call_after (is_ok_text (reply_of t)) false h.1.call h.1.command) h.1.cursor;
       place = subst (λ (x : Option ℕ). HasPlace x (kept_of t)) (sym room) h.1.place;
       eight = h.1.eight;
     },
@@ -181,7 +203,9 @@ stands_between law p q run stands beside work between = record {
         fresh = fresh_beside law p q beside stands.nodes h.1.fresh;
         reads = subst (λ (w : Work). IsReading w run.fetch) (sym work) h.1.reads;
         due = h.1.due;
+        for = h.1.for;
         wanted = h.1.wanted;
+        changes = since_beside law p q beside stands.nodes h.1.call h.1.is run.changes h.1.changes;
       },
     )
 
@@ -210,6 +234,8 @@ module _ (law : JcrLaw) (p : Shown) (session : ℕ) (commands : List Command) (r
     first = new.first;
     out = from_nothing (λ (w : Past). has_login w session ≡ false) (login_stays past past [] session none refl);
     unread = new.unread;
+    unlisted = new.unlisted;
+    detached = new.detached;
     holds = record { nothing = new.holds.nothing; session_is = new.holds.session_is ∙ sym new.session_is; earlier_is = new.holds.earlier_is; types_are = new.holds.types_are };
     still = from_nothing (λ (w : Past). is_drawing w session ≡ false) (idle_stays past past [] session none refl);
   }

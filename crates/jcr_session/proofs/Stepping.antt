@@ -29,6 +29,7 @@ use Rattle.jcr_law.specs.Lasting.{says_of, starts_of}
 use Rattle.jcr_law.specs.Makes.{commit_stages}
 use Rattle.jcr_law.specs.Since.{before_turn, draw_since}
 use Rattle.jcr_law.specs.State.{Call, call_of}
+use Rattle.jcr_held.specs.declared.held.Held.{Held}
 use Rattle.core_calls.specs.Seeing.{SeesTrees, SeesTyped}
 use Rattle.core_calls.proofs.Called.{call_stays, refresh_call}
 use Rattle.jcr_session.specs.declared.commit.Pledge.{Pledge}
@@ -37,8 +38,10 @@ use Rattle.jcr_session.specs.declared.run.Phase.TheVariants as phase
 use Rattle.jcr_session.specs.declared.run.SessionRun.{SessionRun}
 use Rattle.jcr_session.specs.declared.turn.Turn.{Turn}
 use Rattle.jcr_session.specs.declared.turn.Turn.TheVariants as turn
-use Rattle.jcr_session.specs.Answered.{kind_of_end, phase_by, turn_by}
-use Rattle.jcr_session.specs.Standing.{HasAwaited, HasCommitted, HasDrawnFor, HasCounted, IsBeside, IsCalled, IsCommitting, IsFor, IsIn, IsInCommit, IsInOrder, IsMade, IsMadeFor, IsPlace, IsSeenFor, IsStep, IsToldEnd, IsTurned, Stands, StandsAt, Tells, is_writing, stage_at, stage_of}
+use Rattle.jcr_steps.specs.Answered.{kind_of_end}
+use Rattle.jcr_session.specs.Phases.{phase_by, turn_by}
+use Rattle.jcr_session.specs.Standing.{HasAwaited, HasCommitted, HasDrawnFor, HasCounted, IsBeside, IsCalled, IsCommitting, IsFor, IsIn, IsInCommit, IsInOrder, IsMade, IsMadeFor, IsPlace, IsSeenFor, IsStep, IsToldEnd, IsTurned, KeepsCursor, Stands, StandsAt, Tells, is_writing, stage_at, stage_of}
+use Rattle.jcr_session.proofs.Cursors.{cursor_moved, has_cursor_over}
 use Rattle.jcr_session.proofs.Committing.{clash_end, committing_finish, committing_undo, committing_write, own, still_moved, unmade_end}
 use Rattle.jcr_session.proofs.Drawing.{commit_commits}
 use Rattle.jcr_session.proofs.Reading.{tree_called}
@@ -48,7 +51,7 @@ use Rattle.jcr_session.proofs.Waiting.{all_same, call_still, committing_still, i
 
 -- ---- a step
 
-module _ (law : JcrLaw) (old new : Shown) (answer : StepOut) (run : SessionRun) (stands : Stands law old run) (inside : IsIn law old) (steps : Steps (starts_of law) (says_of law) old new answer) where
+module _ (law : JcrLaw) (old new : Shown) (answer : StepOut) (run : SessionRun) (stands : Stands law old run) (inside : IsIn law old run.attached) (steps : Steps (starts_of law) (says_of law) old new answer) where
   abbrev moment : History
   moment = after steps.others old.history
 
@@ -62,7 +65,7 @@ module _ (law : JcrLaw) (old new : Shown) (answer : StepOut) (run : SessionRun) 
       dropped [] h run = run
       dropped (e ∷ own) h run = dropped own h run.1
 
-  pub inside_moment : IsIn law (record old { history = moment })
+  pub inside_moment : IsIn law (record old { history = moment }) run.attached
   inside_moment = in_beside law old (record old { history = moment }) (record { others = steps.others; grows = record { grown = refl; theirs = steps.grows.theirs; run = run_moment }; session = refl; beside = refl; alone = steps.alone }) inside.nodes inside
 
   -- what holds of the history after the step holds of what is shown
@@ -72,7 +75,15 @@ module _ (law : JcrLaw) (old new : Shown) (answer : StepOut) (run : SessionRun) 
   login_then : has_login (steps.own ++ moment.past) old.session ≡ true
   login_then = any_later (is_login_of old.session) steps.own moment.past inside_moment.login
 
-  pub inside_quiet : IsQuiet old.session steps.own → IsIn law new
+  -- the cursor stands where it stood
+  cursor_quiet : IsQuiet old.session steps.own → KeepsCursor law (after steps.own moment) old.session
+  cursor_quiet quiet c is unpinned =
+      has_cursor_over moment.past (steps.own ++ moment.past) old.session c (quiet.cursor moment.past unpinned)
+      (inside_moment.cursor c
+      (sym (call_stays law old.history.begin (starts_of law) (says_of law) old.history.clusters old.history.sessions inside.nodes steps.own moment.past old.session run_new quiet.calls) ∙ is)
+      (quiet.pins moment.past unpinned))
+
+  pub inside_quiet : IsQuiet old.session steps.own → IsIn law new run.attached
   inside_quiet quiet = record {
     nodes = moved (λ h s. AreNodes h.clusters h.sessions) inside.nodes;
     trees = moved (λ h s. SeesTrees law h.clusters h.sessions h.begin) inside.trees;
@@ -80,12 +91,12 @@ module _ (law : JcrLaw) (old new : Shown) (answer : StepOut) (run : SessionRun) 
     run = steps.grows.run;
     login = moved (λ h s. has_login h.past s ≡ true) login_then;
     stays = moved (λ h s. has_left h.past s ≡ false) (quiet.left moment.past ∙ inside_moment.stays);
-    detached = moved (λ h s. is_attached h.past s ≡ false) (quiet.attached moment.past ∙ inside_moment.detached);
-    unattached = moved (λ h s. is_attached (before_turn h.past s) s ≡ false) (ap (λ (p : Past). is_attached p old.session) (quiet.begins moment.past) ∙ inside_moment.unattached);
+    began = moved (λ h s. is_attached (before_turn h.past s) s ≡ run.attached) (ap (λ (p : Past). is_attached p old.session) (quiet.begins moment.past) ∙ inside_moment.began);
+    cursor = moved (λ h s. KeepsCursor law h s) (cursor_quiet quiet);
   }
 
-  stands_quiet : (f : Phase) → next_index (steps.own ++ moment.past) old.session ≡ next_index moment.past old.session → StandsAt law new (record run { phase = f }) f → Stands law new (record run { phase = f })
-  stands_quiet f next at = record {
+  stands_with : (held : Held) (f : Phase) → next_index (steps.own ++ moment.past) old.session ≡ next_index moment.past old.session → StandsAt law new (record run { held = held; phase = f }) f → Stands law new (record run { held = held; phase = f })
+  stands_with held f next at = record {
     nodes = moved (λ h s. AreNodes h.clusters h.sessions) inside.nodes;
     trees = moved (λ h s. SeesTrees law h.clusters h.sessions h.begin) inside.trees;
     typed = moved (λ h s. SeesTyped law h.clusters h.sessions h.begin) inside.typed;
@@ -100,11 +111,21 @@ module _ (law : JcrLaw) (old new : Shown) (answer : StepOut) (run : SessionRun) 
     at = at;
   }
 
+  stands_quiet : (f : Phase) → next_index (steps.own ++ moment.past) old.session ≡ next_index moment.past old.session → StandsAt law new (record run { phase = f }) f → Stands law new (record run { phase = f })
+  stands_quiet f next at = stands_with run.held f next at
+
+  -- the step is a turn, behind which this is held
+  pub turned_with : (held : Held) (f : Phase) (t : Turn) → Tells moment old.session run.index t steps.own → IsMade moment old new
+      (record run { held = held; phase = f }) steps.own t → IsInOrder law old new run (record run { held = held; phase = f }) t → next_index
+      (steps.own ++ moment.past) old.session ≡ next_index moment.past old.session → StandsAt law new (record run { held = held; phase = f }) f
+      → IsTurned law old new run (record run { held = held; phase = f }) t
+  turned_with held f t tells made order next at = record { others = steps.others; own = steps.own; grows = steps.grows; beside = steps.beside; alone = steps.alone; tells = tells; made = made; in_order = order; same = (refl, refl); stands = stands_with held f next at }
+
   pub turned_quiet : (f : Phase) (t : Turn) → Tells moment old.session run.index t steps.own → IsMade moment old new
       (record run { phase = f }) steps.own t → IsInOrder law old new run (record run { phase = f }) t → next_index
       (steps.own ++ moment.past) old.session ≡ next_index moment.past old.session → StandsAt law new (record run { phase = f }) f
       → IsTurned law old new run (record run { phase = f }) t
-  turned_quiet f t tells made order next at = record { others = steps.others; own = steps.own; grows = steps.grows; beside = steps.beside; alone = steps.alone; tells = tells; made = made; in_order = order; same = (refl, refl); stands = stands_quiet f next at }
+  turned_quiet f t tells made order next at = turned_with run.held f t tells made order next at
 
   -- ---- a step of a commit
 
@@ -184,7 +205,7 @@ module _ (law : JcrLaw) (old new : Shown) (answer : StepOut) (run : SessionRun) 
       },
     )
 
-    has_ended : (e : CommitEnd) → new.work ≡ Idle → IsIn law new → draw_since (steps.own ++ moment.past) old.session ≡ draw_since moment.past old.session → HasCommitted law new c e → StandsAt law new (record run { phase = phase.Committed e a }) (phase.Committed e a)
+    has_ended : (e : CommitEnd) → new.work ≡ Idle → IsIn law new run.attached → draw_since (steps.own ++ moment.past) old.session ≡ draw_since moment.past old.session → HasCommitted law new c e → StandsAt law new (record run { phase = phase.Committed e a }) (phase.Committed e a)
     has_ended e idle now same committed = (
       now,
       record { idle = idle; unread = at_commit.unread; call = c; for = for_now (phase.Committed e a) same; ended = committed },
@@ -216,7 +237,7 @@ module _ (law : JcrLaw) (old new : Shown) (answer : StepOut) (run : SessionRun) 
       moved_by F x = moved F (subst (λ (p : Past). F (after p moment) old.session) (sym same) x)
 
       -- the session is in
-      inside_moved : IsIn law new
+      inside_moved : IsIn law new run.attached
       inside_moved = record {
         nodes = moved (λ h s. AreNodes h.clusters h.sessions) inside.nodes;
         trees = moved (λ h s. SeesTrees law h.clusters h.sessions h.begin) inside.trees;
@@ -224,13 +245,17 @@ module _ (law : JcrLaw) (old new : Shown) (answer : StepOut) (run : SessionRun) 
         run = steps.grows.run;
         login = moved (λ h s. has_login h.past s ≡ true) login_then;
         stays = moved_by (λ h s. has_left h.past s ≡ false) inside_moment.stays;
-        detached = moved_by (λ h s. is_attached h.past s ≡ false) (ap (λ b. cond b false (is_attached moment.past old.session)) (own old.session));
-        unattached = moved_by (λ h s. is_attached (before_turn h.past s) s ≡ false) inside_moment.unattached;
+        began = moved_by (λ h s. is_attached (before_turn h.past s) s ≡ run.attached) inside_moment.began;
+        cursor = moved_by (λ h s. KeepsCursor law h s)
+            (cursor_moved law moment (record old.history { past = refreshed }) old.session c v (tree_at old.history.begin moment.past v) called_moment
+            (refresh_call law old.history.begin moment.past old.session v c called_moment) refl (λ h. h) inside_moment.cursor);
       }
 
       -- the commit was made, and is seen
       done : (r : Revision) → IsCommitting moment.past old.session (Awaiting r) → sees v r ≡ true → HasCommitted law new c (commit.Committed r)
       done r (has, at, end) seen = moved_by (λ h s. IsMadeFor law h s c r) record {
+        unpinned = has.unpinned;
+        detached = ap (λ b. cond b false (is_attached moment.past old.session)) (own old.session);
         made = has.made;
         revision = has.revision;
         draw = has.draw;
@@ -278,7 +303,7 @@ module _ (law : JcrLaw) (old new : Shown) (answer : StepOut) (run : SessionRun) 
     step_by (Writing r) out.Memory at committing m told = tt
     step_by (Writing r) x at committing m told = absurd m
     step_by (Undoing r e) (out.Went k) at committing (is, mine, work) told =
-        let quiet = quiet_by old.session steps.own (event.Went old.session kind.Undo ∷ []) mine record { left = λ q. refl; next = λ q. refl; attached = λ q. refl; begins = λ q. refl; calls = refl; draws = λ q. refl } in
+        let quiet = quiet_by old.session steps.own (event.Went old.session kind.Undo ∷ []) mine record { left = λ q. refl; next = λ q. refl; attached = λ q. refl; begins = λ q. refl; calls = refl; draws = λ q. refl; pins = λ q h. h; cursor = λ q h. refl } in
         turned_quiet (phase.Committing a) (turn.Stepped k) (told, inl (event.Went old.session kind.Undo, mine, refl))
         (made_by (Undoing r e) at tt (λ still. subst (λ (p : Past). is_by_due None p ≡ true) (sym mine) refl) (subst (λ (p : Past). HasAwaited moment.past p new.work) (sym mine) tt))
         (ordered (phase.Committing a) k (Undoing r e) (Undoing r e) 3 (kind.Undo ∷ []) at work refl (subst (λ (x : StepKind). list_any (is_kind x) (kind.Undo ∷ []) ≡ true) (sym is) refl) (let le : 3 ≤ 3 = omega arith in le) (let le : 3 ≤ 3 = omega arith in le))
@@ -301,7 +326,7 @@ module _ (law : JcrLaw) (old new : Shown) (answer : StepOut) (run : SessionRun) 
         (quiet.next moment.past) (goes_on quiet (committing_finish moment.past old.session r steps.own new.work (still (Deciding r) committing) finish work))
     step_by (Deciding r) x at committing m told = absurd m
     step_by (Awaiting r) (out.Wait q) at committing (mine, work, unseen, held) told =
-        let quiet = quiet_by old.session steps.own [] mine record { left = λ q. refl; next = λ q. refl; attached = λ q. refl; begins = λ q. refl; calls = refl; draws = λ q. refl } in
+        let quiet = quiet_by old.session steps.own [] mine record { left = λ q. refl; next = λ q. refl; attached = λ q. refl; begins = λ q. refl; calls = refl; draws = λ q. refl; pins = λ q h. h; cursor = λ q h. refl } in
         let now = still (Awaiting r) committing in
         turned_quiet (phase.Committing a) (turn.Waiting q) mine (r, at, work, record { theirs = now.0.theirs; committed = now.1; ended = now.2; unseen = unseen }, held) tt (quiet.next moment.past)
         (goes_on quiet (subst (λ (w : Work). IsCommitting (steps.own ++ moment.past) old.session w) (sym work)
@@ -344,7 +369,7 @@ module _ (law : JcrLaw) (old new : Shown) (answer : StepOut) (run : SessionRun) 
 
     refused_by : (work : Work) → IsCommitting old.history.past old.session work → Makes moment old.session work out.Memory steps.own new.work → IsRefusedStep work
     refused_by (Writing r) committing (mine, work) =
-        let quiet = quiet_by old.session steps.own [] mine record { left = λ q. refl; next = λ q. refl; attached = λ q. refl; begins = λ q. refl; calls = refl; draws = λ q. refl } in record {
+        let quiet = quiet_by old.session steps.own [] mine record { left = λ q. refl; next = λ q. refl; attached = λ q. refl; begins = λ q. refl; calls = refl; draws = λ q. refl; pins = λ q h. h; cursor = λ q h. refl } in record {
           still_stands = stands_quiet (phase.Committing a) (quiet.next moment.past)
               (goes_on quiet (subst (λ (w : Work). IsCommitting (steps.own ++ moment.past) old.session w) (sym work)
               (subst (λ (e : Past). IsCommitting (e ++ moment.past) old.session (Undoing r commit.Memory)) (sym mine)
@@ -375,7 +400,7 @@ module _ (law : JcrLaw) (old new : Shown) (answer : StepOut) (run : SessionRun) 
           free r.undoing r.waitless r.unawaited r.further,
         )
 
-pub inside_commit : (law : JcrLaw) (p : Shown) (run : SessionRun) (a : Pledge) → Stands law p run → run.phase ≡ phase.Committing a → IsIn law p
+pub inside_commit : (law : JcrLaw) (p : Shown) (run : SessionRun) (a : Pledge) → Stands law p run → run.phase ≡ phase.Committing a → IsIn law p run.attached
 inside_commit law p run a stands commits = (subst (λ (f : Phase). StandsAt law p run f) commits stands.at).0
 
 -- one step of a commit is its turn

@@ -11,12 +11,12 @@ use Rattle.oak_machine.specs.History.{History, Past}
 use Rattle.oak_machine.specs.Commits.{is_committed}
 use Rattle.oak_machine.specs.Laws.{AreOthers, after}
 use Rattle.oak_machine.specs.Runs.{AreNodes, IsRun}
-use Rattle.oak_machine.specs.Sessions.{has_left, is_attached, next_index}
+use Rattle.oak_machine.specs.Sessions.{cursor_at, has_left, is_attached, next_index}
 use Rattle.oak_port.specs.Ports.{Awaiting, Beside, Deciding, Detaching, Idle, IsFinish, Learning, Publishing, Seat, Shown, Starting}
 use Rattle.oak_port.specs.Ports.{Undoing, Work, Writing, WritesOn, is_by_due}
 use Rattle.jcr_law.specs.declared.law.JcrLaw.{JcrLaw}
 use Rattle.jcr_law.specs.Lasting.{says_of, starts_of}
-use Rattle.jcr_law.specs.Since.{before_turn, draw_since}
+use Rattle.jcr_law.specs.Since.{before_turn, draw_since, is_unpinned}
 use Rattle.core_calls.specs.Events.{is_calling}
 use Rattle.jcr_session.specs.declared.run.SessionRun.{SessionRun}
 use Rattle.jcr_session.specs.declared.turn.Turn.{Turn}
@@ -174,19 +174,21 @@ pub record IsQuiet (s : ℕ) (e : Past) : Type 0 where
   pub begins : (q : Past) → before_turn (e ++ q) s ≡ before_turn q s
   pub calls : list_any (is_calling s) e ≡ false
   pub draws : (q : Past) → draw_since (e ++ q) s ≡ draw_since q s
+  pub pins : (q : Past) → is_unpinned (e ++ q) s ≡ true → is_unpinned q s ≡ true
+  pub cursor : (q : Past) → is_unpinned (e ++ q) s ≡ true → cursor_at (e ++ q) s ≡ cursor_at q s
 
 pub quiet_by : (s : ℕ) (e f : Past) → e ≡ f → IsQuiet s f → IsQuiet s e
 quiet_by s e f same quiet = subst (λ (p : Past). IsQuiet s p) (sym same) quiet
 
 pub quiet_finish : (s : ℕ) (r : Revision) (e : Past) → IsFinish r e → IsQuiet s e
-quiet_finish s r e (inl same) = quiet_by s e (event.End r ∷ []) same record { left = λ q. refl; next = λ q. refl; attached = λ q. refl; begins = λ q. refl; calls = refl; draws = λ q. refl }
-quiet_finish s r e (inr (k, v, same)) = quiet_by s e (event.Head k v ∷ event.End r ∷ []) same record { left = λ q. refl; next = λ q. refl; attached = λ q. refl; begins = λ q. refl; calls = refl; draws = λ q. refl }
+quiet_finish s r e (inl same) = quiet_by s e (event.End r ∷ []) same record { left = λ q. refl; next = λ q. refl; attached = λ q. refl; begins = λ q. refl; calls = refl; draws = λ q. refl; pins = λ q h. h; cursor = λ q h. refl }
+quiet_finish s r e (inr (k, v, same)) = quiet_by s e (event.Head k v ∷ event.End r ∷ []) same record { left = λ q. refl; next = λ q. refl; attached = λ q. refl; begins = λ q. refl; calls = refl; draws = λ q. refl; pins = λ q h. h; cursor = λ q h. refl }
 
 pub quiet_write : (s : ℕ) (r : Revision) (k : StepKind) (e : Past) (now : Work) → WritesOn s r k e now → IsQuiet s e
-quiet_write s r k e now (inl (a, same, work)) = quiet_by s e (event.Went s kind.Write ∷ []) same record { left = λ q. refl; next = λ q. refl; attached = λ q. refl; begins = λ q. refl; calls = refl; draws = λ q. refl }
-quiet_write s r k e now (inr (inl (a, same, work))) = quiet_by s e (event.Went s kind.Mark ∷ []) same record { left = λ q. refl; next = λ q. refl; attached = λ q. refl; begins = λ q. refl; calls = refl; draws = λ q. refl }
-quiet_write s r k e now (inr (inr (inl (a, same, work)))) = quiet_by s e (event.Commit r ∷ []) same record { left = λ q. refl; next = λ q. refl; attached = λ q. refl; begins = λ q. refl; calls = refl; draws = λ q. refl }
-quiet_write s r k e now (inr (inr (inr (item, o, same, work)))) = quiet_by s e (event.Refuse r item o ∷ []) same record { left = λ q. refl; next = λ q. refl; attached = λ q. refl; begins = λ q. refl; calls = refl; draws = λ q. refl }
+quiet_write s r k e now (inl (a, same, work)) = quiet_by s e (event.Went s kind.Write ∷ []) same record { left = λ q. refl; next = λ q. refl; attached = λ q. refl; begins = λ q. refl; calls = refl; draws = λ q. refl; pins = λ q h. h; cursor = λ q h. refl }
+quiet_write s r k e now (inr (inl (a, same, work))) = quiet_by s e (event.Went s kind.Mark ∷ []) same record { left = λ q. refl; next = λ q. refl; attached = λ q. refl; begins = λ q. refl; calls = refl; draws = λ q. refl; pins = λ q h. h; cursor = λ q h. refl }
+quiet_write s r k e now (inr (inr (inl (a, same, work)))) = quiet_by s e (event.Commit r ∷ []) same record { left = λ q. refl; next = λ q. refl; attached = λ q. refl; begins = λ q. refl; calls = refl; draws = λ q. refl; pins = λ q h. h; cursor = λ q h. refl }
+quiet_write s r k e now (inr (inr (inr (item, o, same, work)))) = quiet_by s e (event.Refuse r item o ∷ []) same record { left = λ q. refl; next = λ q. refl; attached = λ q. refl; begins = λ q. refl; calls = refl; draws = λ q. refl; pins = λ q h. h; cursor = λ q h. refl }
 
 -- ---- the events of a step of a commit
 
@@ -226,7 +228,7 @@ pub not_ended : {A : Type 0} (t : Turn) → Rattle.std.specs.Prelude.nat_eq (tur
 not_ended t other same = absurd (false≢true (sym other ∙ ap (λ (x : Turn). Rattle.std.specs.Prelude.nat_eq (turn_number x) 3) same))
 
 -- a session that is in doesn't end
-pub never_ends : {A : Type 0} (law : JcrLaw) (b c : Shown) (run now : SessionRun) → IsIn law b → IsTurned law b c run now turn.Ended → A
+pub never_ends : {A : Type 0} {attached : Bool} (law : JcrLaw) (b c : Shown) (run now : SessionRun) → IsIn law b attached → IsTurned law b c run now turn.Ended → A
 never_ends law b c run now inside turned =
     absurd (false≢true (sym (left_stays (turned.others ++ b.history.past) turned.others b.history.past b.session turned.grows.theirs inside.stays) ∙ turned.made.1))
 

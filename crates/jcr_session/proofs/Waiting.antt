@@ -1,8 +1,8 @@
 -- While others add events, a session stands where it stood.
-use Rattle.std.proofs.Common.{◌≡◌, ℕ, true, false, ◌||◌, Some, Option, [], ◌∷◌, ◌++◌, sym, ap, ◌∙◌, subst}
-use Rattle.std.specs.Prelude.{◌==◌}
+use Rattle.std.proofs.Common.{◌≡◌, ℕ, Bool, true, false, ◌||◌, None, Some, Option, [], ◌∷◌, ◌++◌, sym, ap, ◌∙◌, subst}
 use Rattle.std.specs.Option.{option_map_or}
 use Rattle.std.specs.List.{list_any}
+use Rattle.jr_path.specs.Lists.{Text}
 use Rattle.jr_rev.specs.declared.revision.Revision.{Revision}
 use Rattle.jr_rev.specs.declared.vector.RevVec.{RevVec}
 use Rattle.jr_rev.specs.Revisions.{is_at_most}
@@ -13,25 +13,31 @@ use Rattle.oak_machine.specs.Commits.{is_commit_of, is_committed, is_end_of}
 use Rattle.oak_machine.specs.Heads.{local}
 use Rattle.oak_machine.specs.Laws.{AreOthers, after, is_event_of}
 use Rattle.oak_machine.specs.Runs.{AreNodes, IsRun}
-use Rattle.oak_machine.specs.Sessions.{has_left, has_login, is_attached, is_login_of, next_index}
-use Rattle.oak_machine.proofs.Induction.{neither, other}
+use Rattle.oak_machine.specs.Sessions.{has_left, has_login, is_attached, is_login_of, next_index, refreshed_since, since}
+use Rattle.oak_machine.proofs.Induction.{neither}
 use Rattle.oak_machine.proofs.Stays.{any_later}
-use Rattle.oak_port.specs.Ports.{Awaiting, Deciding, Idle, Shown, Starting, Undoing, OthersAlone, Work, Writing, Publishing, Learning}
+use Rattle.oak_port.specs.Ports.{Awaiting, Deciding, HasRoom, Idle, Shown, Starting, Undoing, OthersAlone, Work, Writing, Publishing, Learning}
 use Rattle.oak_port.specs.Ports.{Detaching}
 use Rattle.oak_commit.specs.declared.outcome.CommitEnd.{CommitEnd}
 use Rattle.oak_commit.specs.declared.outcome.CommitEnd.TheVariants as commit
 use Rattle.core_heads.proofs.Passing.{next_stays}
 use Rattle.jcr_law.specs.declared.law.JcrLaw.{JcrLaw}
 use Rattle.jcr_law.specs.Growing.{HasAllOf, call_same, trees_same}
-use Rattle.jcr_law.specs.Lasting.{grows_by_others, says_of, starts_of}
-use Rattle.jcr_law.specs.Since.{before_turn, is_unmoved, is_unpinned}
+use Rattle.jcr_law.specs.Calls.{call_moved}
+use Rattle.jcr_law.specs.Lasting.{grows_by_others, says_last, says_of, starts_of}
+use Rattle.jcr_law.specs.Law.{SaysBy}
+use Rattle.jcr_law.specs.Since.{before_turn, detached_among, is_unmoved, is_unpinned}
 use Rattle.jcr_law.specs.State.{Call, call_of}
 use Rattle.jcr_law.specs.Tasks.{knows_published}
 use Rattle.jcr_trans.specs.declared.command.Command.{Command}
 use Rattle.jcr_session.specs.declared.run.SessionRun.{SessionRun}
-use Rattle.jcr_session.specs.Standing.{HasCommitted, HasDrawn, IsAllLocal, IsAllPublished, IsBeside, IsCalled, IsClash, IsCommitting}
-use Rattle.jcr_session.specs.Standing.{IsFresh, IsIn, IsOnErrand, IsToldEnd, IsUnmade, IsWorkFor}
-use Rattle.jcr_session.proofs.Works.{WorkCase, learning, publishing, to_keep, to_read, to_release, to_write, work_case}
+use Rattle.core_calls.proofs.Beginning.{attached_stays, cursor_stays}
+use Rattle.jcr_steps.specs.declared.limits.TheConstants.{VECTOR_REPLY_BYTES}
+use Rattle.jcr_session.specs.Standing.{HasCommitted, HasCursor, HasDrawn, IsAllLocal, IsAllPublished, IsBeside, IsCalled, IsClash}
+use Rattle.jcr_session.specs.Standing.{IsCommitting, IsFresh, IsHalfDetached, IsIn, IsOnCommand, IsToldEnd, IsUnmade, IsWorkFor}
+use Rattle.jcr_session.specs.Standing.{KeepsCursor}
+use Rattle.jcr_session.proofs.Cursors.{has_cursor_over}
+use Rattle.jcr_session.proofs.Works.{WorkCase, learning, publishing, to_keep, to_observe, to_read, to_release, to_show, to_write, work_case}
 use Rattle.jcr_session.proofs.Others.{last_others, refusal_own, revision_stays, uncommitted_own}
 
 -- ---- whether it is in
@@ -45,13 +51,6 @@ pub left_stays : (whole added past : Past) (s : ℕ) → list_any (is_event_of w
 left_stays whole [] past s others h = h
 left_stays whole (event.Went t kind.End ∷ added) past s others h = let n = neither _ _ others in ap (λ b. b || has_left (added ++ past) s) n.0 ∙ left_stays whole added past s n.1 h
 left_stays whole (e ∷ added) past s others h = left_stays whole added past s (neither (is_event_of whole s e) _ others).1 h
-
-attached_stays : (whole added past : Past) (s : ℕ) → list_any (is_event_of whole s) added ≡ false → is_attached past s ≡ false → is_attached (added ++ past) s ≡ false
-attached_stays whole [] past s others h = h
-attached_stays whole (event.Login t v ∷ added) past s others h = let n = neither _ _ others in other (t == s) _ _ _ n.0 (attached_stays whole added past s n.1 h)
-attached_stays whole (event.Refresh t v ∷ added) past s others h = let n = neither _ _ others in other (t == s) _ _ _ n.0 (attached_stays whole added past s n.1 h)
-attached_stays whole (event.Attach t id ∷ added) past s others h = let n = neither _ _ others in other (t == s) _ _ _ n.0 (attached_stays whole added past s n.1 h)
-attached_stays whole (e ∷ added) past s others h = attached_stays whole added past s (neither (is_event_of whole s e) _ others).1 h
 
 -- ---- by pasts
 
@@ -118,6 +117,8 @@ module _ (law : JcrLaw) (h : History) (s : ℕ) (added : Past) (nodes : AreNodes
       by _ _ (learning v all) = published_still v all
       by _ _ (to_keep id named counted) = (named, counted)
       by _ _ (to_release id i same) = same
+      by _ _ (to_observe p deep mask within) = within
+      by _ _ to_show = tt
 
   pub unmade_still : (r : Revision) → IsUnmade h.past s r → IsUnmade whole s r
   unmade_still r is = record {
@@ -164,16 +165,23 @@ module _ (law : JcrLaw) (old new : Shown) (beside : IsBeside law old new) where
     pub all_beside : HasAllOf law old.history.begin old.session old.history.past (added ++ old.history.past)
     all_beside = all_same law old.history old.session added nodes later beside.grows.theirs
 
-    pub in_beside : IsIn law old → IsIn law new
-    in_beside inside = record {
+    -- the cursor stands where it stood
+    cursor_beside : KeepsCursor law old.history old.session → KeepsCursor law new.history new.session
+    cursor_beside keeps = shown_beside (λ h n. KeepsCursor law h n) (λ c is unpinned.
+        has_cursor_over old.history.past (added ++ old.history.past) old.session c
+        (cursor_stays (added ++ old.history.past) added old.history.past old.session beside.grows.theirs)
+        (keeps c (sym (call_still law old.history old.session added nodes later beside.grows.theirs) ∙ is) (sym all_beside.unpinned ∙ unpinned)))
+
+    pub in_beside : {attached : Bool} → IsIn law old attached → IsIn law new attached
+    in_beside {attached = attached} inside = record {
       nodes = nodes_beside;
       trees = shown_beside (λ h n. Rattle.core_calls.specs.Seeing.SeesTrees law h.clusters h.sessions h.begin) inside.trees;
       typed = shown_beside (λ h n. Rattle.core_calls.specs.Seeing.SeesTyped law h.clusters h.sessions h.begin) inside.typed;
       run = beside.grows.run;
       login = shown_beside (λ h n. has_login h.past n ≡ true) (any_later (is_login_of old.session) added old.history.past inside.login);
       stays = shown_beside (λ h n. has_left h.past n ≡ false) (left_stays (added ++ old.history.past) added old.history.past old.session beside.grows.theirs inside.stays);
-      detached = shown_beside (λ h n. is_attached h.past n ≡ false) (attached_stays (added ++ old.history.past) added old.history.past old.session beside.grows.theirs inside.detached);
-      unattached = shown_beside (λ h n. is_attached (before_turn h.past n) n ≡ false) (ap (λ (p : Past). is_attached p old.session) all_beside.before ∙ inside.unattached);
+      began = shown_beside (λ h n. is_attached (before_turn h.past n) n ≡ attached) (ap (λ (p : Past). is_attached p old.session) all_beside.before ∙ inside.began);
+      cursor = cursor_beside inside.cursor;
     }
 
     pub called_beside : (c : Call) → IsCalled law old c → IsCalled law new c
@@ -190,16 +198,51 @@ module _ (law : JcrLaw) (old new : Shown) (beside : IsBeside law old new) where
     pub unpinned_beside : is_unpinned old.history.past old.session ≡ true → is_unpinned new.history.past new.session ≡ true
     unpinned_beside is = shown_beside (λ h n. is_unpinned h.past n ≡ true) (all_beside.unpinned ∙ is)
 
-    pub errand_beside : (run : SessionRun) (m : Command) (c : Call) → IsOnErrand law old run m c → IsOnErrand law new run m c
-    errand_beside run m c is = record {
+    -- the session is attached as it is
+    pub attached_beside : is_attached new.history.past new.session ≡ is_attached old.history.past old.session
+    attached_beside = shown_beside (λ h n. is_attached h.past n ≡ is_attached old.history.past old.session)
+        (attached_stays (added ++ old.history.past) added old.history.past old.session beside.grows.theirs)
+
+    -- where its cursor is pinned
+    pub has_cursor_beside : (c : Call) → HasCursor old.history.past old.session c → HasCursor new.history.past new.session c
+    has_cursor_beside c has = shown_beside (λ h n. HasCursor h.past n c)
+        (has_cursor_over old.history.past (added ++ old.history.past) old.session c
+        (cursor_stays (added ++ old.history.past) added old.history.past old.session beside.grows.theirs) has)
+
+    pub command_beside : (run : SessionRun) (m : Command) (c : Call) → IsOnCommand law old run m c → IsOnCommand law new run m c
+    command_beside run m c is = record {
       unread = is.unread;
       next = is.next;
-      errands = is.errands;
       is = called_beside c is.is;
       holds = is.holds;
       fresh = fresh_beside is.fresh;
-      unmoved = unmoved_beside is.unmoved;
+    }
+
+    -- what the law lets be said it lets still
+    pub says_beside : IsRun (starts_of law) (says_of law) old.history → (i : ℕ) (text : Text) → SaysBy law old.history old.session i text → SaysBy law new.history new.session i text
+    says_beside run i text says = shown_beside (λ h n. SaysBy law h n i text)
+        (says_last law old.history beside.others old.session i text nodes run later beside.grows.theirs says)
+
+    -- a detach whose second step isn't made
+    abbrev pub half_beside : (run : SessionRun) (v : RevVec) → new.room ≡ old.room → IsHalfDetached law old run v → IsHalfDetached law new run v
+    half_beside run v room is = record {
+      unread = is.unread;
+      command = is.command;
+      next = is.next;
+      detaches = is.detaches;
+      fresh = fresh_beside is.fresh;
+      call = is.call;
+      holds = is.holds;
+      settled = is.settled;
+      tree = is.tree;
+      tree_is = is.tree_is;
+      is = called_beside (call_moved is.call v is.tree) is.is;
       unpinned = unpinned_beside is.unpinned;
+      stands = attached_beside ∙ is.stands;
+      moved = shown_beside (λ h n. refreshed_since h.past n ≡ Some v) (all_beside.refreshed ∙ is.moved);
+      whole = shown_beside (λ h n. detached_among (since h.past n) n ≡ None) (all_beside.detached ∙ is.whole);
+      eight = is.eight;
+      place = subst (λ (x : Option ℕ). HasRoom x VECTOR_REPLY_BYTES) (sym room) is.place;
     }
 
     pub work_beside : (c : Call) (m : Command) (w : Work) → IsWorkFor old.history old.session c m w → IsWorkFor new.history new.session c m
@@ -215,6 +258,8 @@ module _ (law : JcrLaw) (old new : Shown) (beside : IsBeside law old new) where
 
     pub committed_beside : (c : Call) (e : CommitEnd) → HasCommitted law old c e → HasCommitted law new c e
     committed_beside c (commit.Committed r) is = shown_beside (λ h n. Rattle.jcr_session.specs.Standing.IsMadeFor law h n c r) record {
+      unpinned = all_beside.unpinned ∙ is.unpinned;
+      detached = attached_stays (added ++ old.history.past) added old.history.past old.session beside.grows.theirs ∙ is.detached;
       made = is.made;
       revision = is.revision;
       draw = all_beside.draw ∙ is.draw;

@@ -1,5 +1,5 @@
 -- What a session finds before it answers its next command.
-use Rattle.std.specs.Prelude.{◌≡◌, ◌≢◌, ◌≤◌, ◌+◌, ℕ, Bool, false, List, [], length, slice_get}
+use Rattle.std.specs.Prelude.{◌≡◌, ◌≢◌, ◌≤◌, ◌+◌, ℕ, Bool, false, true, List, [], length, slice_get}
 use Rattle.std.specs.Prelude.{Option, None, Some, is_some, IsTrue, IsFalse, string_bytes}
 use Rattle.std.specs.Prelude.{Result, Ok}
 use Rattle.std.specs.Option.{option_map_or}
@@ -18,48 +18,59 @@ use Rattle.jr_tree.specs.Trees.{IsTree, Nodes}
 use Rattle.jr_value.specs.declared.value.Value.{Value}
 use Rattle.oak_commit.specs.declared.outcome.CommitEnd.TheVariants as commit
 use Rattle.oak_machine.specs.Commits.{is_committed}
-use Rattle.oak_machine.specs.Sessions.{drawn_since, is_drawing, next_index}
+use Rattle.oak_machine.specs.History.{History}
+use Rattle.oak_machine.specs.Sessions.{drawn_since, is_attached, is_drawing, next_index}
 use Rattle.oak_port.specs.Ports.{HasRoom, Idle, Shown}
 use Rattle.oak_port.specs.declared.task.Task.{Task}
 use Rattle.oak_port.specs.declared.task.Task.TheVariants as task
 use Rattle.jcr_plan.specs.declared.plans.Plan.{Plan}
 use Rattle.jcr_plan.specs.Plans.{PlanOk}
 use Rattle.jr_types.specs.Rules.{TypesOk}
+use Rattle.jr_items.specs.Refusals.{limit_refusal, no_checkpoint}
 use Rattle.jcr_ref.specs.Drawn.{too_many_ids}
 use Rattle.jcr_ref.specs.References.{ReferencesOk}
+use Rattle.jcr_trans.specs.Answers.{Done}
+use Rattle.jcr_trans.specs.Texts.{answer_text}
 use Rattle.jcr_trans.specs.declared.command.Command.{Command}
 use Rattle.jcr_trans.specs.declared.command.Command.TheVariants as command
+use Rattle.jcr_observe.specs.declared.event.Filter.{Filter}
 use Rattle.jcr_view.specs.Outcomes.{is_viewed}
 use Rattle.jcr_law.specs.declared.law.JcrLaw.{JcrLaw}
 use Rattle.jcr_law.specs.Commits.{edit_due}
 use Rattle.jcr_law.specs.Law.{IsUnmoved, IsUnpinned, SaysBy, no_support, no_text}
-use Rattle.jcr_law.specs.Queries.{QueryAnswers}
+use Rattle.jcr_law.specs.Queries.{QueryAnswers, events_reply}
 use Rattle.jcr_law.specs.State.{Call, command_at, is_ok_text, next_id}
 use Rattle.jcr_law.specs.Calls.{call_after}
 use Rattle.jcr_call.specs.Comings.{IsAcceptedOf}
 use Rattle.jcr_call.specs.declared.coming.Coming.{Coming}
-use Rattle.jcr_held.specs.Accepts.{TokensFit}
+use Rattle.jcr_held.specs.Accepts.{AcceptsAs, IsFilterOf}
 use Rattle.jcr_held.specs.Comes.{ComesTo}
 use Rattle.jcr_held.specs.Holds.{Holds}
 use Rattle.jcr_held.specs.Sees.{Sees}
 use Rattle.jcr_held.specs.declared.held.Held.{Held}
 use Rattle.jr_rev.specs.Alone.{IsNextAlone}
 use Rattle.jcr_session.specs.declared.commit.Pledge.{Pledge}
-use Rattle.jcr_session.specs.declared.errand.Errand.{Errand}
+use Rattle.jcr_steps.specs.declared.errand.Errand.{Errand}
+use Rattle.jcr_steps.specs.declared.errand.Told.{Told}
+use Rattle.jcr_steps.specs.declared.errand.Told.TheVariants as told
 use Rattle.jcr_session.specs.declared.errand.Start.{Start}
 use Rattle.jcr_session.specs.declared.errand.Start.TheVariants as start
-use Rattle.jcr_session.specs.declared.limits.TheConstants.{COMMIT_REPLY_BYTES, MOST_COMMANDS}
+use Rattle.jcr_steps.specs.declared.limits.TheConstants.{COMMIT_REPLY_BYTES}
+use Rattle.jcr_session.specs.declared.limits.TheConstants.{MOST_COMMANDS}
+use Rattle.jcr_session.specs.declared.moves.Target.{Target}
 use Rattle.jcr_session.specs.declared.next.Due.TheVariants as due
 use Rattle.jcr_session.specs.declared.run.Phase.TheVariants as phase
 use Rattle.jcr_session.specs.declared.run.SessionRun.{SessionRun}
-use Rattle.jcr_session.specs.Standing.{HasPlace, IsCalled, IsClash, IsIn, IsKeptFor, IsPlace}
-use Rattle.jcr_session.specs.Standing.{due_for, kept_for}
+use Rattle.jcr_steps.specs.Kept.{HasPlace}
+use Rattle.jcr_session.specs.Standing.{AreSince, HasCursor, IsCalled, IsClash, IsHalfDetached, IsIn}
+use Rattle.jcr_session.specs.Standing.{IsKeptFor, IsPlace, due_for, is_errand}
+use Rattle.jcr_steps.specs.Kept.{kept_for, reply_of}
 
 -- the session is in, with nothing being done for it and nothing of it in flight; its next command
 -- is m, which is run with c
 pub record IsAsked (law : JcrLaw) (p : Shown) (run : SessionRun) (m : Command) (c : Call)
     : Type 0 where
-  pub inside : IsIn law p
+  pub inside : IsIn law p run.attached
   pub session : p.session ≡ run.session
   pub few : length run.commands ≤ MOST_COMMANDS
   pub commands : (i : ℕ) → command_at law run.session i ≡ slice_get run.commands i
@@ -74,14 +85,19 @@ pub record IsAsked (law : JcrLaw) (p : Shown) (run : SessionRun) (m : Command) (
 abbrev pub has_drawn : Shown → Bool
 has_drawn p = is_some (drawn_since p.history.past p.session)
 
--- the text may be said now as the reply to the next command; what the session holds is what the
--- command after it is run with then
+-- the text may be said now as the reply to the next command, which began attached or not; what the
+-- session holds is what the command after it is run with then, it is attached as it then is, and the
+-- cursor stands where the history has it
 pub record MayAnswer (law : JcrLaw) (p : Shown) (run : SessionRun) (text : Text) : Type 0 where
+  pub began : Bool
   pub command : Command
   pub call : Call
-  pub asked : IsAsked law p run command call
+  pub asked : IsAsked law p (record run { attached = began }) command call
   pub says : SaysBy law p.history p.session run.index text
   pub leaves : Holds (call_after (is_ok_text text) (has_drawn p) call command) run.held
+  pub stands : is_attached p.history.past p.session ≡ run.attached
+  pub cursor : HasCursor p.history.past p.session
+      (call_after (is_ok_text text) (has_drawn p) call command)
 
 -- want of memory may be answered now: neither the base nor the cursor has moved, and what the
 -- session holds is what the next command is run with, for which a revision was drawn or none
@@ -96,16 +112,19 @@ pub record MayForgo (law : JcrLaw) (p : Shown) (run : SessionRun) (drew : Bool) 
       (drawn_since p.history.past p.session) false)
   pub holds : Holds call run.held
 
--- the same of a text for which nothing was drawn, to a command that isn't answered by the view,
--- before what the session holds is brought up to it
+-- the same of a text for which nothing was drawn and the base hasn't moved, to a command that isn't
+-- answered by the view, before what the session holds is brought up to it
 pub record MaySettle (law : JcrLaw) (p : Shown) (run : SessionRun) (text : Text) : Type 0 where
   pub command : Command
   pub call : Call
   pub asked : IsAsked law p run command call
   pub says : SaysBy law p.history p.session run.index text
   pub first : has_drawn p ≡ false
+  pub unmoved : IsUnmoved p.history p.session
+  pub cursor : HasCursor p.history.past p.session
+      (call_after (is_ok_text text) false call command)
   pub unviewed : IsFalse (is_viewed command)
-  pub tokens : IsTrue (is_ok_text text) → TokensFit run.held None call command
+  pub accepts : IsTrue (is_ok_text text) → AcceptsAs run.held None call command
   pub holds : Holds call run.held
 
 -- the view doesn't answer the next command
@@ -113,14 +132,23 @@ abbrev pub IsUnviewedNext : SessionRun → Type 0
 IsUnviewedNext run =
     (m : Command) × (slice_get run.commands run.index ≡ Some m) × IsFalse (is_viewed m)
 
--- what is held was brought up to a reply to the next command, after which these tokens are held, or
--- those that were
-pub record Settles (old new : SessionRun) (ok drew : Bool) (tokens : Option (List (List ℕ)))
+-- the next command observes, with this filter
+abbrev pub ObservesNext : SessionRun → Filter → Type 0
+ObservesNext run filter = (m : Command)
+    × (slice_get run.commands run.index ≡ Some m) × IsFilterOf m filter
+
+-- what is held was brought up to a reply to the next command, where that fits
+pub record SettlesBy (fits : Call → Command → Type 0) (old new : SessionRun) (ok drew : Bool)
     : Type 0 where
   pub same : new ≡ record old { held = new.held }
   pub holds : (m : Command) (c : Call) → slice_get old.commands old.index ≡ Some m
-      → Holds c old.held → (IsTrue ok → TokensFit old.held tokens c m)
-      → Holds (call_after ok drew c m) new.held
+      → Holds c old.held → fits c m → Holds (call_after ok drew c m) new.held
+
+-- and after it these tokens are held, or those that were
+abbrev pub Settles : (old new : SessionRun) → (ok drew : Bool)
+    → (tokens : Option (List (List ℕ))) → Type 0
+Settles old new ok drew tokens =
+    SettlesBy (λ c m. IsTrue ok → AcceptsAs old.held tokens c m) old new ok drew
 
 -- ---- replies before a commit
 
@@ -134,6 +162,7 @@ abbrev pub IsQueriedAs : Held → Command → String Global → Type 0
 IsQueriedAs held m text = (q : Text) (vars : List (Name × Value)) (c : Call) → Holds c held
     → m ≡ command.Query q vars → QueryAnswers c q vars (string_bytes text)
 
+-- the reply to the session's next command, where that is a query
 abbrev pub IsQueried : SessionRun → String Global → Type 0
 IsQueried run text = (m : Command) → slice_get run.commands run.index ≡ Some m
     → IsQueriedAs run.held m text
@@ -142,6 +171,30 @@ IsQueried run text = (m : Command) → slice_get run.commands run.index ≡ Some
 abbrev pub HasSeen : SessionRun → SessionRun → Result (String Global) AllocError → Type 0
 HasSeen old new result = (m : Command) (c : Call) → slice_get old.commands old.index ≡ Some m
     → Holds c old.held → Sees c m new.held result
+
+-- ---- a move of the base
+
+-- the checkpoint that is asked for, and the reply where there is none of that identifier
+pub record IsTargetOf (id : Text) (t : Target) : Type 0 where
+  pub named : t.id ≡ id
+  pub told : string_bytes t.missing ≡ no_text (no_checkpoint id)
+
+-- the same of the next command, which attaches
+pub record IsTargetNext (run : SessionRun) (t : Target) : Type 0 where
+  pub id : Text
+  pub next : slice_get run.commands run.index ≡ Some (command.Attach id)
+  pub target : IsTargetOf id t
+
+-- memory was refused for the second step of a detach, whose base has moved
+pub record MayStayHalf (law : JcrLaw) (p : Shown) (run : SessionRun) : Type 0 where
+  pub inside : IsIn law p run.attached
+  pub session : p.session ≡ run.session
+  pub few : length run.commands ≤ MOST_COMMANDS
+  pub commands : (i : ℕ) → command_at law run.session i ≡ slice_get run.commands i
+  pub index : run.index ≡ next_index p.history.past run.session
+  pub idle : p.work ≡ Idle
+  pub vector : RevVec
+  pub half : IsHalfDetached law p run vector
 
 -- ---- a commit
 
@@ -192,29 +245,59 @@ pub record HasClashed (law : JcrLaw) (p : Shown) (run : SessionRun) (item : Item
   pub holds : Holds call run.held
   pub room : HasRoom p.room COMMIT_REPLY_BYTES
 
--- ---- a task of the cluster node or of the settings
+-- ---- a task of the cluster node, of the settings or of the cursor
+
+-- the cursor of the next command, which observes with this filter, is pinned: its reply may be said
+-- now, for which nothing was drawn and the base hasn't moved, before what the session holds is
+-- brought up to it
+pub record MayObserve (law : JcrLaw) (p : Shown) (run : SessionRun) (filter : Filter) : Type 0 where
+  pub command : Command
+  pub call : Call
+  pub asked : IsAsked law p run command call
+  pub says : SaysBy law p.history p.session run.index (answer_text Done)
+  pub first : has_drawn p ≡ false
+  pub unmoved : IsUnmoved p.history p.session
+  pub cursor : HasCursor p.history.past p.session (call_after true false call command)
+  pub filter_is : IsFilterOf command filter
+  pub holds : Holds call run.held
+
+-- how the task of the next command has ended may be told now
+abbrev pub MayTell : JcrLaw → Shown → SessionRun → Told → Type 0
+MayTell law p run (told.Observed filter) = MayObserve law p run filter
+MayTell law p run t = MaySettle law p run (reply_of t)
 
 -- the task that the command asks for, which is run with c: a checkpoint's is under the session's
--- next identifier, which it has
+-- next identifier, which it has; the cursor of an observing has a path within the limits
 abbrev pub IsTaskFor : Call → Command → Task → Type 0
 IsTaskFor c command.BackWrite t = t ≡ task.BackWrite
 IsTaskFor c command.BackRead t = t ≡ task.BackRead
 IsTaskFor c command.Checkpoint t =
     (t ≡ task.Checkpoint (next_id c.who)) × (too_many_ids (c.who.ids + 1) ≡ None)
 IsTaskFor c (command.Release id) t = t ≡ task.Release id
+IsTaskFor c (command.Observe p deep mask) t = (t ≡ task.Observe) × (limit_refusal p ≡ None)
+IsTaskFor c command.Events t = t ≡ task.Observe
 IsTaskFor c m t = ⊥
 
--- what the task of a command begins with, run with c; or the reply of a checkpoint where the
--- session has drawn all its identifiers
-abbrev pub StartsWith : Call → Command → Start → Type 0
-StartsWith c m (start.Begun t e) = IsTaskFor c m t × IsKeptFor c m e
-StartsWith c m (start.Said text) = (m ≡ command.Checkpoint) × (r : Refusal)
-    × (too_many_ids (c.who.ids + 1) ≡ Some r) × (string_bytes text ≡ no_text r)
+-- the reply of a command for which no task begins: of a checkpoint where the session has drawn all
+-- its identifiers, of an observing of a path beyond the limits, of `events` without a cursor
+abbrev pub IsSaidAtOnce : Call → Command → Text → Type 0
+IsSaidAtOnce c command.Checkpoint text = (r : Refusal)
+    × (too_many_ids (c.who.ids + 1) ≡ Some r) × (text ≡ no_text r)
+IsSaidAtOnce c (command.Observe p deep mask) text = (r : Refusal)
+    × (limit_refusal p ≡ Some r) × (text ≡ no_text r)
+IsSaidAtOnce c command.Events text = (c.state.cursor ≡ None) × (text ≡ events_reply [])
+IsSaidAtOnce c m text = ⊥
 
--- the same of the next command
+-- what the task of a command begins with, run with c; or the reply where none begins
+abbrev pub StartsWith : History → Call → Command → Start → Type 0
+StartsWith h c m (start.Begun t e) = IsTaskFor c m t × IsKeptFor h c m e
+StartsWith h c m (start.Said text) = IsSaidAtOnce c m (string_bytes text)
+
+-- the same of the next command, where what is read of the changes is all since the cursor
 abbrev pub StartsNext : SessionRun → Start → Type 0
-StartsNext run begins = (m : Command) (c : Call) → slice_get run.commands run.index ≡ Some m
-    → Holds c run.held → StartsWith c m begins
+StartsNext run begins = (h : History) (m : Command) (c : Call)
+    → slice_get run.commands run.index ≡ Some m
+    → Holds c run.held → AreSince h c run.changes → StartsWith h c m begins
 
 -- the task is that of the next command, for which nothing was drawn yet and neither the base nor
 -- the cursor has moved, and this is kept of it for its reply, which has a place
@@ -227,8 +310,8 @@ pub record MaySetOut (law : JcrLaw) (p : Shown) (run : SessionRun) (t : Task) (e
   pub first : drawn_since p.history.past p.session ≡ None
   pub unmoved : IsUnmoved p.history p.session
   pub unpinned : IsUnpinned p.history p.session
-  pub errands : due_for run ≡ due.Errand
+  pub errands : IsTrue (is_errand (due_for run))
   pub holds : Holds call run.held
   pub task_is : IsTaskFor call command t
-  pub kept : IsKeptFor call command e
+  pub kept : IsKeptFor p.history call command e
   pub place : HasPlace p.room (kept_for e)

@@ -1,4 +1,4 @@
-pub mod Answered
 pub mod Asked
 pub mod Nearing
+pub mod Phases
 pub mod Standing

@@ -7,7 +7,7 @@ use Rattle.jcr_law.specs.declared.law.JcrLaw.{JcrLaw}
 use Rattle.jcr_law.specs.State.{Call}
 use Rattle.jcr_held.specs.Unread.{unread}
 use Rattle.jr_rev.specs.declared.revision.Revision.{Revision}
-use Rattle.jcr_session.specs.Standing.{IsCalled, is_working}
+use Rattle.jcr_session.specs.Standing.{IsCalled, is_working, lacks_changes}
 use Rattle.jcr_session.specs.declared.run.Phase.{Phase}
 use Rattle.jcr_session.specs.declared.run.Phase.TheVariants as phase
 use Rattle.jcr_session.specs.declared.run.SessionRun.{SessionRun}
@@ -21,11 +21,12 @@ EndsSooner before now p = IsTrue (is_some p.beside.seats) → now < before
 -- ---- reading steps
 
 -- of what may be asked for before the next command, run with c, how much is still to be known: twice
--- for each node and each list of children, and once more where none of them is being read
+-- for each node and each list of children, and for what changed, and once more where none of them is
+-- being read
 abbrev pub unread_of : Call → SessionRun → ℕ
 unread_of c run =
-    2 * option_map_or (λ m. unread c run.held m) (slice_get run.commands run.index) 0
-    + cond (is_some run.fetch) 0 1
+    2 * (option_map_or (λ m. unread c run.held m) (slice_get run.commands run.index) 0
+    + cond (lacks_changes run) 1 0) + cond (is_some run.fetch) 0 1
 
 -- less is to be known; or what was being read is still being read, with as much to be known, and
 -- ends sooner
@@ -47,7 +48,8 @@ stages_left phase.Outside = 4
 stages_left phase.Between = 3
 stages_left (phase.Committing pledge) = 2
 stages_left (phase.Committed e pledge) = 1
-stages_left (phase.Refreshed v) = 1
+stages_left (phase.Moved v) = 1
+stages_left phase.Detaching = 2
 stages_left (phase.Working e) = 2
 stages_left (phase.Told t) = 1
 stages_left phase.Over = 0

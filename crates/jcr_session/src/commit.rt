@@ -1,22 +1,23 @@
 // How a session commits for its next command.
 ghost use Rattle.std.specs.Prelude.{◌≡◌, ◌≤◌, IfOk, IsTrue, Some, false};
 ghost use Rattle.jcr_call.specs.declared.coming.Coming.TheVariants as coming;
-ghost use Rattle.jcr_session.specs.Answered.{IsCommitAnswer, IsDrawAnswer, ended_phase, has_went, kind_of_end, phase_by, turn_by};
+ghost use Rattle.jcr_steps.specs.Answered.{IsCommitAnswer, kind_of_end};
+ghost use Rattle.jcr_session.specs.Phases.{ended_phase, phase_by, turn_by};
 ghost use Rattle.jcr_session.specs.Asked.{ComesNext, MayDrawFor};
 ghost use Rattle.jcr_session.specs.Nearing.{DrawsNoOther, StaysBehindStep, StepsOn, WorksSooner, turns_left};
 ghost use Rattle.jcr_session.specs.Standing.{HasCounted, IsGranted, IsPlace, IsPrepared, Stands, due_for, is_committing};
-ghost use Rattle.jcr_session.specs.declared.limits.TheConstants.{COMMIT_REPLY_BYTES};
+ghost use Rattle.jcr_steps.specs.declared.limits.TheConstants.{COMMIT_REPLY_BYTES};
 ghost use Rattle.jcr_session.specs.declared.next.Due.TheVariants as due;
 ghost use Rattle.jcr_session.specs.declared.run.Phase.TheVariants as phase;
 ghost use Rattle.jcr_session.specs.declared.turn.Turn.TheVariants as turn;
 
-use crate::limits::COMMIT_REPLY_BYTES;
 use crate::run::{Phase, SessionRun};
 use crate::turn::Turn;
 use jcr_call::{Accepted, Coming};
 use jcr_held::replies_without_commit_keep_tokens;
 use jcr_law::JcrLaw;
 use jcr_plan::Plan;
+use jcr_steps::{COMMIT_REPLY_BYTES, has_went, last_kind};
 use jr_path::DeepCopy;
 use jr_tree::Edit;
 use oak_commit::CommitEnd;
@@ -188,29 +189,5 @@ fn place_for(accepted: &Accepted) -> usize
     match &accepted.text {
         Some(text) => text.len().max(COMMIT_REPLY_BYTES),
         None => COMMIT_REPLY_BYTES,
-    }
-}
-
-// Whether a commit was drawn; else memory was refused.
-fn has_went(answer: StepOut) -> bool
-    requires { IsDrawAnswer answer }
-    ensures { result ≡ has_went answer }
-{
-    let has_went = match &answer {
-        StepOut::Went(_) => true,
-        StepOut::Memory => false,
-        _ => unreachable!(),
-    };
-    drop(answer);
-    has_went
-}
-
-// The kind of the step that ended a commit.
-fn last_kind(end: &CommitEnd) -> StepKind
-    ensures { result ≡ kind_of_end end.now }
-{
-    match end {
-        CommitEnd::Committed(_) => StepKind::Pin,
-        _ => StepKind::Finish,
     }
 }

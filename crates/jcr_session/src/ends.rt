@@ -13,7 +13,7 @@ ghost use Rattle.jcr_held.specs.Holds.{Holds};
 ghost use Rattle.jcr_session.specs.Asked.{HasClashed, MayAnswer, SeesCommit};
 ghost use Rattle.jcr_session.specs.Nearing.{IsReply};
 ghost use Rattle.jcr_session.specs.Standing.{HasEnded, HasCounted, IsGranted, Stands};
-ghost use Rattle.jcr_session.specs.declared.limits.TheConstants.{COMMIT_REPLY_BYTES};
+ghost use Rattle.jcr_steps.specs.declared.limits.TheConstants.{COMMIT_REPLY_BYTES};
 ghost use Rattle.jcr_session.specs.declared.run.Phase.TheVariants as phase;
 
 use crate::commit::Pledge;

@@ -1,61 +1,37 @@
-// How a session does what its next command asks of the cluster node or of the settings: background
-// work, and checkpoints.
-ghost use Rattle.std.specs.Prelude.{◌≡◌, IfOk, IsTrue, Some, length};
+// How a session does what its next command asks of the cluster node, of the settings or of its
+// cursor: background work, checkpoints, and observing.
+ghost use Rattle.std.specs.Prelude.{◌≡◌, ◌&&◌, IfOk, IsFalse, IsTrue, None, Some, is_none, is_some, length};
+ghost use Rattle.jr_items.specs.Refusals.{limit_refusal};
+ghost use Rattle.oak_machine.specs.History.{History};
 ghost use Rattle.oak_port.specs.Ports.{HasRoom};
 ghost use Rattle.jcr_trans.specs.declared.command.Command.TheVariants as command;
 ghost use Rattle.jcr_law.specs.State.{Call};
 ghost use Rattle.jcr_held.specs.Holds.{Holds};
-ghost use Rattle.jcr_session.specs.Answered.{IsErrandAnswer, came_by, kind_told, phase_came, told_by, turn_came};
-ghost use Rattle.jcr_session.specs.Asked.{MaySettle, MaySetOut, StartsNext, StartsWith};
+ghost use Rattle.jcr_steps.specs.Answered.{MayCome};
+ghost use Rattle.jcr_session.specs.Phases.{phase_came, turn_came};
+ghost use Rattle.jcr_session.specs.Asked.{MaySettle, MaySetOut, MayTell, StartsNext, StartsWith};
 ghost use Rattle.jcr_session.specs.Nearing.{EndsOrStays, EndsSooner, IsReply, StepsOn, WorksSooner, turns_left};
-ghost use Rattle.jcr_session.specs.Standing.{HasCounted, HasPlace, IsEight, IsGranted, Stands, due_by, due_for, is_on_errand, is_told, kept_for, kept_of, reply_of};
-ghost use Rattle.jcr_session.specs.declared.errand.Came.TheVariants as came;
+ghost use Rattle.jcr_session.specs.Standing.{AreSince, HasCounted, IsGranted, Stands, due_by, due_for, is_errand, is_on_errand, is_told, lacks_changes, lacks_for};
+ghost use Rattle.jcr_steps.specs.Kept.{HasPlace, IsEight, kept_of};
+ghost use Rattle.jcr_steps.specs.declared.limits.TheConstants.{VECTOR_REPLY_BYTES};
+ghost use Rattle.jcr_steps.specs.declared.errand.Told.TheVariants as told;
 ghost use Rattle.jcr_session.specs.declared.errand.Start.TheVariants as start;
-ghost use Rattle.jcr_session.specs.declared.next.Due.TheVariants as due;
 ghost use Rattle.jcr_session.specs.declared.run.Phase.TheVariants as phase;
 
-use crate::limits::VECTOR_REPLY_BYTES;
 use crate::run::{Phase, SessionRun};
-use crate::shown::shown_vector;
 use crate::turn::Turn;
-use jcr_call::cause_text;
+use jcr_call::{cause_text, events_reply};
 use jcr_held::NextCheckpoint;
 use jcr_law::JcrLaw;
+use jcr_observe::Filter;
+use jcr_steps::{Came, Errand, Told, errand_came, kind_told, place_of, shown_vector, told_of};
 use jcr_trans::{Command, revision_reply};
-use jr_items::no_checkpoint;
-use jr_path::{DeepCopy, Text};
-use jr_rev::{RevVec, Revision};
-use oak_machine::StepKind;
-use oak_port::{Port, StepOut, Task, TaskEnd};
+use jr_items::{check_limits, no_checkpoint};
+use jr_path::{DeepCopy, Path, Text};
+use jr_tree::CommitChanges;
+use oak_port::{Port, Task};
 use std::alloc::{AllocError, Global};
 use std::mem;
-
-// A task of the cluster node or of the settings that is under way, with what is kept of it for its
-// reply.
-#[derive(Drop)]
-pub(crate) enum Errand {
-    // A background write.
-    Write,
-    // A background read.
-    Read,
-    // A checkpoint, and its reply.
-    Checkpoint(String),
-    // A release, and its reply where there is no such checkpoint.
-    Release(String),
-}
-
-// How such a task has ended.
-#[derive(Drop)]
-pub(crate) enum Told {
-    // This is published.
-    Published(Revision),
-    // The head, which has learned, is this.
-    Learnt(RevVec),
-    // The settings are changed.
-    Done,
-    // The settings were looked at or changed, and this is the reply.
-    Text(String),
-}
 
 // What such a task begins with, or the reply of a command for which none begins.
 #[derive(Drop)]
@@ -64,24 +40,15 @@ pub(crate) enum Start {
     Said(String),
 }
 
-// What a step of such a task came to: the task goes on, has ended so, or memory was refused.
-#[derive(Clone, Copy)]
-pub(crate) enum Came {
-    Going(StepKind),
-    Published(Revision),
-    Learnt(RevVec),
-    Set,
-    Missed,
-    Refused,
-}
-
 impl SessionRun {
     // Begins the task that the next command asks for, once all is made that its reply needs; or
     // answers a command for which none begins.
     pub(crate) fn set_out<P: Port<L = JcrLaw>>(&mut self, port: &mut P) -> Turn
         requires stands { Stands (P.law port.old) (P.shown port.old) self.old }
         requires between { self.old.phase ≡ phase.Between }
-        requires next { due_for self.old ≡ due.Errand }
+        requires next { IsTrue (is_errand (due_for self.old)) }
+        requires unread { self.old.fetch ≡ None }
+        requires read { IsFalse (lacks_changes self.old) }
         ensures law { P.law port.new ≡ P.law port.old }
         ensures turned { HasCounted (P.law port.old) (P.shown port.old) (P.shown port.new)
             self.old self.new result }
@@ -96,7 +63,8 @@ impl SessionRun {
 
     // What the task of the next command begins with.
     fn start(&self) -> Result<Start, AllocError>
-        requires { due_for self.now ≡ due.Errand }
+        requires next { IsTrue (is_errand (due_for self.now)) }
+        requires read { IsFalse (lacks_changes self.now) }
         ensures { IfOk result (StartsNext self.now) }
     {
         match self.commands.as_slice().get(self.index as usize) {
@@ -107,22 +75,26 @@ impl SessionRun {
 
     // What the task of this command begins with.
     fn start_of(&self, command: &Command) -> Result<Start, AllocError>
-        requires { due_by command.now ≡ due.Errand }
-        ensures { (c : Call) → Holds c self.now.held → IfOk result (StartsWith c command.now) }
+        requires next { IsTrue (is_errand (due_by command.now)) }
+        requires read { IsFalse (lacks_for self.now (due_by command.now)) }
+        ensures { (h : History) (c : Call) → Holds c self.now.held → AreSince h c self.now.changes
+            → IfOk result (StartsWith h c command.now) }
     {
         match command {
             Command::BackWrite => Ok(Start::Begun(Task::BackWrite, Errand::Write)),
             Command::BackRead => Ok(Start::Begun(Task::BackRead, Errand::Read)),
             Command::Checkpoint => self.checkpoint(),
             Command::Release(id) => release(self.alloc, id),
+            Command::Observe(path, deep, mask) => observe(self.alloc, path, *deep, *mask),
+            Command::Events => self.events(),
             _ => unreachable!(),
         }
     }
 
     // What a checkpoint begins with.
     fn checkpoint(&self) -> Result<Start, AllocError>
-        ensures { (c : Call) → Holds c self.now.held
-            → IfOk result (StartsWith c command.Checkpoint) }
+        ensures { (h : History) (c : Call) → Holds c self.now.held
+            → IfOk result (StartsWith h c command.Checkpoint) }
     {
         match self.held.next_checkpoint()? {
             NextCheckpoint::Named(id, reply) => {
@@ -132,18 +104,41 @@ impl SessionRun {
         }
     }
 
+    // What `events` begins with, once what changed since the cursor is read; without a cursor there is
+    // nothing to show.
+    fn events(&self) -> Result<Start, AllocError>
+        requires { IsFalse (is_some self.now.held.cursor && is_none self.now.changes) }
+        ensures { (h : History) (c : Call) → Holds c self.now.held → AreSince h c self.now.changes
+            → IfOk result (StartsWith h c command.Events) }
+    {
+        match &self.changes {
+            Some(commits) => self.show_changes(commits.as_slice()),
+            None => Ok(Start::Said(events_reply(self.alloc, &[])?)),
+        }
+    }
+
+    // What `events` begins with, to show what changed in these commits.
+    fn show_changes(&self, commits: &[CommitChanges]) -> Result<Start, AllocError>
+        ensures { (h : History) (c : Call) → Holds c self.now.held
+            → AreSince h c (Some commits.now) → IfOk result (StartsWith h c command.Events) }
+    {
+        let reply = self.held.events_reply(commits)?;
+        Ok(Start::Begun(Task::Observe, Errand::Events(reply)))
+    }
+
     // Keeps the place of the reply, and begins the task.
     fn keep_place<P: Port<L = JcrLaw>>(&mut self, port: &mut P, task: Task, errand: Errand) -> Turn
         requires stands { Stands (P.law port.old) (P.shown port.old) self.old }
         requires between { self.old.phase ≡ phase.Between }
-        requires next { due_for self.old ≡ due.Errand }
+        requires next { IsTrue (is_errand (due_for self.old)) }
+        requires unread { self.old.fetch ≡ None }
         requires starts { StartsNext self.old (start.Begun task errand) }
         ensures law { P.law port.new ≡ P.law port.old }
         ensures turned { HasCounted (P.law port.old) (P.shown port.old) (P.shown port.new)
             self.old self.new result }
         ensures steps { StepsOn ⊥ (turns_left self.old) (turns_left self.new) result }
     {
-        let bytes = place_for(&errand);
+        let bytes = place_of(&errand);
         match port.reserve_say(bytes) {
             Ok(()) => self.begin_errand(port, task, errand),
             Err(AllocError) => self.say_memory(port),
@@ -208,6 +203,7 @@ impl SessionRun {
 
     // What a step of a task came to that wasn't refused memory.
     fn come_on(&mut self, came: Came, errand: Errand) -> Turn
+        requires comes { MayCome came errand }
         ensures turn { result ≡ turn_came came }
         ensures run { self.new ≡ record self.old { phase = phase_came came errand } }
         ensures granted { IsGranted result }
@@ -243,7 +239,7 @@ impl SessionRun {
 
     // Answers a command by how its task has ended.
     fn tell<P: Port<L = JcrLaw>>(&mut self, port: &mut P, told: Told) -> Turn
-        requires settles { MaySettle (P.law port.old) (P.shown port.old) self.old (reply_of told) }
+        requires tells { MayTell (P.law port.old) (P.shown port.old) self.old told }
         requires place { HasPlace (P.shown port.old).room (kept_of told) }
         requires eight { IsEight told }
         ensures law { P.law port.new ≡ P.law port.old }
@@ -256,8 +252,24 @@ impl SessionRun {
             Told::Published(r) => self.tell_text(port, revision_reply(&r).as_str()),
             Told::Learnt(v) => self.tell_text(port, shown_vector(&v).as_str()),
             Told::Done => self.tell_text(port, "ok"),
+            Told::Observed(filter) => self.tell_observed(port, filter),
             Told::Text(text) => self.tell_text(port, text.as_str()),
         }
+    }
+
+    // Answers an `observe`: the cursor has this filter from then on.
+    fn tell_observed<P: Port<L = JcrLaw>>(&mut self, port: &mut P, filter: Filter) -> Turn
+        requires tells { MayTell (P.law port.old) (P.shown port.old) self.old
+            (told.Observed filter) }
+        requires room { HasRoom (P.shown port.old).room VECTOR_REPLY_BYTES }
+        ensures law { P.law port.new ≡ P.law port.old }
+        ensures turned { HasCounted (P.law port.old) (P.shown port.old) (P.shown port.new)
+            self.old self.new result }
+        ensures granted { IsGranted result }
+        ensures said { IsReply result }
+    {
+        self.observe(filter);
+        self.say_kept(port, "ok")
     }
 
     // Answers a command with this text.
@@ -277,81 +289,31 @@ impl SessionRun {
 
 // What a release begins with.
 fn release(alloc: Global, id: &Text) -> Result<Start, AllocError>
-    ensures { (c : Call) → IfOk result (StartsWith c (command.Release id.now)) }
+    ensures { (h : History) (c : Call) → IfOk result (StartsWith h c (command.Release id.now)) }
 {
     let refusal = no_checkpoint(alloc, id.as_str());
     let reply = cause_text(alloc, &refusal)?;
     Ok(Start::Begun(Task::Release(id.copy()?), Errand::Release(reply)))
 }
 
-// The bytes of the place that is kept for the reply.
-fn place_for(errand: &Errand) -> usize
-    ensures { HasPlace (Some result) (kept_for errand.now) }
+// What an `observe` begins with; or the reply where its path is beyond the limits.
+fn observe(alloc: Global, path: &Path, deep: bool, mask: u32) -> Result<Start, AllocError>
+    ensures { (h : History) (c : Call)
+        → IfOk result (StartsWith h c (command.Observe path.now deep mask)) }
 {
-    match errand {
-        Errand::Checkpoint(text) => text.len().max(VECTOR_REPLY_BYTES),
-        Errand::Release(text) => text.len().max(VECTOR_REPLY_BYTES),
-        _ => VECTOR_REPLY_BYTES,
+    match check_limits(alloc, path) {
+        Ok(()) => begin_observing(path, deep, mask),
+        Err(refusal) => Ok(Start::Said(cause_text(alloc, &refusal)?)),
     }
 }
 
-// What a step of a task came to.
-fn errand_came(answer: StepOut) -> Came
-    requires { IsErrandAnswer answer }
-    ensures { result ≡ came_by answer }
+// What an `observe` begins with: its filter is kept.
+fn begin_observing(path: &Path, deep: bool, mask: u32) -> Result<Start, AllocError>
+    requires { limit_refusal path.now ≡ None }
+    ensures { (h : History) (c : Call)
+        → IfOk result (StartsWith h c (command.Observe path.now deep mask)) }
 {
-    let came = match &answer {
-        StepOut::Went(kind) => Came::Going(*kind),
-        StepOut::Ready(TaskEnd::Published(r)) => Came::Published(*r),
-        StepOut::Ready(TaskEnd::Learnt(v)) => Came::Learnt(*v),
-        StepOut::Ready(TaskEnd::Set(_)) => Came::Set,
-        StepOut::Ready(TaskEnd::NoCheckpoint) => Came::Missed,
-        StepOut::Memory => Came::Refused,
-        _ => unreachable!(),
-    };
-    drop(answer);
-    came
-}
-
-// How a task has ended.
-fn told_of(came: &Came, errand: Errand) -> Told
-    ensures { result ≡ told_by came.now errand }
-{
-    match came {
-        Came::Published(r) => Told::Published(*r),
-        Came::Learnt(v) => Told::Learnt(*v),
-        Came::Missed => missed(errand),
-        _ => set(errand),
-    }
-}
-
-// The settings were changed.
-fn set(errand: Errand) -> Told
-    ensures { result ≡ told_by came.Set errand }
-{
-    match errand {
-        Errand::Checkpoint(text) => Told::Text(text),
-        _ => Told::Done,
-    }
-}
-
-// The settings have no such checkpoint.
-fn missed(errand: Errand) -> Told
-    ensures { result ≡ told_by came.Missed errand }
-{
-    match errand {
-        Errand::Release(text) => Told::Text(text),
-        _ => Told::Done,
-    }
-}
-
-// The kind of the step with which a task ended.
-fn kind_told(came: &Came) -> StepKind
-    ensures { result ≡ kind_told came.now }
-{
-    match came {
-        Came::Published(_) => StepKind::Back,
-        Came::Learnt(_) => StepKind::Learn,
-        _ => StepKind::Settings,
-    }
+    let path = path.copy()?;
+    let filter = Filter { path, deep, mask };
+    Ok(Start::Begun(Task::Observe, Errand::Observe(filter)))
 }

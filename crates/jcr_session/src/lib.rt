@@ -10,11 +10,11 @@ mod ends;
 mod errand;
 mod laws;
 mod limits;
+mod moves;
 mod next;
 mod read;
 mod run;
 mod say;
-mod shown;
 mod turn;
 
 pub use laws::bases_move_for_their_commands;

@@ -24,6 +24,14 @@ pub(crate) enum Due {
     Commit,
     // Background work is done, or a checkpoint is made or released.
     Errand,
+    // The session attaches to a checkpoint: the base moves there.
+    Attach,
+    // The session leaves its checkpoint: the base moves to the head.
+    Detach,
+    // Its cursor over the changes is set at the base.
+    Observe,
+    // What changed since its cursor is shown.
+    Events,
     // Another command is answered by the view.
     See,
 }
@@ -35,7 +43,7 @@ impl SessionRun {
     {
         match self.commands.as_slice().get(self.index as usize) {
             None => Due::Leave,
-            Some(command) => due_to(command),
+            Some(command) => due_to(self.attached, command),
         }
     }
 
@@ -50,11 +58,11 @@ impl SessionRun {
     }
 }
 
-// What is to be done for a command.
-fn due_to(command: &Command) -> Due
-    ensures { result ≡ due_to command.now }
+// What is to be done for a command of a session that is attached to a checkpoint, or isn't.
+fn due_to(attached: bool, command: &Command) -> Due
+    ensures { result ≡ due_to attached command.now }
 {
-    if !is_allowed(false, command) {
+    if !is_allowed(attached, command) {
         return Due::Bar;
     }
     due_by(command)
@@ -72,6 +80,10 @@ fn due_by(command: &Command) -> Due
         Command::BackRead => Due::Errand,
         Command::Checkpoint => Due::Errand,
         Command::Release(_) => Due::Errand,
+        Command::Attach(_) => Due::Attach,
+        Command::Detach => Due::Detach,
+        Command::Observe(_, _, _) => Due::Observe,
+        Command::Events => Due::Events,
         _ => {
             if commits(command) {
                 Due::Commit
@@ -82,9 +94,13 @@ fn due_by(command: &Command) -> Due
     }
 }
 
-// Whether what is to be done may ask for nodes of the tree at the base, or for what is pending.
+// Whether what is to be done may ask for nodes of the tree at the base, for what is pending there, or
+// for what changed.
 fn reads_for(due: Due) -> bool
     ensures { result ≡ reads_for due }
 {
-    matches!(due, Due::Refresh | Due::Query | Due::Commit | Due::See)
+    !matches!(
+        due,
+        Due::Leave | Due::Bar | Due::ShowBase | Due::Errand | Due::Observe
+    )
 }

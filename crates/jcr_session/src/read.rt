@@ -1,47 +1,40 @@
-// How a session reads what its next command asks of the tree at its base.
-ghost use Rattle.std.specs.Prelude.{◌≡◌, ◌≤◌, IfOk, IfSome, IsTrue, None, OnErr, Some};
+// How a session reads what its next command asks of the tree at its base, and what changed.
+ghost use Rattle.std.specs.Prelude.{◌≡◌, ◌≤◌, ◌&&◌, IfOk, IfSome, IsFalse, IsTrue, None, OnErr, Some, cond, is_none, is_some, option_map};
 ghost use Rattle.oak_port.specs.Ports.{Starting};
 ghost use Rattle.jcr_view.specs.Rounds.{is_of_one_node};
 ghost use Rattle.jr_part.specs.declared.need.Need.TheVariants as need;
-ghost use Rattle.jcr_session.specs.Answered.{IsListAnswer, IsLoadAnswer, listed_by, loaded_by};
 ghost use Rattle.jcr_law.specs.State.{Call};
+ghost use Rattle.jcr_law.specs.declared.state.Cursor.{Cursor as Standing};
 ghost use Rattle.jcr_held.specs.Holds.{Holds};
 ghost use Rattle.jcr_session.specs.Nearing.{EndsSooner, HasNeared, unread_of};
-ghost use Rattle.jcr_session.specs.Standing.{HasLooked, HasRead, IsCalled, IsReading, IsReadyNext, IsRefused, IsWantedNext, Stands, may_read};
+ghost use Rattle.jcr_session.specs.Standing.{HasLooked, HasRead, IsCalled, IsFetchFor, IsOneFetch, IsReading, IsReadyNext, IsRefused, IsWantedNext, Stands, due_for, is_events, may_read};
+ghost use Rattle.jcr_session.specs.declared.read.Fetch.TheVariants as fetch;
 
+use crate::next::Due;
 use crate::run::SessionRun;
 use jcr_law::JcrLaw;
+use jcr_steps::{Changed, Listed, Loaded, changes_came, list_came, load_came};
 use jr_part::Need;
-use jr_path::{DeepCopy, List, Name, Path};
-use jr_rev::Revision;
-use jr_tree::Node;
-use oak_port::{Port, StepOut, Task, TaskEnd};
+use jr_path::{DeepCopy, Path};
+use jr_rev::RevVec;
+use oak_port::{Port, Task};
 use std::alloc::AllocError;
 use std::mem;
 
-// What a step of reading a node came to: its task goes on, the node was found, or not, or memory
-// was refused.
+// What is being read.
 #[derive(Drop)]
-enum Loaded {
-    Going,
-    Found(Option<Node>),
-    Refused,
-}
-
-// What a step of reading the names of the children of a node came to: its task goes on, they are
-// these, each with the revision that added the child, or memory was refused.
-#[derive(Drop)]
-enum Listed {
-    Going,
-    Names(List<(Name, Option<Revision>)>),
-    Refused,
+pub(crate) enum Fetch {
+    // A node of the tree at the base, or the names of the children of one.
+    Tree(Need),
+    // What changed since this vector, which is that of the cursor.
+    Changes(RevVec),
 }
 
 impl SessionRun {
-    /// Makes one step of reading the tree at the base, where one is due, and tells whether it did:
-    /// then the next command asks for more than is read. The step begins to read a node or the
-    /// names of its children, or brings what is being read nearer. Where memory is refused, nothing
-    /// is being read any more; what was read stays.
+    /// Makes one step of reading the tree at the base, or what changed, where one is due, and tells
+    /// whether it did: then the next command asks for more than is read. The step begins to read a
+    /// node, the names of its children, or what changed, or brings what is being read nearer. Where
+    /// memory is refused, nothing is being read any more; what was read stays.
     pub fn read<P: Port<L = JcrLaw>>(&mut self, port: &mut P) -> Result<bool, AllocError>
         requires stands { Stands (P.law port.old) (P.shown port.old) self.old }
         ensures law { P.law port.new ≡ P.law port.old }
@@ -59,7 +52,7 @@ impl SessionRun {
             return Ok(false);
         }
         match mem::replace(&mut self.fetch, None) {
-            Some(need) => self.read_on(port, need),
+            Some(fetch) => self.read_on(port, fetch),
             None => self.read_next(port),
         }
     }
@@ -78,21 +71,73 @@ impl SessionRun {
         ensures nears { IfOk result (λ made. IsTrue made → HasNeared ⊥
             (P.law port.old) (P.shown port.old) self.old self.new) }
     {
-        match self.next_load()? {
-            Some(need) => self.read_first(port, need),
+        match self.next_fetch()? {
+            Some(fetch) => self.read_first(port, fetch),
             None => Ok(false),
         }
     }
 
     // What is to be read next for the next command.
+    fn next_fetch(&mut self) -> Result<Option<Fetch>, AllocError>
+        requires reads { IsTrue (may_read self.old) }
+        ensures same { self.new ≡ record self.old { held = self.new.held } }
+        ensures ready { IfOk result (λ load. load ≡ None → IsReadyNext self.new) }
+        ensures one { IfOk result (λ load. IfSome load IsOneFetch) }
+        ensures suits { IfOk result (IsFetchFor self.new) }
+        ensures holds { (c : Call) → Holds c self.old.held → Holds c self.new.held }
+        ensures wanted { IfOk result (λ load. (c : Call) → Holds c self.old.held
+            → IsWantedNext c (record self.new { fetch = load })) }
+        ensures fewer { (c : Call) → Holds c self.old.held
+            → unread_of c self.new ≤ unread_of c self.old }
+    {
+        match self.due() {
+            Due::Events => Ok(self.next_changes()),
+            _ => self.next_tree(),
+        }
+    }
+
+    // What is to be read for `events`: what changed since the cursor, where it lacks.
+    fn next_changes(&self) -> Option<Fetch>
+        ensures { result ≡ cond (is_some self.now.held.cursor && is_none self.now.changes)
+            (option_map (λ (x : Standing). fetch.Changes x.at) self.now.held.cursor) None }
+    {
+        if self.changes.is_some() {
+            return None;
+        }
+        match self.held.cursor() {
+            Some(cursor) => Some(Fetch::Changes(cursor.at)),
+            None => None,
+        }
+    }
+
+    // What is to be read next of the tree for the next command, which isn't `events`.
+    fn next_tree(&mut self) -> Result<Option<Fetch>, AllocError>
+        requires reads { IsTrue (may_read self.old) }
+        requires tree { IsFalse (is_events (due_for self.old)) }
+        ensures same { self.new ≡ record self.old { held = self.new.held } }
+        ensures ready { IfOk result (λ load. load ≡ None → IsReadyNext self.new) }
+        ensures one { IfOk result (λ load. IfSome load IsOneFetch) }
+        ensures suits { IfOk result (IsFetchFor self.new) }
+        ensures holds { (c : Call) → Holds c self.old.held → Holds c self.new.held }
+        ensures wanted { IfOk result (λ load. (c : Call) → Holds c self.old.held
+            → IsWantedNext c (record self.new { fetch = load })) }
+        ensures fewer { (c : Call) → Holds c self.old.held
+            → unread_of c self.new ≤ unread_of c self.old }
+    {
+        let load = self.next_load()?;
+        Ok(of_tree(load))
+    }
+
+    // What is to be read next of the tree.
     fn next_load(&mut self) -> Result<Option<Need>, AllocError>
         requires reads { IsTrue (may_read self.old) }
+        requires tree { IsFalse (is_events (due_for self.old)) }
         ensures same { self.new ≡ record self.old { held = self.new.held } }
         ensures ready { IfOk result (λ load. load ≡ None → IsReadyNext self.new) }
         ensures one { IfOk result (λ load. IfSome load (λ n. IsTrue (is_of_one_node n))) }
         ensures holds { (c : Call) → Holds c self.old.held → Holds c self.new.held }
         ensures wanted { IfOk result (λ load. (c : Call) → Holds c self.old.held
-            → IsWantedNext c (record self.new { fetch = load })) }
+            → IsWantedNext c (record self.new { fetch = option_map fetch.Tree load })) }
         ensures fewer { (c : Call) → Holds c self.old.held
             → unread_of c self.new ≤ unread_of c self.old }
     {
@@ -112,14 +157,15 @@ impl SessionRun {
     fn read_first<P: Port<L = JcrLaw>>(
         &mut self,
         port: &mut P,
-        need: Need,
+        fetch: Fetch,
     ) -> Result<bool, AllocError>
         requires stands { Stands (P.law port.old) (P.shown port.old) self.old }
         requires reads { IsTrue (may_read self.old) }
         requires none { self.old.fetch ≡ None }
-        requires one { IsTrue (is_of_one_node need) }
+        requires one { IsOneFetch fetch }
+        requires suits { IsFetchFor self.old (Some fetch) }
         requires wanted { (c : Call) → IsCalled (P.law port.old) (P.shown port.old) c
-            → IsWantedNext c (record self.old { fetch = Some need }) }
+            → IsWantedNext c (record self.old { fetch = Some fetch }) }
         ensures law { P.law port.new ≡ P.law port.old }
         ensures looked { HasLooked (P.law port.old) (P.shown port.old) (P.shown port.new)
             self.old self.new }
@@ -128,26 +174,56 @@ impl SessionRun {
         ensures nears { IfOk result (λ made. HasNeared ⊥
             (P.law port.old) (P.shown port.old) self.old self.new) }
     {
-        let task = task_of(&need)?;
+        let task = task_of(&fetch)?;
         port.start(task)?;
-        self.read_on(port, need)
+        self.read_on(port, fetch)
     }
 
     // Makes a step of reading.
-    fn read_on<P: Port<L = JcrLaw>>(&mut self, port: &mut P, need: Need) -> Result<bool, AllocError>
+    fn read_on<P: Port<L = JcrLaw>>(
+        &mut self,
+        port: &mut P,
+        fetch: Fetch,
+    ) -> Result<bool, AllocError>
         requires stands { Stands (P.law port.old) (P.shown port.old)
-            (record self.old { fetch = Some need }) }
+            (record self.old { fetch = Some fetch }) }
         requires reads { IsTrue (may_read self.old) }
         requires none { self.old.fetch ≡ None }
         ensures law { P.law port.new ≡ P.law port.old }
         ensures looked { HasLooked (P.law port.old) (P.shown port.old) (P.shown port.new)
-            (record self.old { fetch = Some need }) self.new }
+            (record self.old { fetch = Some fetch }) self.new }
         ensures made { IfOk result IsTrue }
         ensures err { OnErr result (IsRefused (P.shown port.new) self.new) }
         ensures nears { IfOk result (λ made. HasNeared
             (EndsSooner (P.left port.old) (P.left port.new) (P.shown port.old))
             (P.law port.old) (P.shown port.old)
-            (record self.old { fetch = Some need }) self.new) }
+            (record self.old { fetch = Some fetch }) self.new) }
+    {
+        match fetch {
+            Fetch::Tree(need) => self.read_tree(port, need),
+            Fetch::Changes(since) => self.read_changes(port, &since),
+        }
+    }
+
+    // Makes a step of reading the tree at the base.
+    fn read_tree<P: Port<L = JcrLaw>>(
+        &mut self,
+        port: &mut P,
+        need: Need,
+    ) -> Result<bool, AllocError>
+        requires stands { Stands (P.law port.old) (P.shown port.old)
+            (record self.old { fetch = Some (fetch.Tree need) }) }
+        requires reads { IsTrue (may_read self.old) }
+        requires none { self.old.fetch ≡ None }
+        ensures law { P.law port.new ≡ P.law port.old }
+        ensures looked { HasLooked (P.law port.old) (P.shown port.old) (P.shown port.new)
+            (record self.old { fetch = Some (fetch.Tree need) }) self.new }
+        ensures made { IfOk result IsTrue }
+        ensures err { OnErr result (IsRefused (P.shown port.new) self.new) }
+        ensures nears { IfOk result (λ made. HasNeared
+            (EndsSooner (P.left port.old) (P.left port.new) (P.shown port.old))
+            (P.law port.old) (P.shown port.old)
+            (record self.old { fetch = Some (fetch.Tree need) }) self.new) }
     {
         match need {
             Need::Node(path) => self.read_node(port, path),
@@ -163,22 +239,22 @@ impl SessionRun {
         path: Path,
     ) -> Result<bool, AllocError>
         requires stands { Stands (P.law port.old) (P.shown port.old)
-            (record self.old { fetch = Some (need.Node path) }) }
+            (record self.old { fetch = Some (fetch.Tree (need.Node path)) }) }
         requires reads { IsTrue (may_read self.old) }
         requires none { self.old.fetch ≡ None }
         ensures law { P.law port.new ≡ P.law port.old }
         ensures looked { HasLooked (P.law port.old) (P.shown port.old) (P.shown port.new)
-            (record self.old { fetch = Some (need.Node path) }) self.new }
+            (record self.old { fetch = Some (fetch.Tree (need.Node path)) }) self.new }
         ensures made { IfOk result IsTrue }
         ensures err { OnErr result (IsRefused (P.shown port.new) self.new) }
         ensures nears { IfOk result (λ made. HasNeared
             (EndsSooner (P.left port.old) (P.left port.new) (P.shown port.old))
             (P.law port.old) (P.shown port.old)
-            (record self.old { fetch = Some (need.Node path) }) self.new) }
+            (record self.old { fetch = Some (fetch.Tree (need.Node path)) }) self.new) }
     {
         match load_came(port.step()) {
             Loaded::Going => {
-                self.fetch = Some(Need::Node(path));
+                self.fetch = Some(Fetch::Tree(Need::Node(path)));
                 Ok(true)
             }
             Loaded::Found(node) => {
@@ -196,22 +272,22 @@ impl SessionRun {
         path: Path,
     ) -> Result<bool, AllocError>
         requires stands { Stands (P.law port.old) (P.shown port.old)
-            (record self.old { fetch = Some (need.Children path) }) }
+            (record self.old { fetch = Some (fetch.Tree (need.Children path)) }) }
         requires reads { IsTrue (may_read self.old) }
         requires none { self.old.fetch ≡ None }
         ensures law { P.law port.new ≡ P.law port.old }
         ensures looked { HasLooked (P.law port.old) (P.shown port.old) (P.shown port.new)
-            (record self.old { fetch = Some (need.Children path) }) self.new }
+            (record self.old { fetch = Some (fetch.Tree (need.Children path)) }) self.new }
         ensures made { IfOk result IsTrue }
         ensures err { OnErr result (IsRefused (P.shown port.new) self.new) }
         ensures nears { IfOk result (λ made. HasNeared
             (EndsSooner (P.left port.old) (P.left port.new) (P.shown port.old))
             (P.law port.old) (P.shown port.old)
-            (record self.old { fetch = Some (need.Children path) }) self.new) }
+            (record self.old { fetch = Some (fetch.Tree (need.Children path)) }) self.new) }
     {
         match list_came(port.step()) {
             Listed::Going => {
-                self.fetch = Some(Need::Children(path));
+                self.fetch = Some(Fetch::Tree(Need::Children(path)));
                 Ok(true)
             }
             Listed::Names(names) => {
@@ -221,42 +297,60 @@ impl SessionRun {
             Listed::Refused => Err(AllocError),
         }
     }
-}
 
-// The task that reads what is asked of one node.
-fn task_of(need: &Need) -> Result<Task, AllocError>
-    requires { IsTrue (is_of_one_node need.now) }
-    ensures { IfOk result (λ task. IsReading (Starting task) (Some need.now)) }
-{
-    match need {
-        Need::Node(path) => Ok(Task::Load(path.copy()?)),
-        Need::Children(path) => Ok(Task::List(path.copy()?)),
-        _ => unreachable!(),
+    // A step of reading what changed since a vector.
+    fn read_changes<P: Port<L = JcrLaw>>(
+        &mut self,
+        port: &mut P,
+        since: &RevVec,
+    ) -> Result<bool, AllocError>
+        requires stands { Stands (P.law port.old) (P.shown port.old)
+            (record self.old { fetch = Some (fetch.Changes since.now) }) }
+        requires reads { IsTrue (may_read self.old) }
+        requires none { self.old.fetch ≡ None }
+        ensures law { P.law port.new ≡ P.law port.old }
+        ensures looked { HasLooked (P.law port.old) (P.shown port.old) (P.shown port.new)
+            (record self.old { fetch = Some (fetch.Changes since.now) }) self.new }
+        ensures made { IfOk result IsTrue }
+        ensures err { OnErr result (IsRefused (P.shown port.new) self.new) }
+        ensures nears { IfOk result (λ made. HasNeared
+            (EndsSooner (P.left port.old) (P.left port.new) (P.shown port.old))
+            (P.law port.old) (P.shown port.old)
+            (record self.old { fetch = Some (fetch.Changes since.now) }) self.new) }
+    {
+        match changes_came(port.step()) {
+            Changed::Going => {
+                self.fetch = Some(Fetch::Changes(*since));
+                Ok(true)
+            }
+            Changed::Commits(commits) => {
+                self.changes = Some(commits);
+                Ok(true)
+            }
+            Changed::Refused => Err(AllocError),
+        }
     }
 }
 
-// What a step of reading a node came to.
-fn load_came(answer: StepOut) -> Loaded
-    requires { IsLoadAnswer answer }
-    ensures { result ≡ loaded_by answer }
+// What is to be read of the tree, where something is.
+fn of_tree(load: Option<Need>) -> Option<Fetch>
+    ensures { result ≡ option_map fetch.Tree load }
 {
-    match answer {
-        StepOut::Went(_) => Loaded::Going,
-        StepOut::Ready(TaskEnd::Node(found)) => Loaded::Found(found),
-        StepOut::Memory => Loaded::Refused,
-        _ => unreachable!(),
+    match load {
+        Some(need) => Some(Fetch::Tree(need)),
+        None => None,
     }
 }
 
-// What a step of reading the names of the children of a node came to.
-fn list_came(answer: StepOut) -> Listed
-    requires { IsListAnswer answer }
-    ensures { result ≡ listed_by answer }
+// The task that reads that.
+fn task_of(fetch: &Fetch) -> Result<Task, AllocError>
+    requires { IsOneFetch fetch.now }
+    ensures { IfOk result (λ task. IsReading (Starting task) (Some fetch.now)) }
 {
-    match answer {
-        StepOut::Went(_) => Listed::Going,
-        StepOut::Ready(TaskEnd::Children(names)) => Listed::Names(names),
-        StepOut::Memory => Listed::Refused,
-        _ => unreachable!(),
+    match fetch {
+        Fetch::Tree(Need::Node(path)) => Ok(Task::Load(path.copy()?)),
+        Fetch::Tree(Need::Children(path)) => Ok(Task::List(path.copy()?)),
+        Fetch::Tree(_) => unreachable!(),
+        Fetch::Changes(since) => Ok(Task::Changes(*since)),
     }
 }

@@ -1,29 +1,26 @@
 // A session's turns: what it asks of its world, one counted step after another.
 ghost use Rattle.std.specs.Prelude.{◌≡◌, ◌≤◌, IfOk, IsTrue, IsFalse, is_some, length};
-ghost use Rattle.jcr_session.specs.Answered.{IsLeaveAnswer, IsPinAnswer, ended_by, pinned_by};
 ghost use Rattle.jcr_session.specs.Nearing.{ComesNearer, DrawsNoOther, EndsSooner, IsReply, ReadsOn, StepsOn, WorksSooner, turns_left};
-ghost use Rattle.oak_port.specs.Ports.{HasRoom};
 ghost use Rattle.jcr_session.specs.Standing.{HasCounted, HasTurned, IsGranted, IsNew, IsPrepared, Stands, due_for, has_begun, has_moved, is_committing, is_saving, is_working, may_read};
-ghost use Rattle.jcr_session.specs.declared.limits.TheConstants.{VECTOR_REPLY_BYTES};
 ghost use Rattle.jcr_session.specs.declared.next.Due.TheVariants as due;
 ghost use Rattle.jcr_session.specs.declared.run.Phase.TheVariants as phase;
 
 use crate::commit::Pledge;
-use crate::errand::{Errand, Told};
-use crate::limits::{MOST_COMMANDS, VECTOR_REPLY_BYTES};
+use crate::limits::MOST_COMMANDS;
 use crate::next::Due;
-use crate::shown::shown_vector;
+use crate::read::Fetch;
 use crate::turn::Turn;
 use jcr_held::Held;
 use jcr_law::JcrLaw;
+use jcr_steps::{Errand, Told, has_ended, pinned};
 use jcr_trans::{Command, vector_reply};
-use jr_part::Need;
 use jr_path::List;
-use jr_rev::{Pin, RevVec};
+use jr_rev::RevVec;
+use jr_tree::CommitChanges;
 use jr_types::Registry;
 use oak_commit::CommitEnd;
 use oak_machine::StepKind;
-use oak_port::{Port, StepOut, Task, TaskEnd};
+use oak_port::{Port, Task};
 use std::alloc::{AllocError, Global};
 
 /// A session of a script: its commands, of which it makes one after another, by steps of a world
@@ -37,8 +34,12 @@ pub struct SessionRun {
     pub(crate) phase: Phase,
     // What it holds of the tree at its base, and what is pending there.
     pub(crate) held: Held,
-    // What is being read: a node, or the names of the children of one.
-    pub(crate) fetch: Option<Need>,
+    // What is being read.
+    pub(crate) fetch: Option<Fetch>,
+    // What changed since its cursor, once that is read for its next command.
+    pub(crate) changes: Option<List<CommitChanges>>,
+    // Whether it was attached to a checkpoint when its next command began.
+    pub(crate) attached: bool,
 }
 
 // By hand, so that its parts are let go in one call.
@@ -52,11 +53,14 @@ impl Drop for SessionRun {
             phase,
             held,
             fetch,
+            changes,
+            attached: _,
         } = self;
         drop(commands);
         drop(phase);
         drop(held);
         drop(fetch);
+        drop(changes);
     }
 }
 
@@ -67,14 +71,17 @@ pub(crate) enum Phase {
     Outside,
     // It is between two of its commands, or before its end.
     Between,
-    // Its base moved to this vector for a refresh, which it has not answered yet; its reply has a
-    // place.
-    Refreshed(RevVec),
+    // Its base moved to this vector for its next command: a refresh, an attach or a detach, which
+    // it has not answered yet; its reply has a place.
+    Moved(RevVec),
+    // Its base moved for a detach, whose second step is to be made; its reply has a place.
+    Detaching,
     // It commits, and keeps this for its reply.
     Committing(Pledge),
     // Its commit has ended so, and it has not answered yet.
     Committed(CommitEnd, Pledge),
-    // A task of the cluster node or of the settings is under way; its reply has a place.
+    // A task of the cluster node, of the settings or of the cursor is under way; its reply has a
+    // place.
     Working(Errand),
     // That task has ended so, and it has not answered yet; its reply has a place.
     Told(Told),
@@ -104,6 +111,8 @@ impl SessionRun {
             phase: Phase::Outside,
             held,
             fetch: None,
+            changes: None,
+            attached: false,
         })
     }
 
@@ -112,12 +121,14 @@ impl SessionRun {
     /// so; where it is refused for the place of a reply, or for the login or the leave, the run
     /// ends. From the draw of a commit until its reply it never ends so, and draws no other: a
     /// commit that is made is answered. Nor does it end so once the base has moved for a refresh,
-    /// which is then accepted: a command that is answered by want of memory has left the base where
-    /// it stood. Nor does it end so once background work has begun, or a checkpoint is being made
-    /// or released (Oak, DocumentNodeStore: "Background operations", "Checkpoints"): they need
-    /// nothing of the tree, and what their replies need is made before their first step. The
-    /// counted steps of a command are made in the order of its stages. A counted step and a reply
-    /// bring the session nearer to its end, a reading step to what its next command asks for.
+    /// an attach or a detach: a command that is answered by want of memory has left the base where
+    /// it stood, but that a detach that is refused memory for its second step has moved it to the
+    /// head. Nor does it end so once background work has begun, or a checkpoint is being made or
+    /// released (Oak, DocumentNodeStore: "Background operations", "Checkpoints"), or once the cursor
+    /// has moved (JSR 283, 12 Observation): they need nothing of the tree, and what their replies
+    /// need is made before their first step. The counted steps of a command are made in the order of
+    /// its stages. A counted step and a reply bring the session nearer to its end, a reading step to
+    /// what its next command asks for.
     pub fn turn<P: Port<L = JcrLaw>>(&mut self, port: &mut P) -> Turn
         requires stands { Stands (P.law port.old) (P.shown port.old) self.old }
         ensures law { P.law port.new ≡ P.law port.old }
@@ -145,7 +156,7 @@ impl SessionRun {
         }
     }
 
-    /// Whether a node, or the names of the children of one, are being read.
+    /// Whether something is being read: a node, the names of the children of one, or what changed.
     pub fn is_reading(&self) -> bool
         ensures { result ≡ is_some self.now.fetch }
     {
@@ -156,7 +167,10 @@ impl SessionRun {
     pub fn is_working(&self) -> bool
         ensures { result ≡ is_working self.now.phase }
     {
-        matches!(self.phase, Phase::Committing(_) | Phase::Working(_))
+        matches!(
+            self.phase,
+            Phase::Committing(_) | Phase::Working(_) | Phase::Detaching
+        )
     }
 
     /// Whether a commit of the session is under way.
@@ -185,10 +199,11 @@ impl SessionRun {
         match &self.phase {
             Phase::Outside => self.log_in(port),
             Phase::Between => self.rest(port),
-            Phase::Refreshed(v) => {
+            Phase::Moved(v) => {
                 let vector = *v;
                 self.say_vector(port, vector)
             }
+            Phase::Detaching => self.detach_on(port),
             Phase::Committing(_) => self.commit_on(port),
             Phase::Committed(_, _) => self.say_end(port),
             Phase::Working(_) => self.work_on(port),
@@ -234,6 +249,7 @@ impl SessionRun {
             Due::Bar => self.bar(port),
             Due::ShowBase => self.show_base(port),
             Due::Errand => self.set_out(port),
+            Due::Observe => self.set_out(port),
             _ => unreachable!(),
         }
     }
@@ -250,6 +266,9 @@ impl SessionRun {
     {
         match self.due() {
             Due::Refresh => self.refresh(port),
+            Due::Attach => self.attach(port),
+            Due::Detach => self.detach(port),
+            Due::Events => self.set_out(port),
             Due::Query => self.query(port),
             Due::Commit => self.commit(port),
             Due::See => self.see(port),
@@ -290,91 +309,4 @@ impl SessionRun {
         let text = vector_reply(self.alloc, &self.held.base());
         self.say_settled(port, text)
     }
-
-    // Keeps the place of the reply to a refresh, and moves the base. Where memory is refused, the
-    // base stays.
-    fn refresh<P: Port<L = JcrLaw>>(&mut self, port: &mut P) -> Turn
-        requires stands { Stands (P.law port.old) (P.shown port.old) self.old }
-        requires between { self.old.phase ≡ phase.Between }
-        requires next { due_for self.old ≡ due.Refresh }
-        requires ready { IsPrepared self.old }
-        ensures law { P.law port.new ≡ P.law port.old }
-        ensures turned { HasCounted (P.law port.old) (P.shown port.old) (P.shown port.new)
-            self.old self.new result }
-        ensures steps { StepsOn ⊥ (turns_left self.old) (turns_left self.new) result }
-    {
-        match port.reserve_say(VECTOR_REPLY_BYTES) {
-            Ok(()) => self.move_base(port),
-            Err(AllocError) => self.say_memory(port),
-        }
-    }
-
-    // Moves the base to the head. What is pending is kept until the reply, which has a place.
-    fn move_base<P: Port<L = JcrLaw>>(&mut self, port: &mut P) -> Turn
-        requires stands { Stands (P.law port.old) (P.shown port.old) self.old }
-        requires between { self.old.phase ≡ phase.Between }
-        requires next { due_for self.old ≡ due.Refresh }
-        requires ready { IsPrepared self.old }
-        requires place { HasRoom (P.shown port.old).room VECTOR_REPLY_BYTES }
-        ensures law { P.law port.new ≡ P.law port.old }
-        ensures turned { HasCounted (P.law port.old) (P.shown port.old) (P.shown port.new)
-            self.old self.new result }
-        ensures granted { IsGranted result }
-        ensures steps { StepsOn ⊥ (turns_left self.old) (turns_left self.new) result }
-    {
-        match port.start(Task::Refresh) {
-            Err(AllocError) => self.forgo(port, false),
-            Ok(()) => match pinned(port.step()) {
-                Some(pin) => {
-                    self.held.move_to(pin.base);
-                    self.phase = Phase::Refreshed(pin.base);
-                    Turn::Stepped(StepKind::Pin)
-                }
-                None => self.forgo(port, false),
-            },
-        }
-    }
-
-    // Shows the vector to which the base moved, without memory.
-    fn say_vector<P: Port<L = JcrLaw>>(&mut self, port: &mut P, vector: RevVec) -> Turn
-        requires stands { Stands (P.law port.old) (P.shown port.old) self.old }
-        requires refreshed { self.old.phase ≡ phase.Refreshed vector }
-        ensures law { P.law port.new ≡ P.law port.old }
-        ensures turned { HasCounted (P.law port.old) (P.shown port.old) (P.shown port.new)
-            self.old self.new result }
-        ensures granted { IsGranted result }
-        ensures said { IsReply result }
-    {
-        let text = shown_vector(&vector);
-        self.accept(false, None);
-        self.say_kept(port, text.as_str())
-    }
-}
-
-// The pin with which a login or a refresh ended; None where memory was refused.
-fn pinned(answer: StepOut) -> Option<Pin>
-    requires { IsPinAnswer answer }
-    ensures { result ≡ pinned_by answer }
-{
-    let pin = match &answer {
-        StepOut::Ready(TaskEnd::Pinned(pin)) => Some(*pin),
-        StepOut::Memory => None,
-        _ => unreachable!(),
-    };
-    drop(answer);
-    pin
-}
-
-// Whether a leave has ended; else memory was refused.
-fn has_ended(answer: StepOut) -> bool
-    requires { IsLeaveAnswer answer }
-    ensures { result ≡ ended_by answer }
-{
-    let has_ended = match &answer {
-        StepOut::Ready(TaskEnd::Ended) => true,
-        StepOut::Memory => false,
-        _ => unreachable!(),
-    };
-    drop(answer);
-    has_ended
 }

@@ -1,13 +1,13 @@
 // What a session answers.
-ghost use Rattle.std.specs.Prelude.{◌≡◌, IfOk, IsSome, None, OnErr, false, length, slice_get, string_bytes, true};
+ghost use Rattle.std.specs.Prelude.{◌≡◌, IfOk, IsSome, None, OnErr, false, length, slice_get, string_bytes, true, ⊤};
 ghost use Rattle.oak_port.specs.Ports.{HasRoom};
 ghost use Rattle.jcr_law.specs.State.{is_ok_text};
 ghost use Rattle.jcr_trans.specs.Texts.{memory_text};
 ghost use Rattle.jcr_held.specs.Holds.{IsReady};
-ghost use Rattle.jcr_session.specs.Asked.{HasSeen, IsBarred, IsQueried, IsQueriedAs, IsUnviewedNext, MayAnswer, MayForgo, MaySettle, Settles};
+ghost use Rattle.jcr_session.specs.Asked.{HasSeen, IsBarred, IsQueried, IsQueriedAs, IsUnviewedNext, MayAnswer, MayForgo, MaySettle, ObservesNext, Settles, SettlesBy};
 ghost use Rattle.jcr_session.specs.Nearing.{IsReply};
 ghost use Rattle.jcr_session.specs.Standing.{HasCounted, IsGranted, IsPrepared, Stands, due_by, due_for};
-ghost use Rattle.jcr_session.specs.declared.limits.TheConstants.{COMMIT_REPLY_BYTES};
+ghost use Rattle.jcr_steps.specs.declared.limits.TheConstants.{COMMIT_REPLY_BYTES};
 ghost use Rattle.jcr_session.specs.declared.next.Due.TheVariants as due;
 ghost use Rattle.jcr_session.specs.declared.run.Phase.TheVariants as phase;
 
@@ -15,6 +15,7 @@ use crate::run::{Phase, SessionRun};
 use crate::turn::Turn;
 use jcr_call::cause_text;
 use jcr_law::JcrLaw;
+use jcr_observe::Filter;
 use jcr_trans::Command;
 use jr_items::unsupported;
 use jr_path::{List, Text};
@@ -223,6 +224,7 @@ impl SessionRun {
         port.say(index, text);
         self.index = index + 1;
         self.phase = Phase::Between;
+        self.changes = None;
         Turn::Said(index)
     }
 
@@ -252,6 +254,23 @@ impl SessionRun {
         } = self;
         match commands.as_slice().get(*index as usize) {
             Some(command) => held.accept(command, drew, tokens),
+            None => unreachable!(),
+        }
+    }
+
+    // The next command, which observes, is accepted with its filter.
+    pub(crate) fn observe(&mut self, filter: Filter)
+        requires { ObservesNext self.old filter }
+        ensures { SettlesBy (λ c m. ⊤) self.old self.new true false }
+    {
+        let SessionRun {
+            commands,
+            index,
+            held,
+            ..
+        } = self;
+        match commands.as_slice().get(*index as usize) {
+            Some(command) => held.observe(command, filter),
             None => unreachable!(),
         }
     }

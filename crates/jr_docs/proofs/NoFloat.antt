@@ -24,7 +24,7 @@ use Rattle.jr_value.specs.declared.value.Property.{Property}
 use Rattle.oak_doc.specs.declared.document.Document.{Document}
 use Rattle.oak_doc.specs.declared.document.PrevEntry.{PrevEntry}
 use Rattle.jr_docs.specs.Members.{Field, map_data, members_of_map, put_all, put_field, put_fields, unless_empty}
-use Rattle.jr_docs.specs.Documents.{collision_data, commit_data, document_data, fields_at, fields_of, listed_data, note_data, number_data, pin_data, prev_data, property_field, sweep_field, value_data}
+use Rattle.jr_docs.specs.Documents.{collision_data, commit_data, document_data, fields_at, fields_of, listed_data, note_data, number_data, pin_data, prev_data, property_field, sweep_field, held_data}
 
 neither : (a b : Bool) → (a || b) ≡ false → (a ≡ false) × (b ≡ false)
 neither true b h = absurd (false≢true (sym h))
@@ -63,7 +63,7 @@ plain_unless : {X : Type 0} (of_value : List X → Data) → ((xs : List X) → 
 plain_unless of_value plain [] = tt
 plain_unless of_value plain (x ∷ xs) = plain (x ∷ xs)
 
-plain_value : (x : Option Property) → has_float (value_data x) ≡ false
+plain_value : (x : Option Property) → has_float (held_data x) ≡ false
 plain_value None = refl
 plain_value (Some x) = property_plain x
 
@@ -73,7 +73,7 @@ plain_items p (e ∷ es) = plain_items p es
 
 plain_props : (ps : List (Name × List (Revision × Option Property))) → AllByRecursion (λ f. IsPlain f.1) (map property_field ps)
 plain_props [] = tt
-plain_props (p ∷ ps) = (plain_unless (map_data revision_text value_data) (plain_map revision_text value_data plain_value) p.1, plain_props ps)
+plain_props (p ∷ ps) = (plain_unless (map_data revision_text held_data) (plain_map revision_text held_data plain_value) p.1, plain_props ps)
 
 plain_sweep : (p : Path) (v : Entries) → IsPlain (sweep_field p v)
 plain_sweep [] v = plain_unless string (λ t. refl) (vector_text v)

@@ -17,7 +17,8 @@ use Rattle.jr_rev.specs.Vectors.{Entries}
 use Rattle.jr_value.specs.declared.value.Property.{Property}
 use Rattle.oak_doc.specs.declared.document.Document.{Document}
 use Rattle.oak_doc.specs.declared.document.PrevEntry.{PrevEntry}
-use Rattle.serde_json.specs.Data.{Data, null, boolean, number, string, array, object, unsigned, no_members}
+use Rattle.serde_json.specs.Data.{Data, null, boolean, number, string, array, object, unsigned}
+use Rattle.serde_json.specs.Data.{no_members}
 use Rattle.serde_json.specs.View.{items_of}
 use Rattle.serde_json.specs.Written.{compact_text}
 use Rattle.jr_docs.specs.Members.{Field, map_data, put_fields, unless_empty}
@@ -42,8 +43,8 @@ collision_data c =
     array (items_of (string (revision_text c.0) ∷ string (path_text (item_path c.1)) ∷ []))
 
 -- the value of a property, `null` where it has none
-abbrev pub value_data : Option Property → Data
-value_data x = option_map_or property_data x null
+abbrev pub held_data : Option Property → Data
+held_data x = option_map_or property_data x null
 
 -- a vector, then its sweep vector
 abbrev pub pin_data : Pin → Data
@@ -75,7 +76,7 @@ listed_data p es = array (items_of (map (prev_data p) es))
 
 -- the field of a property is named `p:` and its name
 abbrev pub property_field : Name × List (Revision × Option Property) → Field
-property_field e = (codes "p:" ++ e.0, by_revision value_data e.1)
+property_field e = (codes "p:" ++ e.0, by_revision held_data e.1)
 
 -- what the document of a node has beside its id and its number
 abbrev pub node_fields : Path → Document → List Field

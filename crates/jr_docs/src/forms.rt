@@ -5,7 +5,7 @@ ghost use Rattle.std.specs.String.{string_bytes};
 ghost use Rattle.serde_json.specs.Data.{Data, array, boolean, string};
 ghost use Rattle.serde_json.specs.View.{items_of, view};
 ghost use Rattle.jr_docs.specs.Documents.{collision_data, commit_data, note_data, number_data};
-ghost use Rattle.jr_docs.specs.Documents.{pin_data, value_data};
+ghost use Rattle.jr_docs.specs.Documents.{pin_data, held_data};
 ghost use Rattle.jr_path.specs.Ids.{path_text};
 ghost use Rattle.jr_path.specs.Names.{item_path};
 ghost use Rattle.jr_rev.specs.Texts.{revision_text, vector_text};
@@ -118,7 +118,7 @@ impl Form<(Revision, Item)> for Collision {
 pub struct Held;
 
 impl Form<Option<Property>> for Held {
-    ghost shown = { λ x. value_data x };
+    ghost shown = { λ x. held_data x };
 
     fn json(alloc: Global, value: &Option<Property>) -> Result<Json, AllocError> {
         match value {

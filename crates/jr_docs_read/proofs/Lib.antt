@@ -1,4 +1,14 @@
 pub mod Answered
+pub mod Built
+pub mod Entered
 pub mod Faults
+pub mod Found
+pub mod Ids
+pub mod Inserts
+pub mod Items
+pub mod Left
+pub mod Named
+pub mod Printed
+pub mod Properties
 pub mod Same
 pub mod Shallow

@@ -1,7 +1,6 @@
 -- Two values with one text are the same, where one of them has no float and isn't too deep to be read.
-use Rattle.std.proofs.Common.{◌≡◌, ◌≤◌, ◌+◌, ℕ, suc, max, false, List, [], ◌++◌, Option, Some, refl, sym, ap, subst, ◌∙◌, arith}
+use Rattle.std.proofs.Common.{◌≡◌, ◌≤◌, ◌+◌, ℕ, suc, false, List, [], ◌++◌, Some, refl, sym, ap, subst, ◌∙◌, arith}
 use Rattle.json.specs.Json as json
-use Rattle.json.specs.Lex.{tokens}
 use Rattle.json.specs.Tree as tree
 use Rattle.json.specs.Token.{Token}
 use Rattle.json.proofs.Printed.Trees.{value-json_tokens}

@@ -1,6 +1,6 @@
 -- The JSON of a document nests four deep at most.
-use Rattle.std.proofs.Common.{◌≡◌, ◌≤◌, ℕ, suc, max, List, [], ◌∷◌, ◌++◌, Option, None, Some, arith}
-use Rattle.std.specs.Prelude.{map, codes}
+use Rattle.std.proofs.Common.{◌≤◌, ℕ, suc, max, List, [], ◌∷◌, Option, None, Some, arith}
+use Rattle.std.specs.Prelude.{map}
 use Rattle.std.specs.declared.cmp.Ordering.{Ordering}
 use Rattle.std.specs.declared.cmp.Ordering.TheVariants.{Less, Equal, Greater}
 use Rattle.std.specs.Fmt.{decimal}
@@ -8,10 +8,10 @@ use Rattle.std.specs.List.{AllByRecursion}
 use Rattle.std.specs.Option.{option_map_or}
 use Rattle.std.specs.Ordering.{nat_cmp, match_ordering}
 use Rattle.std.specs.Cmp.Lexicographic.{slice_cmp}
-use Rattle.serde_json.specs.Data.{Data, Members, no_members, member, put, boolean, string, array, depth, items_depth, members_depth}
+use Rattle.serde_json.specs.Data.{Data, Members, no_members, member, put, boolean, string, depth, items_depth, members_depth}
 use Rattle.serde_json.specs.Read.{max_depth}
 use Rattle.serde_json.specs.View.{items_of}
-use Rattle.jr_json.specs.Json.{property_data, value_data as kind_data}
+use Rattle.jr_json.specs.Json.{value_data}
 use Rattle.jr_path.specs.declared.name.Name.{Name}
 use Rattle.jr_path.specs.declared.path.Path.{Path}
 use Rattle.jr_path.specs.declared.path.DocId.{DocId}
@@ -26,7 +26,7 @@ use Rattle.jr_value.specs.declared.value.Property.TheVariants.{Single, Many}
 use Rattle.oak_doc.specs.declared.document.Document.{Document}
 use Rattle.oak_doc.specs.declared.document.PrevEntry.{PrevEntry}
 use Rattle.jr_docs.specs.Members.{Field, map_data, members_of_map, put_all, put_field, put_fields, unless_empty}
-use Rattle.jr_docs.specs.Documents.{collision_data, commit_data, document_data, fields_at, fields_of, listed_data, note_data, number_data, pin_data, prev_data, property_field, sweep_field, value_data}
+use Rattle.jr_docs.specs.Documents.{collision_data, commit_data, document_data, fields_at, fields_of, listed_data, note_data, number_data, pin_data, prev_data, property_field, sweep_field, held_data}
 
 both : (a b n : ℕ) → a ≤ n → b ≤ n → max a b ≤ n
 both a b n h k = omega arith
@@ -73,7 +73,7 @@ unless_shallow : {X : Type 0} (of_value : List X → Data) → ((xs : List X) �
 unless_shallow of_value shallow [] = tt
 unless_shallow of_value shallow (x ∷ xs) = shallow (x ∷ xs)
 
-kind_shallow : (x : Value) → depth (kind_data x) ≤ 1
+kind_shallow : (x : Value) → depth (value_data x) ≤ 1
 kind_shallow (value.Str t) = omega arith
 kind_shallow (value.Binary bytes) = omega arith
 kind_shallow (value.Long n) = omega arith
@@ -85,18 +85,18 @@ kind_shallow (value.Reference id) = omega arith
 kind_shallow (value.WeakReference id) = omega arith
 kind_shallow (value.Uri t) = omega arith
 
-kinds_shallow : (xs : List Value) → items_depth (items_of (map kind_data xs)) ≤ 1
+kinds_shallow : (xs : List Value) → items_depth (items_of (map value_data xs)) ≤ 1
 kinds_shallow [] = omega arith
-kinds_shallow (x ∷ xs) = both (depth (kind_data x)) (items_depth (items_of (map kind_data xs))) 1 (kind_shallow x) (kinds_shallow xs)
+kinds_shallow (x ∷ xs) = both (depth (value_data x)) (items_depth (items_of (map value_data xs))) 1 (kind_shallow x) (kinds_shallow xs)
 
 more : (a m n : ℕ) → a ≤ m → m ≤ n → a ≤ n
 more a m n h k = omega arith
 
-value_shallow : (x : Option Property) → depth (value_data x) ≤ 2
+value_shallow : (x : Option Property) → depth (held_data x) ≤ 2
 value_shallow None = omega arith
-value_shallow (Some (Single x)) = more (depth (kind_data x)) 1 2 (kind_shallow x) (omega arith)
+value_shallow (Some (Single x)) = more (depth (value_data x)) 1 2 (kind_shallow x) (omega arith)
 value_shallow (Some (Many k [])) = omega arith
-value_shallow (Some (Many k (x ∷ xs))) = under (items_depth (items_of (map kind_data (x ∷ xs)))) 1 (kinds_shallow (x ∷ xs))
+value_shallow (Some (Many k (x ∷ xs))) = under (items_depth (items_of (map value_data (x ∷ xs)))) 1 (kinds_shallow (x ∷ xs))
 
 listed_shallow : (p : Path) (es : List PrevEntry) → items_depth (items_of (map (prev_data p) es)) ≤ 1
 listed_shallow p [] = omega arith
@@ -107,7 +107,7 @@ list_shallow p es = more (suc (items_depth (items_of (map (prev_data p) es)))) 2
 
 props_shallow : (ps : List (Name × List (Revision × Option Property))) → AllByRecursion (λ f. IsShallow f.1) (map property_field ps)
 props_shallow [] = tt
-props_shallow (p ∷ ps) = (unless_shallow (map_data revision_text value_data) (map_shallow revision_text value_data value_shallow) p.1, props_shallow ps)
+props_shallow (p ∷ ps) = (unless_shallow (map_data revision_text held_data) (map_shallow revision_text held_data value_shallow) p.1, props_shallow ps)
 
 sweep_shallow : (p : Path) (v : Entries) → IsShallow (sweep_field p v)
 sweep_shallow [] v = unless_shallow string (λ t. omega arith) (vector_text v)

@@ -1,11 +1,31 @@
 // The fields of a document from the members of its JSON.
-ghost use Rattle.std.specs.Prelude.{◌≡◌, Some};
-ghost use Rattle.serde_json.specs.Data.{Data};
+ghost use Rattle.std.specs.Prelude.{◌≡◌, ◌<◌, ◌^◌, ◌++◌, ℕ, All, List as Seq, Some, [], map};
+ghost use Rattle.std.specs.Prelude.{◌≢◌, ◌↔◌, IsTrue, Option, codes, false, filter};
+ghost use Rattle.std.specs.BTreeMap.{insert_entry};
+ghost use Rattle.std.specs.Option.{option_map};
+ghost use Rattle.serde_json.specs.Data.{Data, array, string};
 ghost use Rattle.serde_json.specs.Find.{get};
-ghost use Rattle.serde_json.specs.View.{view};
-ghost use Rattle.jr_docs_read.specs.Reading.{Reads};
+ghost use Rattle.serde_json.specs.View.{items_of, members_view, view};
+ghost use Rattle.jr_docs.specs.Documents.{document_data, held_data, listed_data, prev_data};
+ghost use Rattle.jr_docs.specs.Documents.{vector_field};
+ghost use Rattle.jr_docs.specs.Members.{map_data, unless_empty};
+ghost use Rattle.jr_docs_read.specs.Printed.{as_node, as_printed, has_entries, numbered, of_root};
+ghost use Rattle.jr_docs_read.specs.Ranges.{IsByRevision, IsHeldInRange, IsListedInRange};
+ghost use Rattle.jr_docs_read.specs.Ranges.{IsPathInRange, IsStorable, IsVectorInRange};
+ghost use Rattle.jr_docs_read.specs.Reading.{Obtains, is_property, printed_members};
+ghost use Rattle.jr_docs_read.specs.Reading.{with_commits, with_marks, with_vectors};
 ghost use Rattle.jr_path.specs.Grammar.{IsName};
+ghost use Rattle.jr_path.specs.Ids.{id_text};
+ghost use Rattle.jr_path.specs.Names.{name_cmp};
 ghost use Rattle.jr_path.specs.declared.name.Name.{Name};
+ghost use Rattle.jr_path.specs.declared.path.DocId.TheVariants as doc_id;
+ghost use Rattle.jr_path.specs.declared.path.Path.{Path};
+ghost use Rattle.jr_rev.specs.Texts.{revision_text};
+ghost use Rattle.jr_rev.specs.Vectors.{Entries, no_entries};
+ghost use Rattle.jr_rev.specs.declared.revision.Revision.{Revision};
+ghost use Rattle.jr_value.specs.declared.value.Property.{Property};
+ghost use Rattle.oak_doc.specs.declared.document.Document.{Document};
+ghost use Rattle.oak_doc.specs.declared.document.PrevEntry.{PrevEntry};
 
 use crate::DocFault;
 use crate::fault::fault_of;
@@ -23,7 +43,11 @@ use std::alloc::Global;
 pub type Props = Keyed<Name, Keyed<Revision, Option<Property>>>;
 
 /// Reads what the document of a node has.
-pub fn read_node(alloc: Global, json: &Json, document: &mut Document) -> Result<(), DocFault> {
+pub fn read_node(alloc: Global, json: &Json, document: &mut Document) -> Result<(), DocFault>
+    ensures { (d : Document) (p : Path) → IsStorable d → d.id ≡ doc_id.Node p
+        → document_data d ≡ view json.now → document.old ≡ numbered d.id d.mod_count
+        → Obtains (λ _. document.new ≡ as_printed d) result }
+{
     read_commits(alloc, json, document)?;
     read_marks(alloc, json, document)?;
     read_vectors(json, document)?;
@@ -31,30 +55,57 @@ pub fn read_node(alloc: Global, json: &Json, document: &mut Document) -> Result<
     read_properties(alloc, json, &mut document.props)
 }
 
-fn read_commits(alloc: Global, json: &Json, document: &mut Document) -> Result<(), DocFault> {
+fn read_commits(alloc: Global, json: &Json, document: &mut Document) -> Result<(), DocFault>
+    ensures { (d : Document) (p : Path) → IsStorable d → d.id ≡ doc_id.Node p
+        → document_data d ≡ view json.now → document.old.deleted ≡ []
+        → document.old.commit_root ≡ [] → document.old.revisions ≡ []
+        → Obtains (λ _. document.new ≡ with_commits d document.old) result }
+{
     read_map::<Revision, bool, Truth>(alloc, json.get("_deleted"), &mut document.deleted)?;
     read_map::<Revision, u32, Number>(alloc, json.get("_commitRoot"), &mut document.commit_root)?;
     read_map::<Revision, (), Committed>(alloc, json.get("_revisions"), &mut document.revisions)
 }
 
-fn read_marks(alloc: Global, json: &Json, document: &mut Document) -> Result<(), DocFault> {
+fn read_marks(alloc: Global, json: &Json, document: &mut Document) -> Result<(), DocFault>
+    ensures { (d : Document) (p : Path) → IsStorable d → d.id ≡ doc_id.Node p
+        → document_data d ≡ view json.now → document.old.collisions ≡ []
+        → document.old.touched ≡ [] → document.old.guard ≡ []
+        → Obtains (λ _. document.new ≡ with_marks d document.old) result }
+{
     read_map::<Revision, _, Collision>(alloc, json.get("_collisions"), &mut document.collisions)?;
     read_map::<Revision, (), Noted>(alloc, json.get("_touched"), &mut document.touched)?;
     read_map::<Revision, (), Noted>(alloc, json.get("_guard"), &mut document.guard)
 }
 
-fn read_vectors(json: &Json, document: &mut Document) -> Result<(), DocFault> {
+fn read_vectors(json: &Json, document: &mut Document) -> Result<(), DocFault>
+    ensures { (d : Document) (p : Path) → IsStorable d → d.id ≡ doc_id.Node p
+        → document_data d ≡ view json.now → document.old.id ≡ doc_id.Node p
+        → document.old.last_rev ≡ no_entries → document.old.sweep_rev ≡ no_entries
+        → Obtains (λ _. document.new ≡ with_vectors p d document.old) result }
+{
     read_vector_into(json.get("_lastRev"), &mut document.last_rev)?;
-    match &document.id {
-        DocId::Node(path) if path.depth() == 0 => {
-            read_vector_into(json.get("_sweepRev"), &mut document.sweep_rev)
-        }
-        _ => Ok(()),
+    if is_root(&document.id) {
+        return read_vector_into(json.get("_sweepRev"), &mut document.sweep_rev);
+    }
+    Ok(())
+}
+
+// Whether it is the id of the root's document.
+fn is_root(id: &DocId) -> bool
+    ensures { (p : Path) → id.now ≡ doc_id.Node p → IsTrue result ↔ (p ≡ []) }
+{
+    match id {
+        DocId::Node(path) => path.depth() == 0,
+        _ => false,
     }
 }
 
 // Reads a vector into a place, where there is one.
-fn read_vector_into(json: Option<&Json>, vector: &mut RevVec) -> Result<(), DocFault> {
+fn read_vector_into(json: Option<&Json>, vector: &mut RevVec) -> Result<(), DocFault>
+    ensures { (v : Entries) → IsVectorInRange v
+        → option_map (λ found. view found.now) json.entry ≡ vector_field v
+        → vector.old ≡ no_entries → Obtains (λ _. vector.new ≡ v) result }
+{
     if let Some(json) = json {
         *vector = vector_of(json)?;
     }
@@ -65,29 +116,54 @@ fn read_listed(
     alloc: Global,
     json: Option<&Json>,
     prev: &mut List<PrevEntry>,
-) -> Result<(), DocFault> {
+) -> Result<(), DocFault>
+    ensures { (p : Path) (es : Seq PrevEntry) → IsPathInRange p → All IsListedInRange es
+        → option_map (λ found. view found.now) json.entry ≡ unless_empty (listed_data p) es
+        → prev.old ≡ [] → Obtains (λ _. prev.new ≡ es) result }
+{
     match json {
         None => Ok(()),
-        Some(Json::Array(items)) => read_entries(alloc, items, prev),
-        Some(_) => Err(DocFault::NotADocument),
+        Some(json) => read_list(alloc, json, prev),
     }
 }
 
-fn read_entries(alloc: Global, items: &[Json], prev: &mut List<PrevEntry>) -> Result<(), DocFault> {
+fn read_list(alloc: Global, json: &Json, prev: &mut List<PrevEntry>) -> Result<(), DocFault>
+    ensures { (p : Path) (es : Seq PrevEntry) → IsPathInRange p → All IsListedInRange es
+        → listed_data p es ≡ view json.now
+        → Obtains (λ _. prev.new ≡ prev.old ++ es) result }
+{
+    match json {
+        Json::Array(items) => read_entries(alloc, items, prev),
+        _ => Err(DocFault::NotADocument),
+    }
+}
+
+fn read_entries(alloc: Global, items: &[Json], prev: &mut List<PrevEntry>) -> Result<(), DocFault>
+    ensures { (p : Path) (es : Seq PrevEntry) → IsPathInRange p → All IsListedInRange es
+        → listed_data p es ≡ array (items_of (map view items.now))
+        → Obtains (λ _. prev.new ≡ prev.old ++ es) result }
+{
     for item in items {
         prev.push(read_entry(alloc, item)?)?;
     }
     Ok(())
 }
 
-fn read_entry(alloc: Global, json: &Json) -> Result<PrevEntry, DocFault> {
+fn read_entry(alloc: Global, json: &Json) -> Result<PrevEntry, DocFault>
+    ensures { (p : Path) (e : PrevEntry) → IsPathInRange p → IsListedInRange e
+        → prev_data p e ≡ view json.now → Obtains (λ found. found ≡ e) result }
+{
     match json {
         Json::Array(items) => entry_of(alloc, items),
         _ => Err(DocFault::NotADocument),
     }
 }
 
-fn entry_of(alloc: Global, items: &[Json]) -> Result<PrevEntry, DocFault> {
+fn entry_of(alloc: Global, items: &[Json]) -> Result<PrevEntry, DocFault>
+    ensures { (p : Path) (e : PrevEntry) → IsPathInRange p → IsListedInRange e
+        → prev_data p e ≡ array (items_of (map view items.now))
+        → Obtains (λ found. found ≡ e) result }
+{
     match items {
         [id, high, low] => {
             let number = number_in_id(alloc, id)?;
@@ -100,7 +176,10 @@ fn entry_of(alloc: Global, items: &[Json]) -> Result<PrevEntry, DocFault> {
 }
 
 // The number in the id of a previous document.
-fn number_in_id(alloc: Global, json: &Json) -> Result<u64, DocFault> {
+fn number_in_id(alloc: Global, json: &Json) -> Result<u64, DocFault>
+    ensures { (n : ℕ) (p : Path) → n < 2 ^ 64 → IsPathInRange p
+        → string (id_text (doc_id.Prev n p)) ≡ view json.now → Obtains (λ found. found ≡ n) result }
+{
     let id = id_in(alloc, json)?;
     match &id {
         DocId::Prev(number, _) => Ok(*number),
@@ -109,12 +188,20 @@ fn number_in_id(alloc: Global, json: &Json) -> Result<u64, DocFault> {
 }
 
 /// Reads what a previous document has.
-pub fn read_prev(alloc: Global, json: &Json, document: &mut Document) -> Result<(), DocFault> {
+pub fn read_prev(alloc: Global, json: &Json, document: &mut Document) -> Result<(), DocFault>
+    ensures { (d : Document) (n : ℕ) (p : Path) → IsStorable d → d.id ≡ doc_id.Prev n p
+        → document_data d ≡ view json.now → document.old ≡ numbered d.id d.mod_count
+        → Obtains (λ _. document.new ≡ as_printed d) result }
+{
     read_map::<Revision, u32, Number>(alloc, json.get("_commitRoot"), &mut document.commit_root)?;
     read_properties(alloc, json, &mut document.props)
 }
 
-fn read_properties(alloc: Global, json: &Json, props: &mut Props) -> Result<(), DocFault> {
+fn read_properties(alloc: Global, json: &Json, props: &mut Props) -> Result<(), DocFault>
+    ensures { (d : Document) → IsStorable d → d.id ≢ doc_id.Settings
+        → document_data d ≡ view json.now → props.old ≡ []
+        → Obtains (λ _. props.new ≡ filter has_entries d.props) result }
+{
     match json {
         Json::Object(members) => read_members_of(alloc, members, props),
         _ => Err(DocFault::NotADocument),
@@ -126,7 +213,11 @@ fn read_members_of(
     alloc: Global,
     members: &Map<String, Json>,
     props: &mut Props,
-) -> Result<(), DocFault> {
+) -> Result<(), DocFault>
+    ensures { (d : Document) → IsStorable d → d.id ≢ doc_id.Settings
+        → printed_members d ≡ members_view members.now.entries → props.old ≡ []
+        → Obtains (λ _. props.new ≡ filter has_entries d.props) result }
+{
     for (name, value) in members {
         read_property(alloc, name.as_str(), value, props)?;
     }
@@ -139,14 +230,25 @@ fn read_property(
     member: &str,
     json: &Json,
     props: &mut Props,
-) -> Result<(), DocFault> {
+) -> Result<(), DocFault>
+    ensures complete { (n : Name) (es : Seq (Revision × Option Property)) → IsName n
+        → IsByRevision IsHeldInRange es → codes "p:" ++ n ≡ member.now
+        → map_data revision_text held_data es ≡ view json.now
+        → Obtains (λ _. props.new ≡ insert_entry name_cmp props.old n es) result }
+    ensures other { is_property member.now ≡ false
+        → Obtains (λ _. props.new ≡ props.old) result }
+{
     match member.strip_prefix("p:") {
         Some(name) => put_property(alloc, name, json, props),
         None => Ok(()),
     }
 }
 
-fn put_property(alloc: Global, name: &str, json: &Json, props: &mut Props) -> Result<(), DocFault> {
+fn put_property(alloc: Global, name: &str, json: &Json, props: &mut Props) -> Result<(), DocFault>
+    ensures { (es : Seq (Revision × Option Property)) → IsName name.now
+        → IsByRevision IsHeldInRange es → map_data revision_text held_data es ≡ view json.now
+        → Obtains (λ _. props.new ≡ insert_entry name_cmp props.old name.now es) result }
+{
     let name = read_name(alloc, name)?;
     let mut values = Keyed::new(alloc);
     read_object::<Revision, _, Held>(alloc, json, &mut values)?;
@@ -155,7 +257,7 @@ fn put_property(alloc: Global, name: &str, json: &Json, props: &mut Props) -> Re
 }
 
 fn read_name(alloc: Global, text: &str) -> Result<Name, DocFault>
-    ensures { (n : Name) → IsName n → n ≡ text.now → Reads (λ found. found ≡ n) result }
+    ensures { IsName text.now → Obtains (λ found. found ≡ text.now) result }
 {
     match Name::parse(alloc, text) {
         Ok(name) => Ok(name),
@@ -164,7 +266,11 @@ fn read_name(alloc: Global, text: &str) -> Result<Name, DocFault>
 }
 
 /// Reads what the document of the settings has.
-pub fn read_settings(alloc: Global, json: &Json, document: &mut Document) -> Result<(), DocFault> {
+pub fn read_settings(alloc: Global, json: &Json, document: &mut Document) -> Result<(), DocFault>
+    ensures { (d : Document) → IsStorable d → d.id ≡ doc_id.Settings
+        → document_data d ≡ view json.now → document.old ≡ numbered d.id d.mod_count
+        → Obtains (λ _. document.new ≡ as_printed d) result }
+{
     document.sessions = number_of(member(json, "_sessions")?)?;
     read_object::<_, _, Pair>(
         alloc,
@@ -177,7 +283,7 @@ pub fn read_settings(alloc: Global, json: &Json, document: &mut Document) -> Res
 /// What an object has at a name.
 pub fn member<'a>(json: &'a Json, name: &str) -> Result<&'a Json, DocFault>
     ensures { (d : Data) → get name.now (view json.now) ≡ Some d
-        → Reads (λ found. view found.now ≡ d) result }
+        → Obtains (λ found. view found.now ≡ d) result }
 {
     match json.get(name) {
         Some(found) => Ok(found),

@@ -1,12 +1,24 @@
 // How keys and values of the maps of a document are read.
-ghost use Rattle.std.specs.Prelude.{◌≡◌, ◌<◌, ◌^◌, ℕ, List as Seq};
+ghost use Rattle.std.specs.Prelude.{◌≡◌, ℕ, List as Seq, map};
+ghost use Rattle.std.proofs.lemmas.Map.Lookups.{exact_unsigned};
+ghost use Rattle.std.specs.declared.cmp.Ordering.TheVariants.{Equal};
 ghost use Rattle.std.specs.Fmt.{decimal};
-ghost use Rattle.serde_json.specs.View.{view};
-ghost use Rattle.jr_docs.specs.Documents.{number_data};
-ghost use Rattle.jr_docs_read.specs.Reading.{Reads};
+ghost use Rattle.serde_json.specs.Data.{Data, array, boolean};
+ghost use Rattle.serde_json.specs.View.{items_of, view};
+ghost use Rattle.jr_docs.proofs.Keys.{one_number, one_revision_text};
+ghost use Rattle.jr_docs.specs.Documents.{collision_data, commit_data, held_data, note_data};
+ghost use Rattle.jr_docs.specs.Documents.{number_data, pin_data};
+ghost use Rattle.jr_docs_read.specs.Ranges.{IsAny, IsHeldInRange, IsNodeCollision};
+ghost use Rattle.jr_docs_read.specs.Ranges.{IsPinInRange, IsShort};
+ghost use Rattle.jr_docs_read.specs.Reading.{Obtains};
 ghost use Rattle.jr_json.specs.Json.{property_data};
+ghost use Rattle.jr_path.proofs.Maps.{name_exact};
+ghost use Rattle.jr_path.specs.declared.path.Item.{Item};
+ghost use Rattle.jr_rev.proofs.Order.{revision_exact};
 ghost use Rattle.jr_rev.specs.Grammar.{FitsFields};
 ghost use Rattle.jr_rev.specs.Texts.{revision_text};
+ghost use Rattle.jr_rev.specs.declared.revision.Revision.{Revision};
+ghost use Rattle.jr_rev.specs.declared.vector.Pin.{Pin};
 ghost use Rattle.jr_value.specs.Ranges.{IsReadableProperty};
 ghost use Rattle.jr_value.specs.declared.value.Property.{Property};
 
@@ -26,13 +38,24 @@ pub trait Key: Ord {
     ghost fits: { Self → Type 0 };
 
     fn read(alloc: Global, bytes: &str) -> Result<Self, DocFault>
-        ensures { (k : Self) → fits k → text k ≡ bytes.now → Reads (λ found. found ≡ k) result };
+        ensures { (k : Self) → fits k → text k ≡ bytes.now
+            → Obtains (λ found. found ≡ k) result };
+
+    // Each text is that of one key.
+    ghost one_text: { (a b : Self) → fits a → fits b → text a ≡ text b → a ≡ b };
+
+    // Only equal keys tie.
+    ghost exact: { (a b : Self) → Self.Ord.cmp a b ≡ Equal → a ≡ b };
 }
 
 impl Key for Revision {
     ghost text = { λ r. revision_text r };
 
     ghost fits = { λ r. FitsFields r };
+
+    ghost one_text = { one_revision_text };
+
+    ghost exact = { revision_exact };
 
     fn read(_alloc: Global, bytes: &str) -> Result<Revision, DocFault> {
         read_revision(bytes)
@@ -42,7 +65,11 @@ impl Key for Revision {
 impl Key for Text {
     ghost text = { λ t. t };
 
-    ghost fits = { λ t. Unit {0} };
+    ghost fits = { λ t. IsAny t };
+
+    ghost one_text = { λ a b _ _ same. same };
+
+    ghost exact = { name_exact };
 
     fn read(alloc: Global, bytes: &str) -> Result<Text, DocFault> {
         Ok(Text::copy_of(alloc, bytes)?)
@@ -52,7 +79,11 @@ impl Key for Text {
 impl Key for u32 {
     ghost text = { λ n. decimal n };
 
-    ghost fits = { λ n. n < 2 ^ 32 };
+    ghost fits = { λ n. IsShort n };
+
+    ghost one_text = { one_number };
+
+    ghost exact = { exact_unsigned };
 
     fn read(_alloc: Global, bytes: &str) -> Result<u32, DocFault> {
         match bytes.parse::<u32>() {
@@ -64,13 +95,23 @@ impl Key for u32 {
 
 /// The form in which a value stands in a map.
 pub trait Form<V> {
-    fn read(alloc: Global, json: &Json) -> Result<V, DocFault>;
+    ghost shown: { V → Data };
+
+    ghost fits: { V → Type 0 };
+
+    fn read(alloc: Global, json: &Json) -> Result<V, DocFault>
+        ensures { (v : V) → fits v → shown v ≡ view json.now
+            → Obtains (λ found. found ≡ v) result };
 }
 
 /// A truth value as itself.
 pub struct Truth;
 
 impl Form<bool> for Truth {
+    ghost shown = { boolean };
+
+    ghost fits = { λ b. IsAny b };
+
     fn read(_alloc: Global, json: &Json) -> Result<bool, DocFault> {
         match json {
             Json::Bool(truth) => Ok(*truth),
@@ -83,6 +124,10 @@ impl Form<bool> for Truth {
 pub struct Number;
 
 impl Form<u32> for Number {
+    ghost shown = { λ n. number_data n };
+
+    ghost fits = { λ n. IsShort n };
+
     fn read(_alloc: Global, json: &Json) -> Result<u32, DocFault> {
         number_of(json)
     }
@@ -90,8 +135,8 @@ impl Form<u32> for Number {
 
 /// A whole number of 32 bits.
 pub fn number_of(json: &Json) -> Result<u32, DocFault>
-    ensures { (n : ℕ) → n < 2 ^ 32 → number_data n ≡ view json.now
-        → Reads (λ found. found ≡ n) result }
+    ensures { (n : ℕ) → IsShort n → number_data n ≡ view json.now
+        → Obtains (λ found. found ≡ n) result }
 {
     match u32::try_from(count_of(json)?) {
         Ok(number) => Ok(number),
@@ -101,7 +146,8 @@ pub fn number_of(json: &Json) -> Result<u32, DocFault>
 
 /// A whole number of 64 bits.
 pub fn count_of(json: &Json) -> Result<u64, DocFault>
-    ensures { (n : ℕ) → number_data n ≡ view json.now → Reads (λ found. found ≡ n) result }
+    ensures { (n : ℕ) → number_data n ≡ view json.now
+        → Obtains (λ found. found ≡ n) result }
 {
     match json.as_u64() {
         Some(number) => Ok(number),
@@ -113,6 +159,10 @@ pub fn count_of(json: &Json) -> Result<u64, DocFault>
 pub struct Committed;
 
 impl Form<()> for Committed {
+    ghost shown = { λ u. commit_data u };
+
+    ghost fits = { λ u. IsAny u };
+
     fn read(_alloc: Global, _json: &Json) -> Result<(), DocFault> {
         Ok(())
     }
@@ -122,6 +172,10 @@ impl Form<()> for Committed {
 pub struct Noted;
 
 impl Form<()> for Noted {
+    ghost shown = { λ u. note_data u };
+
+    ghost fits = { λ u. IsAny u };
+
     fn read(_alloc: Global, _json: &Json) -> Result<(), DocFault> {
         Ok(())
     }
@@ -131,6 +185,10 @@ impl Form<()> for Noted {
 pub struct Collision;
 
 impl Form<(Revision, Item)> for Collision {
+    ghost shown = { λ c. collision_data c };
+
+    ghost fits = { λ c. IsNodeCollision c };
+
     fn read(alloc: Global, json: &Json) -> Result<(Revision, Item), DocFault> {
         match json {
             Json::Array(items) => collision_of(alloc, items),
@@ -139,7 +197,11 @@ impl Form<(Revision, Item)> for Collision {
     }
 }
 
-fn collision_of(alloc: Global, items: &[Json]) -> Result<(Revision, Item), DocFault> {
+fn collision_of(alloc: Global, items: &[Json]) -> Result<(Revision, Item), DocFault>
+    ensures { (c : Revision × Item) → IsNodeCollision c
+        → collision_data c ≡ array (items_of (map view items.now))
+        → Obtains (λ found. found ≡ c) result }
+{
     match items {
         [revision, item] => {
             let revision = revision_of(revision)?;
@@ -154,6 +216,10 @@ fn collision_of(alloc: Global, items: &[Json]) -> Result<(Revision, Item), DocFa
 pub struct Held;
 
 impl Form<Option<Property>> for Held {
+    ghost shown = { λ x. held_data x };
+
+    ghost fits = { λ x. IsHeldInRange x };
+
     fn read(alloc: Global, json: &Json) -> Result<Option<Property>, DocFault> {
         match json {
             Json::Null => Ok(None),
@@ -164,7 +230,7 @@ impl Form<Option<Property>> for Held {
 
 fn property_of(alloc: Global, json: &Json) -> Result<Property, DocFault>
     ensures { (p : Property) → IsReadableProperty p → property_data p ≡ view json.now
-        → Reads (λ found. found ≡ p) result }
+        → Obtains (λ found. found ≡ p) result }
 {
     match read_property(alloc, json) {
         Ok(property) => Ok(property),
@@ -177,6 +243,10 @@ fn property_of(alloc: Global, json: &Json) -> Result<Property, DocFault>
 pub struct Pair;
 
 impl Form<Pin> for Pair {
+    ghost shown = { λ p. pin_data p };
+
+    ghost fits = { λ p. IsPinInRange p };
+
     fn read(_alloc: Global, json: &Json) -> Result<Pin, DocFault> {
         match json {
             Json::Array(items) => pin_of(items),
@@ -185,7 +255,11 @@ impl Form<Pin> for Pair {
     }
 }
 
-fn pin_of(items: &[Json]) -> Result<Pin, DocFault> {
+fn pin_of(items: &[Json]) -> Result<Pin, DocFault>
+    ensures { (p : Pin) → IsPinInRange p
+        → pin_data p ≡ array (items_of (map view items.now))
+        → Obtains (λ found. found ≡ p) result }
+{
     match items {
         [base, sweep] => {
             let base = vector_of(base)?;

@@ -1,4 +1,5 @@
-//! Documents from their JSON: what is printed of a document is read as the document again, and all else is none.
+//! Documents from their JSON: what is printed of a document is read as the document again, and all
+//! else is none.
 //!
 //! Oak, DocumentNodeStore: "Node Document".
 #![tactic(auto)]

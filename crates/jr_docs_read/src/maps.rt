@@ -1,4 +1,13 @@
 // Maps from their JSON.
+ghost use Rattle.std.specs.Prelude.{◌≡◌, [], List as Seq};
+ghost use Rattle.std.specs.BTreeMap.{insert_entry};
+ghost use Rattle.std.specs.Option.{option_map};
+ghost use Rattle.serde_json.specs.Data.{no_members};
+ghost use Rattle.serde_json.specs.View.{members_view, view};
+ghost use Rattle.jr_docs.specs.Members.{map_data, members_of_map, put_all, unless_empty};
+ghost use Rattle.jr_docs_read.specs.Ranges.{IsMapOf};
+ghost use Rattle.jr_docs_read.specs.Reading.{Obtains};
+
 use crate::DocFault;
 use crate::forms::{Form, Key};
 use jr_path::Keyed;
@@ -10,7 +19,12 @@ pub fn read_map<K: Key + Drop, V: Drop, F: Form<V>>(
     alloc: Global,
     json: Option<&Json>,
     map: &mut Keyed<K, V>,
-) -> Result<(), DocFault> {
+) -> Result<(), DocFault>
+    ensures { (es : Seq (K × V)) → IsMapOf K.cmp K.fits F.fits es
+        → option_map (λ found. view found.now) json.entry
+        ≡ unless_empty (map_data K.text F.shown) es
+        → map.old ≡ [] → Obtains (λ _. map.new ≡ es) result }
+{
     match json {
         None => Ok(()),
         Some(json) => read_object::<K, V, F>(alloc, json, map),
@@ -22,7 +36,11 @@ pub fn read_object<K: Key + Drop, V: Drop, F: Form<V>>(
     alloc: Global,
     json: &Json,
     map: &mut Keyed<K, V>,
-) -> Result<(), DocFault> {
+) -> Result<(), DocFault>
+    ensures { (es : Seq (K × V)) → IsMapOf K.cmp K.fits F.fits es
+        → map_data K.text F.shown es ≡ view json.now
+        → map.old ≡ [] → Obtains (λ _. map.new ≡ es) result }
+{
     match json {
         Json::Object(members) => read_members::<K, V, F>(alloc, members, map),
         _ => Err(DocFault::NotADocument),
@@ -34,7 +52,12 @@ fn read_members<K: Key + Drop, V: Drop, F: Form<V>>(
     alloc: Global,
     members: &Map<String, Json>,
     map: &mut Keyed<K, V>,
-) -> Result<(), DocFault> {
+) -> Result<(), DocFault>
+    ensures { (es : Seq (K × V)) → IsMapOf K.cmp K.fits F.fits es
+        → put_all no_members (members_of_map K.text F.shown es)
+        ≡ members_view members.now.entries
+        → map.old ≡ [] → Obtains (λ _. map.new ≡ es) result }
+{
     for (name, value) in members {
         read_member::<K, V, F>(alloc, name.as_str(), value, map)?;
     }
@@ -46,7 +69,11 @@ fn read_member<K: Key + Drop, V: Drop, F: Form<V>>(
     name: &str,
     json: &Json,
     map: &mut Keyed<K, V>,
-) -> Result<(), DocFault> {
+) -> Result<(), DocFault>
+    ensures { (k : K) (v : V) → K.fits k → F.fits v
+        → K.text k ≡ name.now → F.shown v ≡ view json.now
+        → Obtains (λ _. map.new ≡ insert_entry K.cmp map.old k v) result }
+{
     let key = K::read(alloc, name)?;
     let value = F::read(alloc, json)?;
     map.put(key, value)?;

@@ -2,6 +2,10 @@
 ghost use Rattle.std.specs.Prelude.{◌≡◌, ◌↔◌, IfOk, IsTrue, string_bytes};
 ghost use Rattle.serde_json.specs.View.{view};
 ghost use Rattle.jr_docs.specs.Documents.{document_data};
+ghost use Rattle.jr_docs_read.specs.Printed.{as_printed, numbered};
+ghost use Rattle.jr_docs_read.specs.Ranges.{IsStorable};
+ghost use Rattle.jr_docs_read.specs.Reading.{Obtains, document_kind};
+ghost use Rattle.oak_doc.specs.declared.document.Document.{Document};
 
 use crate::DocFault;
 use crate::fields::{member, read_node, read_prev, read_settings};
@@ -13,11 +17,14 @@ use oak_doc::Document;
 use serde_json::Value as Json;
 use std::alloc::{AllocError, Global};
 
-/// The document whose JSON this is. All that isn't the JSON of a document is `NotADocument`: fields that
-/// printing leaves out, as empty ones and those of another kind of document, and ids, revisions, vectors
-/// or values in another spelling. A collision's item is read as the node at its path.
+/// The document whose JSON this is. All that isn't the JSON of a document is `NotADocument`: fields
+/// that printing leaves out, as empty ones and those of another kind of document, and ids,
+/// revisions, vectors or values in another spelling. A collision's item is read as the node at its
+/// path.
 pub fn read_document(alloc: Global, json: &Json) -> Result<Document, DocFault>
-    ensures { IfOk result (λ d. document_data d ≡ view json.now) }
+    ensures found { IfOk result (λ d. document_data d ≡ view json.now) }
+    ensures complete { (d : Document) → IsStorable d → document_data d ≡ view json.now
+        → Obtains (λ found. found ≡ as_printed d) result }
 {
     let document = found_document(alloc, json)?;
     if is_json_of(alloc, json, &document)? {
@@ -44,7 +51,10 @@ fn is_same_text(a: &String, b: &String) -> bool
 }
 
 // The document that the members say, so far as they are those of one.
-fn found_document(alloc: Global, json: &Json) -> Result<Document, DocFault> {
+fn found_document(alloc: Global, json: &Json) -> Result<Document, DocFault>
+    ensures { (d : Document) → IsStorable d → document_data d ≡ view json.now
+        → Obtains (λ found. found ≡ as_printed d) result }
+{
     let number = count_of(member(json, "_modCount")?)?;
     let id = id_in(alloc, member(json, "_id")?)?;
     let mut document = Document::empty(alloc, id);
@@ -53,10 +63,31 @@ fn found_document(alloc: Global, json: &Json) -> Result<Document, DocFault> {
     Ok(document)
 }
 
-fn read_fields(alloc: Global, json: &Json, document: &mut Document) -> Result<(), DocFault> {
-    match &document.id {
-        DocId::Node(_) => read_node(alloc, json, document),
-        DocId::Prev(_, _) => read_prev(alloc, json, document),
-        DocId::Settings => read_settings(alloc, json, document),
+fn read_fields(alloc: Global, json: &Json, document: &mut Document) -> Result<(), DocFault>
+    ensures { (d : Document) → IsStorable d → document_data d ≡ view json.now
+        → document.old ≡ numbered d.id d.mod_count
+        → Obtains (λ _. document.new ≡ as_printed d) result }
+{
+    match document_kind(&document.id) {
+        Kind::Node => read_node(alloc, json, document),
+        Kind::Prev => read_prev(alloc, json, document),
+        Kind::Settings => read_settings(alloc, json, document),
+    }
+}
+
+// Which fields a document may have.
+enum Kind {
+    Node,
+    Prev,
+    Settings,
+}
+
+fn document_kind(id: &DocId) -> Kind
+    ensures { result ≡ document_kind id.now }
+{
+    match id {
+        DocId::Node(_) => Kind::Node,
+        DocId::Prev(_, _) => Kind::Prev,
+        DocId::Settings => Kind::Settings,
     }
 }

@@ -1,12 +1,15 @@
 // Texts of JSON, and what they spell.
-ghost use Rattle.std.specs.Prelude.{◌≡◌, All, List as Seq, ℕ};
-ghost use Rattle.jr_docs_read.specs.Ranges.{IsInRange};
-ghost use Rattle.jr_docs_read.specs.Reading.{Reads};
+ghost use Rattle.std.specs.Prelude.{◌≡◌, ◌<◌, ◌^◌, ◌++◌, All, List as Seq, codes, length, ℕ};
+ghost use Rattle.std.specs.Fmt.{decimal};
+ghost use Rattle.jr_docs_read.specs.Ranges.{IsIdInRange, IsPathInRange, IsVectorInRange};
+ghost use Rattle.jr_docs_read.specs.Reading.{Obtains};
 ghost use Rattle.jr_path.specs.Grammar.{IsName};
-ghost use Rattle.jr_path.specs.Ids.{path_text};
+ghost use Rattle.jr_path.specs.Ids.{id_text, path_text};
+ghost use Rattle.jr_path.specs.declared.path.DocId.{DocId};
+ghost use Rattle.jr_path.specs.declared.path.DocId.TheVariants.{Node, Prev};
 ghost use Rattle.jr_path.specs.declared.path.Path.{Path};
 ghost use Rattle.jr_rev.specs.Grammar.{FitsFields};
-ghost use Rattle.jr_rev.specs.Texts.{revision_text, vector_text};
+ghost use Rattle.jr_rev.specs.Texts.{hexadecimal, revision_text, vector_text};
 ghost use Rattle.jr_rev.specs.Vectors.{Entries};
 ghost use Rattle.jr_rev.specs.declared.revision.Revision.{Revision};
 ghost use Rattle.serde_json.specs.Data.{string};
@@ -21,7 +24,8 @@ use std::alloc::Global;
 
 /// The text that a JSON value is.
 pub fn text_of(json: &Json) -> Result<&str, DocFault>
-    ensures { (t : Seq ℕ) → string t ≡ view json.now → Reads (λ text. text.now ≡ t) result }
+    ensures { (t : Seq ℕ) → string t ≡ view json.now
+        → Obtains (λ text. text.now ≡ t) result }
 {
     match json {
         Json::String(text) => Ok(text.as_str()),
@@ -32,7 +36,7 @@ pub fn text_of(json: &Json) -> Result<&str, DocFault>
 /// The revision of a text.
 pub fn read_revision(text: &str) -> Result<Revision, DocFault>
     ensures { (r : Revision) → FitsFields r → revision_text r ≡ text.now
-        → Reads (λ found. found ≡ r) result }
+        → Obtains (λ found. found ≡ r) result }
 {
     match Revision::parse(text.as_bytes()) {
         Ok(revision) => Ok(revision),
@@ -43,7 +47,7 @@ pub fn read_revision(text: &str) -> Result<Revision, DocFault>
 /// The revision of a text in JSON.
 pub fn revision_of(json: &Json) -> Result<Revision, DocFault>
     ensures { (r : Revision) → FitsFields r → string (revision_text r) ≡ view json.now
-        → Reads (λ found. found ≡ r) result }
+        → Obtains (λ found. found ≡ r) result }
 {
     match json {
         Json::String(text) => read_revision(text.as_str()),
@@ -53,8 +57,8 @@ pub fn revision_of(json: &Json) -> Result<Revision, DocFault>
 
 /// The vector of a text.
 pub fn read_vector(text: &str) -> Result<RevVec, DocFault>
-    ensures { (v : Entries) → IsInRange v → vector_text v ≡ text.now
-        → Reads (λ found. found ≡ v) result }
+    ensures { (v : Entries) → IsVectorInRange v → vector_text v ≡ text.now
+        → Obtains (λ found. found ≡ v) result }
 {
     match RevVec::parse(text.as_bytes()) {
         Ok(vector) => Ok(vector),
@@ -64,8 +68,8 @@ pub fn read_vector(text: &str) -> Result<RevVec, DocFault>
 
 /// The vector of a text in JSON.
 pub fn vector_of(json: &Json) -> Result<RevVec, DocFault>
-    ensures { (v : Entries) → IsInRange v → string (vector_text v) ≡ view json.now
-        → Reads (λ found. found ≡ v) result }
+    ensures { (v : Entries) → IsVectorInRange v → string (vector_text v) ≡ view json.now
+        → Obtains (λ found. found ≡ v) result }
 {
     match json {
         Json::String(text) => read_vector(text.as_str()),
@@ -75,7 +79,8 @@ pub fn vector_of(json: &Json) -> Result<RevVec, DocFault>
 
 /// The path of a text, however long.
 pub fn read_path(alloc: Global, text: &str) -> Result<Path, DocFault>
-    ensures { (p : Path) → All IsName p → path_text p ≡ text.now → Reads (λ found. found ≡ p) result }
+    ensures { (p : Path) → All IsName p → path_text p ≡ text.now
+        → Obtains (λ found. found ≡ p) result }
 {
     match Path::parse_unlimited(alloc, text) {
         Ok(path) => Ok(path),
@@ -84,7 +89,10 @@ pub fn read_path(alloc: Global, text: &str) -> Result<Path, DocFault>
 }
 
 /// The id of a text.
-pub fn read_id(alloc: Global, text: &str) -> Result<DocId, DocFault> {
+pub fn read_id(alloc: Global, text: &str) -> Result<DocId, DocFault>
+    ensures { (id : DocId) → IsIdInRange id → id_text id ≡ text.now
+        → Obtains (λ found. found ≡ id) result }
+{
     match text.split_once(':') {
         Some((front, path)) => id_of(alloc, front, path),
         None => Ok(DocId::Settings),
@@ -92,19 +100,36 @@ pub fn read_id(alloc: Global, text: &str) -> Result<DocId, DocFault> {
 }
 
 // The id of a path, by what stands before its colon: a depth, or `p` and a number.
-fn id_of(alloc: Global, front: &str, path: &str) -> Result<DocId, DocFault> {
+fn id_of(alloc: Global, front: &str, path: &str) -> Result<DocId, DocFault>
+    ensures node { (p : Path) → IsPathInRange p → decimal (length p) ≡ front.now
+        → path_text p ≡ path.now → Obtains (λ found. found ≡ Node p) result }
+    ensures prev { (n : ℕ) (p : Path) → n < 2 ^ 64 → IsPathInRange p
+        → codes "p" ++ hexadecimal n ≡ front.now → path_text p ≡ path.now
+        → Obtains (λ found. found ≡ Prev n p) result }
+{
     let path = read_path(alloc, path)?;
     match front.strip_prefix('p') {
-        Some(digits) => match u64::from_str_radix(digits, 16) {
-            Ok(number) => Ok(DocId::Prev(number, path)),
-            Err(_) => Err(DocFault::NotADocument),
-        },
+        Some(digits) => Ok(DocId::Prev(number_in(digits)?, path)),
         None => Ok(DocId::Node(path)),
     }
 }
 
+// The number of hexadecimal digits.
+fn number_in(digits: &str) -> Result<u64, DocFault>
+    ensures { (n : ℕ) → n < 2 ^ 64 → hexadecimal n ≡ digits.now
+        → Obtains (λ found. found ≡ n) result }
+{
+    match u64::from_str_radix(digits, 16) {
+        Ok(number) => Ok(number),
+        Err(_) => Err(DocFault::NotADocument),
+    }
+}
+
 /// The id of a text in JSON.
-pub fn id_in(alloc: Global, json: &Json) -> Result<DocId, DocFault> {
+pub fn id_in(alloc: Global, json: &Json) -> Result<DocId, DocFault>
+    ensures { (id : DocId) → IsIdInRange id → string (id_text id) ≡ view json.now
+        → Obtains (λ found. found ≡ id) result }
+{
     match json {
         Json::String(text) => read_id(alloc, text.as_str()),
         _ => Err(DocFault::NotADocument),

@@ -100,6 +100,10 @@ module _ (s : ℕ) (w u : State) (same : u.past ≡ w.past) where
   calm (work.Read r) v (answers.Ready e) m = (ap (λ (x : State). x.table) m.0, ap (λ (x : State). x.memories) m.0)
   calm (work.Read r) v answers.Memory m = (ap (λ (x : State). x.table) m.0, ap (λ (x : State). x.memories) m.0)
   calm (work.Read r) v _ m = absurd m
+  calm (work.Changes r) v (answers.Went kind.Read) m = (ap (λ (x : State). x.table) m.0, ap (λ (x : State). x.memories) m.0)
+  calm (work.Changes r) v (answers.Ready (ends.Changes commits)) m = (ap (λ (x : State). x.table) m.0, ap (λ (x : State). x.memories) m.0)
+  calm (work.Changes r) v answers.Memory m = (ap (λ (x : State). x.table) m.0, ap (λ (x : State). x.memories) m.0)
+  calm (work.Changes r) v _ m = absurd m
   calm (work.Plan edit marks) v (answers.Went kind.Draw) m = never _ (ap (λ (x : State). x.past) m.0)
   calm (work.Plan edit marks) v answers.Memory m = still m.0
   calm (work.Plan edit marks) v _ m = absurd m

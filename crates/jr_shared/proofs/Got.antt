@@ -25,13 +25,13 @@ use Rattle.jr_shared.specs.declared.locked.WorldFrame.{WorldFrame}
 use Rattle.jr_shared.specs.Meanings.{Owned, frame_of, journal_of, own_events, owned_of}
 use Rattle.jr_shared.specs.Holds.{HasLaw, IsGot, IsTold, Known, actor_by, has_seat, owned_by, seat_by}
 use Rattle.jr_shared.specs.Seen.{clusters_by, history_by, law_by, left_by, sessions_by, state_by, the}
-use Rattle.oak_world.proofs.Others.{attached_left}
+use Rattle.oak_world.proofs.Others.{attached_left, cursor_stays}
 use Rattle.jr_shared.proofs.Events.{are_others, run_before}
 use Rattle.jr_shared.proofs.Lists.{found_part, grown_by}
 
 -- all of a state but the committers and the readers
 abbrev pub blank : State → State
-blank w = record w { running = λ q. None; reading = λ q. None }
+blank w = record w { running = λ q. None; reading = λ q. None; observing = λ q. None }
 
 pub the_is : {A : Type 0} (o : Option A) (x : A) → o ≡ Some x → (there : is_some o ≡ true) → the o there ≡ x
 the_is None x e there = absurd (false≢true there)
@@ -168,7 +168,7 @@ module _ {L : Type 0} (law : Ghosts L) (old : Known L) (got : WorldOf L) (g : Is
       begins (task.Attach i) m = (login_same ∙ m.0, left_same ∙ m.1, attached_same ∙ m.2)
       begins task.Detach m = (login_same ∙ m.0, left_same ∙ m.1, attached_same ∙ m.2)
       begins task.Observe m = (login_same ∙ m.0, left_same ∙ m.1, attached_same ∙ m.2)
-      begins (task.Changes pin) m = absurd m
+      begins (task.Changes since) m = (login_same ∙ m.0, left_same ∙ m.1, attached_same ∙ m.2, cursor_stays s more (reverse old.seen) others ∙ m.3)
       begins (task.Stop k) m = absurd m
       begins (task.Recover k) m = absurd m
       begins task.End m = (login_same ∙ m.0, left_same ∙ m.1)

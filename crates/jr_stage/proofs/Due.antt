@@ -46,6 +46,7 @@ last_commits work.Login h = absurd (false≢true h)
 last_commits work.End h = absurd (false≢true h)
 last_commits work.Refresh h = absurd (false≢true h)
 last_commits (work.Read r) h = absurd (false≢true h)
+last_commits (work.Changes r) h = absurd (false≢true h)
 last_commits (work.Plan edit marks) h = absurd (false≢true h)
 last_commits (work.Commit c) h = commits c.revision c.outcome
 last_commits (work.Move r) h = absurd (false≢true h)

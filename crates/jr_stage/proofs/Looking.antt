@@ -6,7 +6,6 @@ use Rattle.std.specs.Borrow.{GName}
 use Rattle.std.proofs.lemmas.Bool.Decides.{nat_tests}
 use mathlib.Core.Bool.{false≢true}
 use Rattle.jr_rev.specs.declared.revision.Revision.{Revision}
-use Rattle.jr_part.specs.declared.need.Need.{Need}
 use Rattle.jr_part.specs.declared.need.Need.TheVariants as need
 use Rattle.oak_machine.specs.declared.event.StepKind.{StepKind}
 use Rattle.oak_machine.specs.History.{History, Past}
@@ -23,6 +22,8 @@ use Rattle.jcr_law.specs.declared.law.JcrLaw.{JcrLaw}
 use Rattle.jcr_law.specs.State.{Call, call_of}
 use Rattle.jcr_trans.specs.declared.command.Command.{Command}
 use Rattle.jcr_session.specs.Nearing.{EndsSooner, HasNeared, LessIsUnread, turns_left, stages_left, unread_of}
+use Rattle.jcr_session.specs.declared.read.Fetch.{Fetch}
+use Rattle.jcr_session.specs.declared.read.Fetch.TheVariants as fetch
 use Rattle.jcr_session.specs.declared.run.Phase.{Phase}
 use Rattle.jcr_session.specs.declared.run.Phase.TheVariants as phase
 use Rattle.jcr_session.specs.declared.run.SessionRun.{SessionRun}
@@ -64,17 +65,19 @@ starts : (w : Work) (t : Task) → w ≡ Starting t → IsUncommitted w
 starts w t is = record { none = ap awaited is; apart = ap at_commit is }
 
 module _ (law : JcrLaw) (p : Shown) (run : SessionRun) where
-  reads : (o : Option Need) → IsReading p.work o → IsUncommitted p.work
+  reads : (o : Option Fetch) → IsReading p.work o → IsUncommitted p.work
   reads None h = idles p.work h
-  reads (Some (need.Node path)) h = starts p.work (task.Load path) h
-  reads (Some (need.Children path)) h = starts p.work (task.List path) h
-  reads (Some (need.Subtree path)) h = absurd h
-  reads (Some need.All) h = absurd h
+  reads (Some (fetch.Tree (need.Node path))) h = starts p.work (task.Load path) h
+  reads (Some (fetch.Tree (need.Children path))) h = starts p.work (task.List path) h
+  reads (Some (fetch.Tree (need.Subtree path))) h = absurd h
+  reads (Some (fetch.Tree need.All)) h = absurd h
+  reads (Some (fetch.Changes v)) h = starts p.work (task.Changes v) h
 
   between_uncommitted : (f : Phase) → is_between f ≡ true → StandsAt law p run f → IsUncommitted p.work
   between_uncommitted phase.Between h at = reads run.fetch at.1.reads
   between_uncommitted phase.Outside h at = absurd (false≢true h)
-  between_uncommitted (phase.Refreshed v) h at = absurd (false≢true h)
+  between_uncommitted (phase.Moved v) h at = absurd (false≢true h)
+  between_uncommitted phase.Detaching h at = absurd (false≢true h)
   between_uncommitted (phase.Committing a) h at = absurd (false≢true h)
   between_uncommitted (phase.Committed e a) h at = absurd (false≢true h)
   between_uncommitted (phase.Working e) h at = absurd (false≢true h)
@@ -88,7 +91,8 @@ module _ (law : JcrLaw) (p : Shown) (run : SessionRun) where
 between_works : (f : Phase) → is_between f ≡ true → is_working f ≡ false
 between_works phase.Between h = refl
 between_works phase.Outside h = absurd (false≢true h)
-between_works (phase.Refreshed v) h = absurd (false≢true h)
+between_works (phase.Moved v) h = absurd (false≢true h)
+between_works phase.Detaching h = absurd (false≢true h)
 between_works (phase.Committing a) h = absurd (false≢true h)
 between_works (phase.Committed e a) h = absurd (false≢true h)
 between_works (phase.Working e) h = absurd (false≢true h)
@@ -98,7 +102,8 @@ between_works phase.Over h = absurd (false≢true h)
 called_between : (law : JcrLaw) (p : Shown) (run : SessionRun) (f : Phase) → is_between f ≡ true → StandsAt law p run f → (c : Call) × IsCalled law p c
 called_between law p run phase.Between h at = (at.1.call, at.1.is)
 called_between law p run phase.Outside h at = absurd (false≢true h)
-called_between law p run (phase.Refreshed v) h at = absurd (false≢true h)
+called_between law p run (phase.Moved v) h at = absurd (false≢true h)
+called_between law p run phase.Detaching h at = absurd (false≢true h)
 called_between law p run (phase.Committing a) h at = absurd (false≢true h)
 called_between law p run (phase.Committed e a) h at = absurd (false≢true h)
 called_between law p run (phase.Working e) h at = absurd (false≢true h)
@@ -233,13 +238,14 @@ module _ (n : GName) (s : ℕ) (old new : Stage) (seat seat_now : Seat)
 
   -- ---- one that was made
 
-  abbrev may_by : Phase → List Command → ℕ → Bool
-  may_by f commands i = is_between f && reads_for (due_of commands i)
+  abbrev may_by : Phase → Bool → List Command → ℕ → Bool
+  may_by f attached commands i = is_between f && reads_for (due_of attached commands i)
 
   may_now : may_read seat_now.run ≡ may_read seat.run
   may_now =
-      ap (λ (f : Phase). may_by f seat_now.run.commands seat_now.run.index) looked.same.phase
-      ∙ (ap (λ (cs : List Command). may_by seat.run.phase cs seat_now.run.index) looked.same.commands ∙ ap (may_by seat.run.phase seat.run.commands) looked.same.index)
+      ap (λ (f : Phase). may_by f seat_now.run.attached seat_now.run.commands seat_now.run.index) looked.same.phase
+      ∙ (ap (λ (b : Bool). may_by seat.run.phase b seat_now.run.commands seat_now.run.index) looked.same.attached
+      ∙ (ap (λ (cs : List Command). may_by seat.run.phase seat.run.attached cs seat_now.run.index) looked.same.commands ∙ ap (may_by seat.run.phase seat.run.attached seat.run.commands) looked.same.index))
 
   at_now : slice_get new.seats.items s ≡ Some seat_now
   at_now = ap (λ (l : List Seat). slice_get l s) seats_now ∙ set_same old.seats.items s seat_now seat at

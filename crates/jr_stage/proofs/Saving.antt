@@ -6,7 +6,6 @@ use Rattle.std.proofs.lemmas.Option.{slice_get_within}
 use mathlib.Core.Bool.{false≢true}
 use Rattle.jr_path.specs.Lists.{Text}
 use Rattle.jr_rev.specs.declared.revision.Revision.{Revision}
-use Rattle.jr_part.specs.declared.need.Need.{Need}
 use Rattle.jr_part.specs.declared.need.Need.TheVariants as need
 use Rattle.oak_machine.specs.declared.event.Event.{Event}
 use Rattle.oak_machine.specs.declared.event.Event.TheVariants as event
@@ -26,6 +25,8 @@ use Rattle.jcr_law.specs.State.{Call}
 use Rattle.jcr_law.specs.declared.law.JcrLaw.{JcrLaw}
 use Rattle.jcr_trans.specs.declared.command.Command.{Command}
 use Rattle.jcr_trans.specs.declared.command.Command.TheVariants as command
+use Rattle.jcr_session.specs.declared.read.Fetch.{Fetch}
+use Rattle.jcr_session.specs.declared.read.Fetch.TheVariants as fetch
 use Rattle.jcr_session.specs.declared.run.Phase.{Phase}
 use Rattle.jcr_session.specs.declared.run.Phase.TheVariants as phase
 use Rattle.jcr_session.specs.declared.run.SessionRun.{SessionRun}
@@ -41,7 +42,7 @@ abbrev is_awaiting : Work → Bool
 is_awaiting (Awaiting r) = true
 is_awaiting w = false
 
--- what is done for a command by a task of the cluster node or of the settings awaits no revision
+-- what is done for a command by a task of the cluster node, of the settings or of the cursor awaits no revision
 pub errand_waits : (h : History) (s : ℕ) (c : Call) (m : Command) (w : Work) → IsWorkFor h s c m w → is_awaiting w ≡ false
 errand_waits h s c command.BackWrite (Starting task.BackWrite) works = refl
 errand_waits h s c command.BackWrite (Publishing r) works = refl
@@ -49,6 +50,8 @@ errand_waits h s c command.BackRead (Starting task.BackRead) works = refl
 errand_waits h s c command.BackRead (Learning v) works = refl
 errand_waits h s c command.Checkpoint (Starting (task.Checkpoint id)) works = refl
 errand_waits h s c (command.Release id) (Starting (task.Release i)) works = refl
+errand_waits h s c (command.Observe path deep mask) (Starting task.Observe) works = refl
+errand_waits h s c command.Events (Starting task.Observe) works = refl
 errand_waits h s c m w works = absurd works
 
 -- ---- what a commit under way tells
@@ -83,14 +86,15 @@ module _ (law : JcrLaw) (p : Shown) (run : SessionRun) where
   idle_at : (f : Phase) → StandsAt law p run f → is_committing f ≡ false → is_drawing p.history.past p.session ≡ false
   idle_at phase.Outside at h = at.still
   idle_at phase.Between at h = at.1.fresh.idle
-  idle_at (phase.Refreshed v) at h = at.1.fresh.idle
+  idle_at (phase.Moved v) at h = at.1.for.fresh.idle
+  idle_at phase.Detaching at h = at.1.half.fresh.idle
   idle_at (phase.Committing pledge) at h = absurd (false≢true (sym h))
   idle_at (phase.Committed e pledge) at h = ended_idle law p at.1.call e at.1.ended
   idle_at (phase.Working e) at h = at.1.for.fresh.idle
   idle_at (phase.Told t) at h = at.1.for.fresh.idle
   idle_at phase.Over at h = at.still
 
-  in_at : (f : Phase) → StandsAt law p run f → is_saving f ≡ true → IsIn law p
+  in_at : (f : Phase) → StandsAt law p run f → is_saving f ≡ true → IsIn law p run.attached
   in_at (phase.Committing pledge) at h = at.0
   in_at (phase.Committed e pledge) at h = at.0
   in_at f at h = absurd (false≢true h)
@@ -109,11 +113,13 @@ module _ (law : JcrLaw) (p : Shown) (run : SessionRun) where
   idle_waits : {A : Type 0} (r : Revision) → p.work ≡ Idle → p.work ≡ Awaiting r → A
   idle_waits r idle waits = absurd (false≢true (sym (ap is_awaiting idle) ∙ ap is_awaiting waits))
 
-  reading_waits : {A : Type 0} (r : Revision) (o : Option Need) → IsReading p.work o → p.work ≡ Awaiting r → A
+  reading_waits : {A : Type 0} (r : Revision) (o : Option Fetch) → IsReading p.work o → p.work ≡ Awaiting r → A
   reading_waits r None reads waits = idle_waits r reads waits
-  reading_waits r (Some (need.Node path)) reads waits = absurd (false≢true (sym (ap is_awaiting reads) ∙ ap is_awaiting waits))
-  reading_waits r (Some (need.Children path)) reads waits = absurd (false≢true (sym (ap is_awaiting reads) ∙ ap is_awaiting waits))
-  reading_waits r (Some n) reads waits = absurd reads
+  reading_waits r (Some (fetch.Tree (need.Node path))) reads waits = absurd (false≢true (sym (ap is_awaiting reads) ∙ ap is_awaiting waits))
+  reading_waits r (Some (fetch.Tree (need.Children path))) reads waits = absurd (false≢true (sym (ap is_awaiting reads) ∙ ap is_awaiting waits))
+  reading_waits r (Some (fetch.Tree (need.Subtree path))) reads waits = absurd reads
+  reading_waits r (Some (fetch.Tree need.All)) reads waits = absurd reads
+  reading_waits r (Some (fetch.Changes v)) reads waits = absurd (false≢true (sym (ap is_awaiting reads) ∙ ap is_awaiting waits))
 
   working_waits : {A : Type 0} (r : Revision) (h : History) (c : Call) (m : Command) (w : Work) → IsWorkFor h p.session c m w → w ≡ Awaiting r → A
   working_waits r h c m w works waits = absurd (false≢true (sym (errand_waits h p.session c m w works) ∙ ap is_awaiting waits))
@@ -122,7 +128,8 @@ module _ (law : JcrLaw) (p : Shown) (run : SessionRun) where
   awaits_at : (f : Phase) (r : Revision) → StandsAt law p run f → p.work ≡ Awaiting r → HasDrawn p.history.past p.session r × (is_ended p.history.past r ≡ true)
   awaits_at phase.Outside r at waits = idle_waits r at.idle waits
   awaits_at phase.Between r at waits = reading_waits r run.fetch at.1.reads waits
-  awaits_at (phase.Refreshed v) r at waits = idle_waits r at.1.idle waits
+  awaits_at (phase.Moved v) r at waits = idle_waits r at.1.idle waits
+  awaits_at phase.Detaching r at waits = absurd (false≢true (sym (ap is_awaiting at.1.works) ∙ ap is_awaiting waits))
   awaits_at (phase.Committing pledge) r at waits = let h = subst (λ (w : Work). IsCommitting p.history.past p.session w) waits at.1.commits in (h.0, h.2)
   awaits_at (phase.Committed e pledge) r at waits = idle_waits r at.1.idle waits
   awaits_at (phase.Working e) r at waits = working_waits r p.history at.1.call at.1.command p.work at.1.works waits
@@ -280,7 +287,8 @@ module _ (law : JcrLaw) (old new : Shown) (run now : SessionRun) (k : StepKind) 
       by : (f : Phase) → StandsAt law new now f → is_saving f ≡ true
       by phase.Outside at = absurd (false≢true (sym at.out ∙ moved (λ q n. has_login q n ≡ true) login_now))
       by phase.Between at = none at.1.fresh.first
-      by (phase.Refreshed v) at = none at.1.fresh.first
+      by (phase.Moved v) at = none at.1.for.fresh.first
+      by phase.Detaching at = none at.1.half.fresh.first
       by (phase.Committing pledge) at = refl
       by (phase.Committed e pledge) at = refl
       by (phase.Working e) at = none at.1.for.fresh.first

@@ -13,13 +13,14 @@ use Rattle.oak_machine.specs.Sessions.{is_drawing, next_index}
 use Rattle.oak_machine.specs.Steps.{is_kind, kind_number, kinds_for, where_test}
 use Rattle.oak_port.specs.Ports.{Idle, Learning, Publishing, Shown, Starting, Work}
 use Rattle.oak_port.specs.declared.task.Task.TheVariants as task
-use Rattle.jr_part.specs.declared.need.Need.{Need}
 use Rattle.jr_part.specs.declared.need.Need.TheVariants as need
 use Rattle.jcr_law.specs.Makes.{commit_stages, steps_of}
 use Rattle.jcr_law.specs.State.{Call, command_at}
 use Rattle.jcr_law.specs.declared.law.JcrLaw.{JcrLaw}
 use Rattle.jcr_trans.specs.declared.command.Command.{Command}
 use Rattle.jcr_trans.specs.declared.command.Command.TheVariants as command
+use Rattle.jcr_session.specs.declared.read.Fetch.{Fetch}
+use Rattle.jcr_session.specs.declared.read.Fetch.TheVariants as fetch
 use Rattle.jcr_session.specs.declared.run.Phase.{Phase}
 use Rattle.jcr_session.specs.declared.run.Phase.TheVariants as phase
 use Rattle.jcr_session.specs.declared.run.SessionRun.{SessionRun}
@@ -112,13 +113,15 @@ stage_kinds (suc (suc (suc (suc (suc (suc (suc n))))))) kinds is = none_is_some 
 idle_apart : {A : Type 0} (w : Work) → w ≡ Idle → at_commit w ≡ true → A
 idle_apart w is commits = absurd (false≢true (sym (ap at_commit is) ∙ commits))
 
-reading_apart : {A : Type 0} (w : Work) (o : Option Need) → IsReading w o → at_commit w ≡ true → A
+reading_apart : {A : Type 0} (w : Work) (o : Option Fetch) → IsReading w o → at_commit w ≡ true → A
 reading_apart w None reads commits = idle_apart w reads commits
-reading_apart w (Some (need.Node path)) reads commits = absurd (false≢true (sym (ap at_commit reads) ∙ commits))
-reading_apart w (Some (need.Children path)) reads commits = absurd (false≢true (sym (ap at_commit reads) ∙ commits))
-reading_apart w (Some n) reads commits = absurd reads
+reading_apart w (Some (fetch.Tree (need.Node path))) reads commits = absurd (false≢true (sym (ap at_commit reads) ∙ commits))
+reading_apart w (Some (fetch.Tree (need.Children path))) reads commits = absurd (false≢true (sym (ap at_commit reads) ∙ commits))
+reading_apart w (Some (fetch.Tree (need.Subtree path))) reads commits = absurd reads
+reading_apart w (Some (fetch.Tree need.All)) reads commits = absurd reads
+reading_apart w (Some (fetch.Changes v)) reads commits = absurd (false≢true (sym (ap at_commit reads) ∙ commits))
 
--- no commit is under way where a task of the cluster node or of the settings is
+-- no commit is under way where a task of the cluster node, of the settings or of the cursor is
 errand_apart : (h : History) (s : ℕ) (c : Call) (m : Command) (w : Work) → IsWorkFor h s c m w → at_commit w ≡ false
 errand_apart h s c command.BackWrite (Starting task.BackWrite) works = refl
 errand_apart h s c command.BackWrite (Publishing r) works = refl
@@ -126,13 +129,16 @@ errand_apart h s c command.BackRead (Starting task.BackRead) works = refl
 errand_apart h s c command.BackRead (Learning v) works = refl
 errand_apart h s c command.Checkpoint (Starting (task.Checkpoint id)) works = refl
 errand_apart h s c (command.Release id) (Starting (task.Release i)) works = refl
+errand_apart h s c (command.Observe path deep mask) (Starting task.Observe) works = refl
+errand_apart h s c command.Events (Starting task.Observe) works = refl
 errand_apart h s c m w works = absurd works
 
 -- a commit is under way for a session that commits
 at_committing : (law : JcrLaw) (p : Shown) (run : SessionRun) (f : Phase) → StandsAt law p run f → at_commit p.work ≡ true → is_committing f ≡ true
 at_committing law p run phase.Outside at h = idle_apart p.work at.idle h
 at_committing law p run phase.Between at h = reading_apart p.work run.fetch at.1.reads h
-at_committing law p run (phase.Refreshed v) at h = idle_apart p.work at.1.idle h
+at_committing law p run (phase.Moved v) at h = idle_apart p.work at.1.idle h
+at_committing law p run phase.Detaching at h = absurd (false≢true (sym (ap at_commit at.1.works) ∙ h))
 at_committing law p run (phase.Committing pledge) at h = refl
 at_committing law p run (phase.Committed e pledge) at h = idle_apart p.work at.1.idle h
 at_committing law p run (phase.Working e) at h = absurd (false≢true (sym (errand_apart p.history p.session at.1.call at.1.command p.work at.1.works) ∙ h))

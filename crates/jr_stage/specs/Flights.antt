@@ -41,6 +41,7 @@ IsFlight past s (Some f) = IsFlightOf past s f
 abbrev pub decided : Flight → Flight
 decided f = record f { undecided = false }
 
+-- a flight with one document more that is written
 abbrev pub written_more : Flight → Flight
 written_more f = record f { written = f.written + 1 }
 

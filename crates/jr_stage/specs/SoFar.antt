@@ -81,6 +81,7 @@ IsQuiet script due (by_entry (entry.Last s)) before part later =
     ⊎ IsQuietNext (next_of (part ++ before) s later) (due s))
 IsQuiet script due rule before part later = Unit {0}
 
+-- all parts are quiet, each over the parts before it
 abbrev pub AreQuiet : Script → (ℕ → Option StepKind) → List Part → List Event → Type 0
 AreQuiet script due [] later = Unit {0}
 AreQuiet script due (p ∷ parts) later =
@@ -96,6 +97,7 @@ pub record IsCutSoFar (script : Script) (due : ℕ → Option StepKind) (parts :
 
 -- ---- the part under way
 
+-- the part under way goes on, and each place of it knows the next event that counts there
 pub record IsUnderWay (script : Script) (rule : Rule) (before part : Past) : Type 0 where
   pub goes : IsTrue (goes_on script rule before part [])
   pub knows : IsTrue (knows_next (session_of rule) before part)

@@ -45,6 +45,7 @@ use Rattle.jr_stage.specs.SoFar.{IsCutSoFar, IsStepAt, IsUnderWay, is_last_due}
 abbrev pub law_of : Script → JcrLaw
 law_of script = record { types = script.types; earlier = 0; sessions = script.sessions }
 
+-- the events of a stage's world so far
 abbrev pub past_of : Stage → Past
 past_of stage = stage.world.history.past
 
@@ -187,6 +188,7 @@ has_come_by f due (entry.Write s n) = nat_le n f.written
 has_come_by f due (entry.Last s) = nat_le f.documents f.written && f.undecided && is_last_due due
 has_come_by f due e = false
 
+-- a seat has come to what an entry waits for
 abbrev pub has_come : Stage → ℕ → Entry → Bool
 has_come stage s e =
     option_map_or

@@ -11,25 +11,28 @@ use Rattle.std.proofs.lemmas.List.{map_push}
 use Rattle.std.proofs.lemmas.List.Elements.{recursion_from_All, All-filter, All-push, All-weaker, All-nil}
 use Rattle.jr_rev.specs.declared.revision.Revision.{Revision}
 use Rattle.jr_rev.specs.declared.vector.Pin.{Pin}
-use Rattle.jr_rev.specs.Revisions.{revision_cmp, is_before}
+use Rattle.jr_rev.specs.Revisions.{revision_cmp, is_at_most, is_before}
 use Rattle.jr_rev.specs.Vectors.{Entries, entry, with_entry, start_of}
 use Rattle.oak_node.specs.declared.drawn.Drawn.{Drawn}
-use Rattle.oak_node.specs.Memory.{NodeState, IsMemory, own_entry, revisions_in, begins_in_flight}
+use Rattle.oak_node.specs.declared.pending.Note.{Note}
+use Rattle.oak_node.specs.Changes.{oldest_own}
+use Rattle.oak_node.specs.Memory.{NodeState, AreKept, IsMemory, last_draw, own_entry, revisions_in, begins_in_flight}
 use Rattle.oak_node.specs.Heads.{greatest_time, known_time, local_from, with_end}
+use Rattle.oak_node.proofs.Changes.{kept_draw, kept_rise, kept_since, oldest_is}
 use Rattle.oak_node.proofs.Owns.{entry-with_entry, with_entry_same, entry_time}
 use Rattle.oak_node.proofs.Rests.{rises_ended, All-with_end, local_from-has, rest_rises}
-use Rattle.oak_node.proofs.Rising.{before_less, same_revision, time_before}
+use Rattle.oak_node.proofs.Rising.{before_less, not_before_at_most, same_revision, time_before}
 use Rattle.oak_node.proofs.Settling.{RisesFrom, local_least, rest_flies}
 
 -- ---- the start
 
-start_own : (o : Option Revision) (k : ℕ) → IsSomeAnd o (λ e. e.cluster ≡ k) → (o ≡ Some (unwrap_or o (start_of k))) × ((unwrap_or o (start_of k)).cluster ≡ k)
+pub start_own : (o : Option Revision) (k : ℕ) → IsSomeAnd o (λ e. e.cluster ≡ k) → (o ≡ Some (unwrap_or o (start_of k))) × ((unwrap_or o (start_of k)).cluster ≡ k)
 start_own None k h = absurd h
 start_own (Some e) k h = (refl, h)
 
-pub start_memory : (s : NodeState) → 1 ≤ s.cluster → s.cluster ≤ 8 → IsSomeAnd (entry s.head s.cluster) (λ e. e.cluster ≡ s.cluster) → s.above ≡ [] → s.pins ≡ [] → (s.recovered ≡ true → s.stopped ≡ true) → IsMemory s
+pub start_memory : (s : NodeState) → 1 ≤ s.cluster → s.cluster ≤ 8 → IsSomeAnd (entry s.head s.cluster) (λ e. e.cluster ≡ s.cluster) → s.above ≡ [] → s.pins ≡ [] → AreKept (own_entry s) (last_draw s) s.since s.changed → (s.recovered ≡ true → s.stopped ≡ true) → IsMemory s
 unfolding IsStrictlySortedBy
-start_memory s low high has above pins stop =
+start_memory s low high has above pins kept stop =
     let own = start_own (entry s.head s.cluster) s.cluster has in
     record {
       low = low;
@@ -41,6 +44,7 @@ start_memory s low high has above pins stop =
       of_node = subst (λ (ds : List Drawn). All (λ d. d.revision.cluster ≡ s.cluster) ds) (sym above) (All-nil (λ d. d.revision.cluster ≡ s.cluster));
       times = subst (λ (ds : List Drawn). All (λ d. d.revision.time ≤ s.last_time) ds) (sym above) (All-nil (λ d. d.revision.time ≤ s.last_time));
       owners = subst (λ (ps : List (ℕ × Pin)). IsStrictlySortedBy nat_cmp (keys_of ps)) (sym pins) tt;
+      kept = kept;
       stop = stop;
     }
 
@@ -82,6 +86,7 @@ draw_memory s q above is later node grown =
       of_node = subst (λ (ds : List Drawn). All (λ d. d.revision.cluster ≡ s.cluster) ds) (sym grown) (All-push (λ d. d.revision.cluster ≡ s.cluster) s.above drawn is.of_node node);
       times = subst (λ (ds : List Drawn). All (λ d. d.revision.time ≤ q.time) ds) (sym grown) (All-push (λ d. d.revision.time ≤ q.time) s.above drawn (All-weaker (λ d. d.revision.time ≤ s.last_time) (λ d. d.revision.time ≤ q.time) (λ d h. omega arith) s.above is.times) (omega arith));
       owners = is.owners;
+      kept = kept_draw (own_entry s) (last_draw s) (record { time = q.time; counter = 0; cluster = s.cluster }) s.since s.changed is.kept (time_before (last_draw s) (record { time = q.time; counter = 0; cluster = s.cluster }) late) refl;
       stop = is.stop;
     }
 
@@ -120,6 +125,9 @@ finish_memory s r l head above is local_is head_is above_is =
       of_node = subst (λ (xs : List Drawn). All (λ d. d.revision.cluster ≡ s.cluster) xs) (sym above_is) (All-filter (λ d. is_before l d.revision) (λ d. d.revision.cluster ≡ s.cluster) ds (All-with_end (λ q. q.cluster ≡ s.cluster) s.above r is.of_node));
       times = subst (λ (xs : List Drawn). All (λ d. d.revision.time ≤ s.last_time) xs) (sym above_is) (All-filter (λ d. is_before l d.revision) (λ d. d.revision.time ≤ s.last_time) ds (All-with_end (λ q. q.time ≤ s.last_time) s.above r is.times));
       owners = is.owners;
+      kept =
+          kept_rise (own_entry s) (unwrap_or (entry head s.cluster) (start_of s.cluster)) (last_draw s) s.since s.changed is.kept
+          (subst (λ (q : Revision). is_at_most (own_entry s) q ≡ true) (sym (own_is ∙ local_is)) (not_before_at_most (local_from (own_entry s) ds) (own_entry s) (local_least (own_entry s) ds (rises_ended (own_entry s) s.above r is.rising))));
       stop = is.stop;
     }
 
@@ -143,5 +151,46 @@ pins_memory s pins after is same sorted = record {
   of_node = is.of_node;
   times = is.times;
   owners = subst (λ (ps : List (ℕ × Pin)). IsStrictlySortedBy nat_cmp (keys_of ps)) (sym same) sorted;
+  kept = is.kept;
   stop = is.stop;
 }
+
+-- ---- what is learned
+
+pub learn_memory : (s : NodeState) (head sweep : Entries) → IsMemory s → entry head s.cluster ≡ entry s.head s.cluster → IsMemory (record s { head = head; sweep = sweep })
+learn_memory s head sweep is same =
+    let own : unwrap_or (entry head s.cluster) (start_of s.cluster) ≡ own_entry s = ap (λ o. unwrap_or o (start_of s.cluster)) same in
+    record {
+      low = is.low;
+      high = is.high;
+      own = same ∙ (is.own ∙ ap (λ q. Some q) (sym own));
+      own_node = ap (λ q. q.cluster) own ∙ is.own_node;
+      rising = subst (λ (q : Revision). RisesFrom q s.above) (sym own) is.rising;
+      flying = is.flying;
+      of_node = is.of_node;
+      times = is.times;
+      owners = is.owners;
+      kept = subst (λ (q : Revision). AreKept q (last_draw s) s.since s.changed) (sym own) is.kept;
+      stop = is.stop;
+    }
+
+-- ---- what is dropped
+
+pub drop_memory : (s : NodeState) (notes changed : List Note) (e : Revision) → IsMemory s → e ≡ oldest_own s → changed ≡ filter (λ note. is_before e note.revision) s.changed → IsMemory (record s { notes = notes; since = e; changed = changed })
+drop_memory s notes changed e is oldest now =
+    let at = oldest_is s is in
+    record {
+      low = is.low;
+      high = is.high;
+      own = is.own;
+      own_node = is.own_node;
+      rising = is.rising;
+      flying = is.flying;
+      of_node = is.of_node;
+      times = is.times;
+      owners = is.owners;
+      kept =
+          subst (λ (ns : List Note). AreKept (own_entry s) (last_draw s) e ns) (sym now)
+          (kept_since (own_entry s) (last_draw s) s.since e s.changed is.kept (ap (λ (q : Revision). q.cluster) oldest ∙ at.0) (ap (λ (q : Revision). is_at_most q (own_entry s)) oldest ∙ at.1));
+      stop = is.stop;
+    }

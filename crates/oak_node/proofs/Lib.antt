@@ -1,3 +1,4 @@
+pub mod Changes
 pub mod Ends
 pub mod Kept
 pub mod Members
@@ -11,4 +12,5 @@ pub mod Rising
 pub mod Rules
 pub mod Settling
 pub mod Times
+pub mod Told
 pub mod Waits

@@ -16,9 +16,10 @@ use Rattle.jr_rev.specs.Revisions.{revision_cmp, is_before, is_at_most, is_same}
 use Rattle.jr_rev.specs.Vectors.{Entries, entry, start_of, with_entry}
 use Rattle.jr_rev.proofs.Order.{revision_total, at_most_itself}
 use Rattle.oak_node.specs.declared.drawn.Drawn.{Drawn}
-use Rattle.oak_node.specs.Memory.{NodeState, IsMemory, own_entry, revisions_in, begins_in_flight}
+use Rattle.oak_node.specs.Memory.{NodeState, IsMemory, last_draw, own_entry, revisions_in, begins_in_flight}
 use Rattle.oak_node.specs.Heads.{IsInFlight, finished, flying_in, last_drawn, local_from, with_end, with_own}
 use Rattle.oak_node.specs.Stops.{IsGreatestDrawn, with_recovery}
+use Rattle.oak_node.proofs.Changes.{kept_rise}
 use Rattle.oak_node.proofs.Kept.{finish_memory, own_after, own_now, start_memory}
 use Rattle.oak_node.proofs.Owns.{with_entry_same}
 use Rattle.oak_node.proofs.Rising.{before_at_most, before_less, less_before}
@@ -158,6 +159,13 @@ ends_from (suc n) s (d ∷ ds) above few is =
 pub recovered_is : (s : NodeState) → IsMemory s → with_recovery s ≡ record s { head = with_entry s.head (last_drawn (own_entry s) s.above); above = []; pins = []; recovered = true }
 recovered_is s is = ap (λ (x : NodeState). record x { pins = []; recovered = true }) (ends_from (length s.above) s s.above refl (omega arith) is)
 
+-- each of the drawn revisions is at most the last
+last_greatest : (e : Revision) (ds : List Drawn) → RisesFrom e ds → AllByRecursion (λ o. is_at_most o (last_drawn e ds) ≡ true) (e ∷ revisions_in ds)
+last_greatest e [] h = (at_most_itself e, tt)
+last_greatest e (d ∷ ds) h =
+    let rest = last_greatest d.revision ds (rises_on e d ds h) in
+    (ap is_le (before_less e (last_drawn d.revision ds) (before_at_most e d.revision (last_drawn d.revision ds) (first_follows e d ds h) rest.0)), rest)
+
 -- ---- what is true of a memory stays
 
 last_entry : (s : NodeState) → IsMemory s → entry (with_entry s.head (last_drawn (own_entry s) s.above)) s.cluster ≡ Some (last_drawn (own_entry s) s.above)
@@ -166,9 +174,13 @@ last_entry s is = own_after s (last_drawn (own_entry s) s.above) is (last_node s
 pub recovered_memory : (s : NodeState) (l : Revision) (head : Entries) (above : List Drawn) (pins : List (ℕ × Pin)) → IsMemory s → s.stopped ≡ true → l ≡ last_drawn (own_entry s) s.above → head ≡ with_entry s.head l → above ≡ [] → pins ≡ []
     → IsMemory (record s { head = head; above = above; pins = pins; recovered = true })
 recovered_memory s l head above pins is stopped last_is head_is none unpinned =
+    let own_last : unwrap_or (entry head s.cluster) (start_of s.cluster) ≡ last_drawn (own_entry s) s.above =
+    ap (λ o. unwrap_or o (start_of s.cluster)) (ap (λ v. entry v s.cluster) (head_is ∙ ap (with_entry s.head) last_is) ∙ last_entry s is) in
     start_memory (record s { head = head; above = above; pins = pins; recovered = true }) is.low is.high
     (subst (λ (o : Option Revision). IsSomeAnd o (λ e. e.cluster ≡ s.cluster)) (sym (ap (λ v. entry v s.cluster) (head_is ∙ ap (with_entry s.head) last_is) ∙ last_entry s is)) (last_node s is))
-    none unpinned (λ r. stopped)
+    none unpinned
+    (kept_rise (own_entry s) (unwrap_or (entry head s.cluster) (start_of s.cluster)) (last_draw s) s.since s.changed is.kept (subst (λ (q : Revision). is_at_most (own_entry s) q ≡ true) (sym own_last) (last_greatest (own_entry s) s.above is.rising).0))
+    (λ r. stopped)
 
 pub recovered_same : (s : NodeState) (l : Revision) (head : Entries) (above : List Drawn) (pins : List (ℕ × Pin)) → IsMemory s → l ≡ last_drawn (own_entry s) s.above → head ≡ with_entry s.head l → above ≡ [] → pins ≡ []
     → record s { head = head; above = above; pins = pins; recovered = true } ≡ with_recovery s
@@ -180,13 +192,6 @@ recovered_same s l head above pins is last_is head_is none unpinned =
 pub nothing_flies : (s : NodeState) (q : Revision) → IsMemory s → ¬ IsInFlight (with_recovery s) q
 nothing_flies s q is there =
     let within = subst (λ (x : NodeState). IsInFlight x q) (recovered_is s is) there in absurd (omega (arith, within.1))
-
--- each of the drawn revisions is at most the last
-last_greatest : (e : Revision) (ds : List Drawn) → RisesFrom e ds → AllByRecursion (λ o. is_at_most o (last_drawn e ds) ≡ true) (e ∷ revisions_in ds)
-last_greatest e [] h = (at_most_itself e, tt)
-last_greatest e (d ∷ ds) h =
-    let rest = last_greatest d.revision ds (rises_on e d ds h) in
-    (ap is_le (before_less e (last_drawn d.revision ds) (before_at_most e d.revision (last_drawn d.revision ds) (first_follows e d ds h) rest.0)), rest)
 
 pub own_greatest : (s : NodeState) → IsMemory s → IsGreatestDrawn (own_entry s ∷ revisions_in s.above) (own_entry (with_recovery s))
 own_greatest s is =

@@ -2,6 +2,7 @@
 use Rattle.oak_node.specs.declared.memory.NodeMem.TheInside.{Inside}
 use Rattle.oak_node.specs.Memory.{NodeState}
 
+-- the state of a cluster node, from the fields of its memory
 abbrev pub state_of : Inside → NodeState
 state_of m = record {
   cluster = m.cluster;
@@ -11,6 +12,8 @@ state_of m = record {
   above = m.above.items;
   pins = m.pins.items;
   notes = m.notes.items;
+  since = m.since;
+  changed = m.changed.items;
   stopped = m.stopped;
   recovered = m.recovered;
 }

@@ -42,6 +42,7 @@ HasEnded s r = (r.cluster ≡ s.cluster) × (IsTrue (is_at_most r (own_entry s))
 abbrev pub last_drawn : Revision → List Drawn → Revision
 last_drawn e drawn = fold (λ last d. d.revision) e drawn
 
+-- the greater of two revisions
 abbrev pub greater_of : Revision → Revision → Revision
 greater_of a b = cond (is_before a b) b a
 
@@ -81,6 +82,7 @@ pub record AwaitsEarlier (s : NodeState) (r q : Revision) : Type 0 where
   pub earlier : IsTrue (is_before q r)
   pub earliest : (o : Revision) → IsInFlight s o → IsTrue (is_at_most q o)
 
+-- a revision is ready where the head sees it; else it awaits the earliest in flight
 abbrev pub IsAwaited : NodeState → Revision → Awaits → Type 0
 IsAwaited s r Ready = sees s.head r ≡ true
 IsAwaited s r (Pending q) = AwaitsEarlier s r q

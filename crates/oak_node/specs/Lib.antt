@@ -1,3 +1,4 @@
+pub mod Changes
 pub mod Fields
 pub mod Heads
 pub mod Memory

@@ -1,19 +1,21 @@
 -- What a cluster node keeps in its memory.
 use Rattle.std.specs.Prelude.{◌≡◌, ℕ, ◌≤◌, Bool, true, false, not, List, [], ◌∷◌, map, All, Some, unwrap_or, IsTrue}
-use Rattle.std.specs.List.Sorted.{IsStrictlySortedBy}
+use Rattle.std.specs.List.Sorted.{IsSortedByKey, IsStrictlySortedBy}
 use Rattle.std.specs.Map.{keys_of}
+use Rattle.std.specs.Option.{option_map_or}
 use Rattle.std.specs.Ordering.{nat_cmp}
 use Rattle.jr_rev.specs.declared.revision.Revision.{Revision}
 use Rattle.jr_rev.specs.declared.vector.Pin.{Pin}
-use Rattle.jr_rev.specs.Revisions.{revision_cmp}
+use Rattle.jr_rev.specs.Revisions.{revision_cmp, is_at_most}
 use Rattle.jr_rev.specs.Vectors.{Entries, entry, start_of}
 use Rattle.oak_node.specs.declared.drawn.Drawn.{Drawn}
 use Rattle.oak_node.specs.declared.pending.Note.{Note}
 
 -- a cluster node's number; its head; the sweep vector; the time of its last draw, 0 before the
 -- first; the revisions that it drew above its head's own entry, ascending; the pins by their
--- owners, ascending; the noted paths, the first first; whether the node was stopped, and whether its
--- memory was recovered
+-- owners, ascending; the noted paths, the first first; a revision of the node, and all paths that
+-- its later draws noted, the first first; whether the node was stopped, and whether its memory was
+-- recovered
 pub record NodeState : Type 0 where
   pub cluster : ℕ
   pub head : Entries
@@ -22,11 +24,17 @@ pub record NodeState : Type 0 where
   pub above : List Drawn
   pub pins : List (ℕ × Pin)
   pub notes : List Note
+  pub since : Revision
+  pub changed : List Note
   pub stopped : Bool
   pub recovered : Bool
 
--- the memory of a running node that has drawn, pinned and noted nothing, with this vector as its head
--- and sweep vector
+-- the revision of cluster node k that stands in a vector, or its start
+abbrev pub own_in : ℕ → Entries → Revision
+own_in k v = option_map_or {T = Revision} (λ r. record r { cluster = k }) (entry v k) (start_of k)
+
+-- the memory of a running node that has drawn, pinned and noted nothing, with this vector as its
+-- head and sweep vector
 abbrev pub begun : ℕ → Entries → NodeState
 begun cluster start = record {
   cluster = cluster;
@@ -36,6 +44,8 @@ begun cluster start = record {
   above = [];
   pins = [];
   notes = [];
+  since = own_in cluster start;
+  changed = [];
   stopped = false;
   recovered = false;
 }
@@ -44,6 +54,11 @@ begun cluster start = record {
 abbrev pub own_entry : NodeState → Revision
 own_entry s = unwrap_or (entry s.head s.cluster) (start_of s.cluster)
 
+-- the revision that the node drew last, if it has drawn
+abbrev pub last_draw : NodeState → Revision
+last_draw s = record { time = s.last_time; counter = 0; cluster = s.cluster }
+
+-- the revisions that were drawn, in their order
 abbrev pub revisions_in : List Drawn → List Revision
 revisions_in drawn = map (λ d. d.revision) drawn
 
@@ -52,9 +67,19 @@ abbrev pub begins_in_flight : List Drawn → Bool
 begins_in_flight [] = true
 begins_in_flight (d ∷ ds) = not d.ended
 
+-- what is kept of a node's draws, by its own entry and its last draw: since a revision of the node
+-- that is at most its own entry; notes of the node, not falling, and none after the last draw
+pub record AreKept (own last since : Revision) (changed : List Note) : Type 0 where
+  pub node : since.cluster ≡ last.cluster
+  pub low : IsTrue (is_at_most since own)
+  pub of_node : All (λ note. note.revision.cluster ≡ last.cluster) changed
+  pub order : IsSortedByKey (λ note. note.revision) revision_cmp changed
+  pub late : All (λ note. IsTrue (is_at_most note.revision last)) changed
+
 -- what is true of each memory: the node has a number from 1 to 8, and an entry in its head; what it
 -- drew above that entry is of this node, rises from there and begins with one in flight, and no
--- draw is later than the last; no owner has two pins; a node that was recovered was stopped
+-- draw is later than the last; no owner has two pins; what is kept of its draws is in order; a node
+-- that was recovered was stopped
 pub record IsMemory (s : NodeState) : Type 0 where
   pub low : 1 ≤ s.cluster
   pub high : s.cluster ≤ 8
@@ -65,4 +90,5 @@ pub record IsMemory (s : NodeState) : Type 0 where
   pub of_node : All (λ d. d.revision.cluster ≡ s.cluster) s.above
   pub times : All (λ d. d.revision.time ≤ s.last_time) s.above
   pub owners : IsStrictlySortedBy nat_cmp (keys_of s.pins)
+  pub kept : AreKept (own_entry s) (last_draw s) s.since s.changed
   pub stop : IsTrue s.recovered → IsTrue s.stopped

@@ -1,9 +1,12 @@
 // What the definitions of the calls mean, in the words of the protocol.
-ghost use Rattle.std.specs.Prelude.{◌≡◌, ◌≢◌, ℕ, ◌≤◌, ◌↔◌, ◌∷◌, None, Contains, IsTrue};
+ghost use Rattle.std.specs.Prelude.{◌≡◌, ◌≢◌, ℕ, ◌≤◌, ◌↔◌, ◌∷◌, None, Some, Contains, IsTrue};
 ghost use Rattle.jr_rev.specs.Revisions.{is_before};
-ghost use Rattle.jr_rev.specs.Vectors.{Entries, entry, sees, is_below, greater_entry};
+ghost use Rattle.jr_rev.specs.declared.vector.Pin.{Pin};
+ghost use Rattle.jr_rev.specs.Vectors.{Entries, entry, sees, is_below, greater_entry, IsVector};
+ghost use Rattle.oak_node.specs.Changes.{changed_since, known_from};
 ghost use Rattle.oak_node.specs.Memory.{NodeState, IsMemory, own_entry, revisions_in};
 ghost use Rattle.oak_node.specs.Heads.{next_draw, IsInFlight, finished, IsLocal, learned};
+ghost use Rattle.oak_node.specs.Notes.{without_seen};
 ghost use Rattle.oak_node.specs.Pins.{pin_of};
 ghost use Rattle.oak_node.specs.Stops.{with_recovery, IsGreatestDrawn};
 
@@ -38,6 +41,15 @@ pub fn others_are_learned()
         entry (learned s v w).sweep k ≡ greater_entry (entry s.sweep k) (entry w k) }
     ensures rising { (s : NodeState) (v w : Entries) →
         IsMemory s → IsTrue (is_below s.head (learned s v w).head) }
+{}
+
+/// At its own head a node knows what changed. What a background write drops is missed at no pin: at
+/// the base of each it tells what it told before.
+pub fn changes_are_told()
+    ensures head { (s : NodeState) → IsMemory s → IsTrue (is_below (known_from s) s.head) }
+    ensures pins { (s : NodeState) (owner : ℕ) (pin : Pin) →
+        IsMemory s → IsVector pin.base → pin_of s owner ≡ Some pin →
+        changed_since (without_seen s) pin.base ≡ changed_since s pin.base }
 {}
 
 /// A recovered node has no pin and no draw in flight. Its head's own entry is the greatest revision

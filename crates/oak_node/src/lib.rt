@@ -11,6 +11,8 @@ mod memory;
 mod pending;
 mod pins;
 
-pub use laws::{draws_rise, others_are_learned, recovery_ends_all, rule_of_heads};
+pub use laws::{
+    changes_are_told, draws_rise, others_are_learned, recovery_ends_all, rule_of_heads,
+};
 pub use memory::{Awaits, NodeMem};
-pub use pending::Pending;
+pub use pending::{Note, Pending};

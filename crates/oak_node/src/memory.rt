@@ -1,18 +1,19 @@
 // The memory of one cluster node.
-ghost use Rattle.std.specs.Prelude.{◌≡◌, ◌-◌, ◌^◌, ◌<◌, ◌≤◌, ◌∷◌, ◌++◌, [], false, IfOk, OnOk, OnErr, IsOk, IsSome, IsSomeAnd, IsTrue};
+ghost use Rattle.std.specs.Prelude.{◌≡◌, ◌-◌, ◌^◌, ◌<◌, ◌≤◌, ◌∷◌, ◌++◌, [], false, IfOk, OnOk, OnErr, IsOk, IsSome, IsSomeAnd, IsTrue, MatchOption, None, Some};
 ghost use Rattle.std.specs.Bool.{OnFalse};
 ghost use Rattle.jr_rev.specs.Revisions.{is_before};
-ghost use Rattle.jr_rev.specs.Vectors.{entry, start_of};
+ghost use Rattle.jr_rev.specs.Vectors.{entry};
+ghost use Rattle.oak_node.specs.Changes.{changed_since, known_from, oldest_own};
 ghost use Rattle.oak_node.specs.Memory.{IsMemory, begun, own_entry};
 ghost use Rattle.oak_node.specs.Heads.{greatest_time, known_time, next_draw, with_draw, finished, learned};
 ghost use Rattle.oak_node.specs.Heads.{IsInFlight, HasEnded, IsAwaited};
 ghost use Rattle.oak_node.specs.Pins.{pin_of, pin_now, with_pin, without_pin};
-ghost use Rattle.oak_node.specs.Notes.{notes_of, with_note, with_notes, without_seen, IsPending};
+ghost use Rattle.oak_node.specs.Notes.{notes_of, with_notes, without_seen, IsPending};
 ghost use Rattle.oak_node.specs.Stops.{with_stop, with_recovery};
 
 use crate::drawn::{Drawn, last, put_in_flight, settle};
-use crate::pending::{Note, Pending, due_paths, put_note, put_notes};
-use crate::pins;
+use crate::pending::{Note, Pending, due_paths, put_notes};
+use crate::pins::{self, own_in, start_of};
 use jr_path::{List, Path};
 use jr_rev::{Pin, RevVec, Revision};
 use std::alloc::{AllocError, Global};
@@ -32,7 +33,8 @@ pub enum Awaits {
 ///
 /// Its number, 1 to 8; its head, a revision vector; the sweep vector; the time of its last draw;
 /// the revisions that it drew above its head's own entry; the pins, one for an owner; the paths
-/// that it noted to be published; whether the node was stopped, and its memory recovered.
+/// that it noted to be published; the paths that its draws after `since` noted, in their order;
+/// whether the node was stopped, and its memory recovered.
 pub struct NodeMem {
     cluster: u32,
     head: RevVec,
@@ -41,6 +43,8 @@ pub struct NodeMem {
     above: Vec<Drawn>,
     pins: Vec<(u32, Pin)>,
     notes: Vec<Note>,
+    since: Revision,
+    changed: Vec<Note>,
     stopped: bool,
     recovered: bool,
 }
@@ -56,12 +60,15 @@ impl Drop for NodeMem {
             above,
             pins,
             notes,
+            since: _,
+            changed,
             stopped: _,
             recovered: _,
         } = self;
         drop(above);
         drop(pins);
         drop(notes);
+        drop(changed);
     }
 }
 
@@ -94,6 +101,8 @@ impl NodeMem {
             above: Vec::new(alloc),
             pins: Vec::new(alloc),
             notes: Vec::new(alloc),
+            since: own_in(cluster, &start),
+            changed: Vec::new(alloc),
             stopped: false,
             recovered: false,
         }
@@ -112,22 +121,9 @@ impl NodeMem {
         }
     }
 
-    /// Draws a revision of this node, which is in flight from then on. Its time is one more than
-    /// the greatest that the node knows, of its head and of its last draw, and its counter is 0.
-    pub fn draw(&mut self) -> Result<Revision, AllocError>
-        requires { known_time self.old < 2 ^ 64 - 1 }
-        ensures drawn { IfOk result (λ r. r ≡ next_draw self.old) }
-        ensures ok { OnOk result (self.new ≡ with_draw self.old (next_draw self.old)) }
-        ensures err { OnErr result (self.new ≡ self.old) }
-    {
-        let revision = self.next_draw();
-        put_in_flight(&mut self.above, revision)?;
-        self.last_time = revision.time;
-        Ok(revision)
-    }
-
-    /// Draws a revision, as `draw` does, and notes the paths with it. Where memory is refused
-    /// nothing changes.
+    /// Draws a revision of this node, which is in flight from then on, and notes the paths with it.
+    /// Its time is one more than the greatest that the node knows, of its head and of its last
+    /// draw, and its counter is 0. Where memory is refused nothing changes.
     pub fn draw_noting(&mut self, paths: &[Path]) -> Result<Revision, AllocError>
         requires { known_time self.old < 2 ^ 64 - 1 }
         ensures drawn { IfOk result (λ r. r ≡ next_draw self.old) }
@@ -136,7 +132,13 @@ impl NodeMem {
         ensures err { OnErr result (self.new ≡ self.old) }
     {
         let revision = self.next_draw();
-        put_drawn(&mut self.above, &mut self.notes, paths, revision)?;
+        put_draw(
+            &mut self.above,
+            &mut self.notes,
+            &mut self.changed,
+            paths,
+            revision,
+        )?;
         self.last_time = revision.time;
         Ok(revision)
     }
@@ -246,24 +248,36 @@ impl NodeMem {
         }
     }
 
-    /// Notes a path that a commit with this revision changes. Noted twice, it stands twice.
-    pub fn note(&mut self, path: &Path, r: Revision) -> Result<(), AllocError>
-        ensures ok { OnOk result (self.new ≡ with_note self.old path.now r) }
-        ensures err { OnErr result (self.new ≡ self.old) }
+    /// What this node's draws changed since a vector (Oak, DocumentNodeStore: the diff cache, which
+    /// local commits fill): the paths that they noted, with the draws that the vector doesn't see,
+    /// in the order of the draws. None where the vector lacks what the head sees of other nodes, or
+    /// is older than what is kept: then more may have changed.
+    pub fn changed_since(&self, v: &RevVec) -> Option<&[Note]>
+        ensures { MatchOption result (changed_since self.now v.now ≡ None)
+            (λ notes. changed_since self.now v.now ≡ Some notes.now) }
     {
-        put_note(&mut self.notes, path, r)
+        if !self.known_from().is_below(v) {
+            return None;
+        }
+        let seen = self.changed.partition_point(|note| v.sees(note.revision));
+        Some(&self.changed[seen..])
     }
 
     /// Takes the noted paths whose revision the head sees, those of refused commits among them,
-    /// each once and in path order, with the head's own entry. They are then no longer noted.
+    /// each once and in path order, with the head's own entry. They are then no longer noted. What
+    /// changed is dropped up to the oldest of the head and of the bases of the pins since which
+    /// this node knows what changed.
     pub fn take_pending(&mut self) -> Result<Pending, AllocError>
         ensures pending { IfOk result (IsPending self.old) }
         ensures ok { OnOk result (self.new ≡ without_seen self.old) }
         ensures err { OnErr result (self.new ≡ self.old) }
     {
         let head = self.head;
+        let oldest = self.oldest_own();
         let paths = due_paths(*self.notes.allocator(), &self.notes, &head)?;
         self.notes.retain(|note| !head.sees(note.revision));
+        self.since = oldest;
+        self.changed.retain(|note| oldest < note.revision);
         Ok(Pending {
             paths: List::of(paths),
             upto: self.own(),
@@ -336,21 +350,57 @@ impl NodeMem {
             None => start_of(self.cluster),
         }
     }
-}
 
-// The revision at which a cluster node starts.
-fn start_of(cluster: u32) -> Revision
-    ensures { result ≡ start_of cluster }
-{
-    Revision {
-        time: 0,
-        counter: 0,
-        cluster,
+    // The least vector since which this node knows what changed.
+    fn known_from(&self) -> RevVec
+        ensures { result ≡ known_from self.now }
+    {
+        let mut known = self.head;
+        known.set(self.since);
+        known
+    }
+
+    // The earliest own entry of the head, and of the bases of the pins since which this node knows
+    // what changed.
+    fn oldest_own(&self) -> Revision
+        ensures { result ≡ oldest_own self.now }
+    {
+        let known = self.known_from();
+        pins::oldest(&self.pins, &known, self.cluster, self.own())
     }
 }
 
-// Notes the paths with a revision, and puts it behind those drawn before, in flight. Where memory is
-// refused nothing changes.
+// Notes the paths with a revision, to be published and as changed, and puts it behind those drawn
+// before, in flight. Where memory is refused nothing changes.
+fn put_draw(
+    above: &mut Vec<Drawn>,
+    notes: &mut Vec<Note>,
+    changed: &mut Vec<Note>,
+    paths: &[Path],
+    revision: Revision,
+) -> Result<(), AllocError>
+    ensures noted { OnOk result (notes.new.items ≡ notes.old.items ++ notes_of revision paths.now) }
+    ensures more { OnOk result
+        (changed.new.items ≡ changed.old.items ++ notes_of revision paths.now) }
+    ensures drawn { OnOk result
+        (above.new.items ≡ above.old.items ++ record { revision = revision; ended = false } ∷ []) }
+    ensures notes { OnErr result (notes.new.items ≡ notes.old.items) }
+    ensures changed { OnErr result (changed.new.items ≡ changed.old.items) }
+    ensures above { OnErr result (above.new.items ≡ above.old.items) }
+{
+    let before = changed.len();
+    put_notes(changed, paths, revision)?;
+    match put_drawn(above, notes, paths, revision) {
+        Ok(()) => Ok(()),
+        Err(error) => {
+            changed.truncate(before);
+            Err(error)
+        }
+    }
+}
+
+// Notes the paths with a revision, and puts it behind those drawn before, in flight. Where memory
+// is refused nothing changes.
 fn put_drawn(
     above: &mut Vec<Drawn>,
     notes: &mut Vec<Note>,

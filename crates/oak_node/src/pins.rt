@@ -1,12 +1,15 @@
 // Pins, in the order of their owners.
-ghost use Rattle.std.specs.Prelude.{◌≡◌, ◌<◌, ◌≤◌, MatchResult, OnOk, OnErr, IsOk, IsSome, length, set, insert};
+ghost use Rattle.std.specs.Prelude.{◌≡◌, ◌<◌, ◌≤◌, MatchResult, OnOk, OnErr, IsOk, IsSome, length, set, insert, filter, fold};
 ghost use Rattle.std.specs.BTreeMap.{is_at, insert_entry};
 ghost use Rattle.std.specs.List.Sorted.{IsStrictlySortedBy};
 ghost use Rattle.std.specs.Map.{lookup, keys_of, remove_entry};
-ghost use Rattle.std.specs.Ordering.{nat_cmp};
+ghost use Rattle.std.specs.Ordering.{nat_cmp, ord_min};
+ghost use Rattle.jr_rev.specs.Revisions.{revision_cmp};
+ghost use Rattle.jr_rev.specs.Vectors.{is_below, start_of};
+ghost use Rattle.oak_node.specs.Memory.{own_in};
 ghost use Rattle.oak_node.specs.Pins.{IsPlaceOf, IsGapOf};
 
-use jr_rev::Pin;
+use jr_rev::{Pin, RevVec, Revision};
 use std::alloc::AllocError;
 
 // The owner's pin.
@@ -82,4 +85,45 @@ fn place(pins: &[(u32, Pin)], owner: u32) -> Result<usize, usize>
     ensures { MatchResult result (IsPlaceOf pins.now owner) (IsGapOf pins.now owner) }
 {
     pins.binary_search_by_key(&owner, |pin| pin.0)
+}
+
+// The earliest of an own entry of a cluster node, and of the revisions of that node that stand in
+// the bases of the pins above a vector.
+#[tactic(auto, using(crate::proofs::Changes::oldest_more))]
+pub(crate) fn oldest(pins: &[(u32, Pin)], known: &RevVec, cluster: u32, own: Revision) -> Revision
+    ensures { result ≡ fold (λ e pin. ord_min revision_cmp e (own_in cluster pin.1.base)) own
+        (filter (λ pin. is_below known.now pin.1.base) pins.now) }
+{
+    let mut oldest = own;
+    for (_, pin) in pins {
+        if known.is_below(&pin.base) {
+            oldest = oldest.min(own_in(cluster, &pin.base));
+        }
+    }
+    oldest
+}
+
+// The revision of a cluster node that stands in a vector, or its start.
+pub(crate) fn own_in(cluster: u32, vector: &RevVec) -> Revision
+    ensures { result ≡ own_in cluster vector.now }
+{
+    match vector.get(cluster) {
+        Some(own) => Revision {
+            time: own.time,
+            counter: own.counter,
+            cluster,
+        },
+        None => start_of(cluster),
+    }
+}
+
+// The revision at which a cluster node starts.
+pub(crate) fn start_of(cluster: u32) -> Revision
+    ensures { result ≡ start_of cluster }
+{
+    Revision {
+        time: 0,
+        counter: 0,
+        cluster,
+    }
 }

@@ -22,7 +22,7 @@ use Rattle.jr_value.specs.declared.value.Property.{Property}
 use Rattle.oak_doc.specs.declared.document.Document.{Document}
 use Rattle.oak_doc.specs.Updates.{Props}
 use Rattle.oak_sound.specs.Meant.{ById}
-use Rattle.oak_open.specs.Opened.{cleaned, is_changed, number_after, opened_document, opened_from, settled, those, values_left}
+use Rattle.oak_open.specs.Opened.{cleaned, changes_at_opening, number_after, opened_document, opened_from, begun_anew, those, values_left}
 
 module _ (test : Revision → Bool) where
   module _ {X : Type 0} where
@@ -112,17 +112,17 @@ module _ (ds : ById) (pin : Pin) (sessions : ℕ) where
   number_by true n next counted own drawn is = is ∙ drawn
   number_by false n next counted own drawn is = is
 
-  opened_is : (n next counted : ℕ) (d made : Document) (b : Bool) → b ≡ is_changed ds pin d → next ≡ cond b (n + 1) n
-      → counted ≡ cond b next d.mod_count → made ≡ record (settled pin.base sessions (cleaned ds pin d)) { mod_count = counted }
+  opened_is : (n next counted : ℕ) (d made : Document) (b : Bool) → b ≡ changes_at_opening ds pin d → next ≡ cond b (n + 1) n
+      → counted ≡ cond b next d.mod_count → made ≡ record (begun_anew pin.base sessions (cleaned ds pin d)) { mod_count = counted }
       → made ≡ opened_document ds pin sessions n d
   opened_is n next counted d made b changed drawn is made_is =
-      made_is ∙ ap (λ k. record (settled pin.base sessions (cleaned ds pin d)) { mod_count = k })
+      made_is ∙ ap (λ k. record (begun_anew pin.base sessions (cleaned ds pin d)) { mod_count = k })
       (number_by b n next counted d.mod_count drawn is ∙ ap (λ c. cond c (n + 1) d.mod_count) changed)
 
   -- one more document is opened
   pub opened_step : (number n next counted : ℕ) (all rest more : ById) (items new : List Document) (id : DocId) (d made : Document)
-      (b : Bool) → rest ≡ (id, d) ∷ more → b ≡ is_changed ds pin d → next ≡ cond b (n + 1) n → counted ≡ cond b next d.mod_count
-      → made ≡ record (settled pin.base sessions (cleaned ds pin d)) { mod_count = counted } → new ≡ items ++ made ∷ []
+      (b : Bool) → rest ≡ (id, d) ∷ more → b ≡ changes_at_opening ds pin d → next ≡ cond b (n + 1) n → counted ≡ cond b next d.mod_count
+      → made ≡ record (begun_anew pin.base sessions (cleaned ds pin d)) { mod_count = counted } → new ≡ items ++ made ∷ []
       → AreOpened number all rest items n → AreOpened number all more new next
   opened_step number n next counted all rest more items new id d made b first changed drawn is made_is pushed so_far =
       let next_is : next ≡ number_after ds pin n d = drawn ∙ ap (λ c. cond c (n + 1) n) changed in

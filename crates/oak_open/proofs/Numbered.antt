@@ -15,9 +15,9 @@ use Rattle.jr_path.specs.declared.path.DocId.{DocId}
 use Rattle.jr_rev.specs.declared.vector.Pin.{Pin}
 use Rattle.oak_doc.specs.declared.document.Document.{Document}
 use Rattle.oak_store.specs.Tables.{AreStored, by_id}
-use Rattle.oak_sound.specs.Meant.{ById, greatest_number}
-use Rattle.oak_sound.specs.Sound.{AreSound, Rule, first_breaking, keeps_numbers}
-use Rattle.oak_open.specs.Opened.{is_changed, number_after, opened_document, opened_from}
+use Rattle.oak_sound.specs.Meant.{ById, greatest_number, opened_tree, swept}
+use Rattle.oak_sound.specs.Sound.{AreSoundDocuments, DocumentRule, first_breaking, keeps_numbers, keeps_revisions, keeps_roots, keeps_tree}
+use Rattle.oak_open.specs.Opened.{changes_at_opening, number_after, opened_document, opened_from}
 
 none_some : {X : Type 0} (x : X) → Some x ≡ None → ⊥
 none_some x is = true≢false (ap is_some is)
@@ -31,26 +31,50 @@ unmapped : {X Y : Type 0} (f : X → Y) (o : Option X) → option_map f o ≡ No
 unmapped f None is = refl
 unmapped f (Some x) is = absurd (none_some (f x) is)
 
--- sound documents keep the rule of numbers
-pub sound_numbers : (clusters : ℕ) (ds : ById) → AreSound clusters ds
-    → first_breaking (λ before e. keeps_numbers before e.1) [] ds ≡ None
-sound_numbers clusters ds sound =
+-- sound documents keep each rule: the second, that of numbers, that of commit roots and that of the tree
+pub record KeepRules (clusters : ℕ) (ds : ById) : Type 0 where
+  pub revisions : first_breaking (λ before e. keeps_revisions clusters e.1) [] ds ≡ None
+  pub numbers : first_breaking (λ before e. keeps_numbers before e.1) [] ds ≡ None
+  pub roots : first_breaking (λ before e. keeps_roots ds (swept ds) e.0 e.1) [] ds ≡ None
+  pub tree : first_breaking (λ before e. keeps_tree ds (swept ds) (opened_tree clusters ds) e.0 e.1) [] ds ≡ None
+
+pub sound_rules : (clusters : ℕ) (ds : ById) → AreSoundDocuments clusters ds → KeepRules clusters ds
+sound_rules clusters ds sound =
     let first = neither _ _ sound in
     let second = neither _ _ first.1 in
     let third = neither _ _ second.1 in
-    unmapped (λ i. (3, i)) _ third.0
+    let fourth = neither _ _ third.1 in
+    let fifth = neither _ _ fourth.1 in
+    record {
+      revisions = unmapped (λ i. (2, i)) _ second.0;
+      numbers = unmapped (λ i. (3, i)) _ third.0;
+      roots = unmapped (λ i. (4, i)) _ fourth.0;
+      tree = unmapped (λ i. (5, i)) _ fifth.0;
+    }
+
+-- sound documents keep the rule of numbers
+pub sound_numbers : (clusters : ℕ) (ds : ById) → AreSoundDocuments clusters ds
+    → first_breaking (λ before e. keeps_numbers before e.1) [] ds ≡ None
+sound_numbers clusters ds sound = (sound_rules clusters ds sound).numbers
 
 both : (a b : Bool) → (a && b) ≡ true → (a ≡ true) × (b ≡ true)
 both true b is = (refl, is)
 both false b is = absurd (true≢false (sym is))
 
 -- each document keeps a rule that none breaks
-kept_first : (rule : Rule) (before : ById) (e : DocId × Document) (es : ById) (b : Bool) → rule before e ≡ b
+pub kept_first : (rule : DocumentRule) (before : ById) (e : DocId × Document) (es : ById) (b : Bool) → rule before e ≡ b
     → first_breaking rule before (e ∷ es) ≡ None → (rule before e ≡ true) × (first_breaking rule (before ++ e ∷ []) es ≡ None)
 kept_first rule before e es true is none = (is, rw is at none)
 kept_first rule before e es false is none = absurd (none_some (length before) (rw is at none))
 
-abbrev numbers : Rule
+-- a rule that asks nothing of the documents before is kept by each
+pub all_keep : (P : DocId × Document → Bool) (before ds : ById) → first_breaking (λ b e. P e) before ds ≡ None → list_all P ds ≡ true
+all_keep P before [] none = refl
+all_keep P before (e ∷ es) none =
+    let kept = kept_first (λ b x. P x) before e es (P e) refl none in
+    rw kept.0 (all_keep P (before ++ e ∷ []) es kept.1)
+
+abbrev numbers : DocumentRule
 numbers = λ before e. keeps_numbers before e.1
 
 parts : (before : ById) (d : Document) → keeps_numbers before d ≡ true
@@ -96,7 +120,7 @@ rises : (n : ℕ) (ds : ById) → n ≤ fold later n ds
 rises n [] = omega arith
 rises n (e ∷ es) = let up : max n e.1.mod_count ≤ fold later (max n e.1.mod_count) es = rises (max n e.1.mod_count) es in omega arith
 
-all_below : (n : ℕ) (ds : ById) → All (λ d. d.mod_count ≤ fold later n ds) (values_of ds)
+pub all_below : (n : ℕ) (ds : ById) → All (λ d. d.mod_count ≤ fold later n ds) (values_of ds)
 all_below n [] = All-nil _
 all_below n (e ∷ es) =
     let up : max n e.1.mod_count ≤ fold later (max n e.1.mod_count) es = rises (max n e.1.mod_count) es in
@@ -104,7 +128,7 @@ all_below n (e ∷ es) =
     (all_below (max n e.1.mod_count) es)
 
 module _ (ds : ById) (pin : Pin) (sessions : ℕ) where
-  ids_stay : (n : ℕ) (all : List Document) → map (λ d. d.id) (opened_from ds pin sessions n all).0 ≡ map (λ d. d.id) all
+  pub ids_stay : (n : ℕ) (all : List Document) → map (λ d. d.id) (opened_from ds pin sessions n all).0 ≡ map (λ d. d.id) all
   ids_stay n [] = refl
   ids_stay n (d ∷ rest) = ap (λ ids. d.id ∷ ids) (ids_stay (number_after ds pin n d) rest)
 
@@ -117,7 +141,7 @@ module _ (ds : ById) (pin : Pin) (sessions : ℕ) where
   last_rises n (d ∷ rest) =
       let up : number_after ds pin n d ≤ (opened_from ds pin sessions (number_after ds pin n d) rest).1 = last_rises
       (number_after ds pin n d) rest in
-      let here : n ≤ number_after ds pin n d = after_is n (is_changed ds pin d) in
+      let here : n ≤ number_after ds pin n d = after_is n (changes_at_opening ds pin d) in
       omega arith
 
   own_number : (n m : ℕ) (b : Bool) → m ≤ n → cond b (n + 1) m ≤ cond b (n + 1) n
@@ -127,17 +151,17 @@ module _ (ds : ById) (pin : Pin) (sessions : ℕ) where
   below : (k m n : ℕ) → k ≤ m → m ≤ n → k ≤ n
   below k m n a b = omega arith
 
-  drawn_from : (n : ℕ) (all : List Document) → All (λ d. d.mod_count ≤ n) all
+  pub drawn_from : (n : ℕ) (all : List Document) → All (λ d. d.mod_count ≤ n) all
       → All (λ d. d.mod_count ≤ (opened_from ds pin sessions n all).1) (opened_from ds pin sessions n all).0
   drawn_from n [] low = All-nil _
   drawn_from n (d ∷ rest) low =
       let next = number_after ds pin n d in
       let up : next ≤ (opened_from ds pin sessions next rest).1 = last_rises next rest in
-      let own : (opened_document ds pin sessions n d).mod_count ≤ next = own_number n d.mod_count (is_changed ds pin d)
+      let own : (opened_document ds pin sessions n d).mod_count ≤ next = own_number n d.mod_count (changes_at_opening ds pin d)
       (All-head (λ d. d.mod_count ≤ n) d rest low) in
       let here : (opened_document ds pin sessions n d).mod_count ≤ (opened_from ds pin sessions next rest).1
       = below _ next _ own up in
-      let step : n ≤ next = after_is n (is_changed ds pin d) in
+      let step : n ≤ next = after_is n (changes_at_opening ds pin d) in
       let behind = All-weaker (λ d. d.mod_count ≤ n) (λ d. d.mod_count ≤ next)
       (λ x h. below x.mod_count n next h step) rest (All-tail (λ d. d.mod_count ≤ n) d rest low) in
       All-cons (λ d. d.mod_count ≤ (opened_from ds pin sessions next rest).1) (opened_document ds pin sessions n d)
@@ -152,7 +176,7 @@ module _ (ds : ById) (pin : Pin) (sessions : ℕ) where
     drawn = drawn_from (greatest_number ds) (values_of ds) (all_below 0 ds);
   }
 
-keys_by_id : (ds : List Document) → map (λ d. d.id) ds ≡ keys_of (by_id ds)
+pub keys_by_id : (ds : List Document) → map (λ d. d.id) ds ≡ keys_of (by_id ds)
 keys_by_id [] = refl
 keys_by_id (d ∷ ds) = ap (λ ids. d.id ∷ ids) (keys_by_id ds)
 

@@ -15,8 +15,8 @@ use Rattle.oak_read.specs.Meaning.{documents_in, is_committed}
 use Rattle.oak_sound.specs.Meant.{ById, greatest_number, opened_pin}
 
 -- the base sees the revision, and it is committed as it stands in the document
-abbrev pub stays : ById → Pin → Document → Revision → Bool
-stays ds pin d r = sees pin.base r && is_committed (documents_in ds) pin.sweep d r
+abbrev pub stays_opened : ById → Pin → Document → Revision → Bool
+stays_opened ds pin d r = sees pin.base r && is_committed (documents_in ds) pin.sweep d r
 
 -- the entries whose revisions pass a test
 abbrev pub those : {X : Type 0} → (Revision → Bool) → List (Revision × X) → List (Revision × X)
@@ -29,32 +29,34 @@ values_left test ps = filter (λ p. not (length p.1 == 0)) (map (λ p. (p.0, tho
 -- a document with what stays of it, and without collisions
 abbrev pub cleaned : ById → Pin → Document → Document
 cleaned ds pin d = record d {
-  deleted = those (stays ds pin d) d.deleted;
-  commit_root = those (stays ds pin d) d.commit_root;
+  deleted = those (stays_opened ds pin d) d.deleted;
+  commit_root = those (stays_opened ds pin d) d.commit_root;
   revisions = those (sees pin.base) d.revisions;
   collisions = [];
-  touched = those (stays ds pin d) d.touched;
-  guard = those (stays ds pin d) d.guard;
-  props = values_left (stays ds pin d) d.props;
+  touched = those (stays_opened ds pin d) d.touched;
+  guard = those (stays_opened ds pin d) d.guard;
+  props = values_left (stays_opened ds pin d) d.props;
 }
 
-abbrev pub is_root : DocId → Bool
-is_root (Node []) = true
-is_root id = false
+-- the document is that of the root
+abbrev pub is_root_id : DocId → Bool
+is_root_id (Node []) = true
+is_root_id id = false
 
-abbrev pub is_settings : DocId → Bool
-is_settings Settings = true
-is_settings id = false
+-- the document is that of the settings
+abbrev pub is_settings_id : DocId → Bool
+is_settings_id Settings = true
+is_settings_id id = false
 
 -- the root is published and swept up to the vector; the settings lose checkpoints and readers, and
 -- count so many sessions more
-abbrev pub settled : RevVec → ℕ → Document → Document
-settled v sessions d = record d {
-  last_rev = cond (is_root d.id) v d.last_rev;
-  sweep_rev = cond (is_root d.id) v d.sweep_rev;
-  sessions = cond (is_settings d.id) (d.sessions + sessions) d.sessions;
-  checkpoints = cond (is_settings d.id) [] d.checkpoints;
-  readers = cond (is_settings d.id) [] d.readers;
+abbrev pub begun_anew : RevVec → ℕ → Document → Document
+begun_anew v sessions d = record d {
+  last_rev = cond (is_root_id d.id) v d.last_rev;
+  sweep_rev = cond (is_root_id d.id) v d.sweep_rev;
+  sessions = cond (is_settings_id d.id) (d.sessions + sessions) d.sessions;
+  checkpoints = cond (is_settings_id d.id) [] d.checkpoints;
+  readers = cond (is_settings_id d.id) [] d.readers;
 }
 
 -- the revisions of what goes where it doesn't stay
@@ -66,24 +68,24 @@ dated_in d =
 -- nothing of a document goes
 abbrev pub is_clean : ById → Pin → Document → Bool
 is_clean ds pin d =
-    list_all (stays ds pin d) (dated_in d)
+    list_all (stays_opened ds pin d) (dated_in d)
     && list_all (sees pin.base) (keys_of d.revisions)
     && length d.collisions == 0
     && list_all (λ p. not (length p.1 == 0)) d.props
 
 -- opening changes the root, the settings, and each document of which something goes
-abbrev pub is_changed : ById → Pin → Document → Bool
-is_changed ds pin d = is_root d.id || is_settings d.id || not (is_clean ds pin d)
+abbrev pub changes_at_opening : ById → Pin → Document → Bool
+changes_at_opening ds pin d = is_root_id d.id || is_settings_id d.id || not (is_clean ds pin d)
 
 -- the number drawn last, after a document
 abbrev pub number_after : ById → Pin → ℕ → Document → ℕ
-number_after ds pin n d = cond (is_changed ds pin d) (n + 1) n
+number_after ds pin n d = cond (changes_at_opening ds pin d) (n + 1) n
 
 -- an opened document, where that number was drawn last: one that changes gets the next
 abbrev pub opened_document : ById → Pin → ℕ → ℕ → Document → Document
 opened_document ds pin sessions n d =
-    record (settled pin.base sessions (cleaned ds pin d)) {
-      mod_count = cond (is_changed ds pin d) (n + 1) d.mod_count;
+    record (begun_anew pin.base sessions (cleaned ds pin d)) {
+      mod_count = cond (changes_at_opening ds pin d) (n + 1) d.mod_count;
     }
 
 -- the opened documents, and the last number

@@ -2,7 +2,7 @@
 use Rattle.std.specs.Prelude.{◌≡◌, ℕ, Option, Some}
 use Rattle.oak_store.specs.Tables.{Table, by_id}
 use Rattle.oak_sound.specs.Meant.{ById, opened_at, opened_tree}
-use Rattle.oak_sound.specs.Sound.{AreSound}
+use Rattle.oak_sound.specs.Sound.{AreSoundDocuments}
 use Rattle.oak_open.specs.Opened.{opened}
 use Rattle.oak_open.specs.declared.fault.OpenFault.{OpenFault}
 use Rattle.oak_open.specs.declared.fault.OpenFault.TheVariants as fault
@@ -18,7 +18,7 @@ opened_table clusters sessions ds = record {
 -- what a repository begins with that is opened from documents: they are sound, and it has the table
 -- of the opened ones, the tree that they show, and how far they are committed
 pub record IsOpened (clusters sessions : ℕ) (ds : ById) (begun : Opened) : Type 0 where
-  pub sound : AreSound clusters ds
+  pub sound : AreSoundDocuments clusters ds
   pub documents : begun.table ≡ opened_table clusters sessions ds
   pub shown : begun.tree ≡ opened_tree clusters ds
   pub committed : begun.start ≡ opened_at clusters ds

@@ -7,9 +7,10 @@ ghost use Rattle.std.specs.List.{filter, flat_map, list_all};
 ghost use Rattle.std.specs.Map.{keys_of, values_of};
 ghost use Rattle.jr_rev.specs.Revisions.{revision_cmp};
 ghost use Rattle.jr_rev.specs.Vectors.{sees};
-ghost use Rattle.oak_open.specs.Opened.{cleaned, dated_in, is_changed, is_clean, is_root};
-ghost use Rattle.oak_open.specs.Opened.{is_settings, opened_from, settled};
-ghost use Rattle.oak_open.specs.Opened.{stays, those, values_left};
+ghost use Rattle.oak_open.specs.Opened.{cleaned, dated_in, changes_at_opening, is_clean};
+ghost use Rattle.oak_open.specs.Opened.{is_root_id};
+ghost use Rattle.oak_open.specs.Opened.{is_settings_id, opened_from, begun_anew};
+ghost use Rattle.oak_open.specs.Opened.{stays_opened, those, values_left};
 
 use jr_path::{DeepCopy, DocId, Keyed, List, Name, Text};
 use jr_rev::{Pin, RevVec, Revision};
@@ -34,19 +35,19 @@ pub struct Opening<'a> {
 // ---- whether a document changes
 
 /// Whether opening changes a document.
-pub fn is_changed(opening: &Opening<'_>, document: &Document) -> Result<bool, AllocError>
+pub fn changes_at_opening(opening: &Opening<'_>, document: &Document) -> Result<bool, AllocError>
     ensures { IfOk result (λ is. is
-        ≡ is_changed opening.now.documents.now opening.now.pin.now document.now) }
+        ≡ changes_at_opening opening.now.documents.now opening.now.pin.now document.now) }
 {
-    if is_root(&document.id) || is_settings(&document.id) {
+    if is_root_id(&document.id) || is_settings_id(&document.id) {
         return Ok(true);
     }
     let is_clean = is_clean(opening, document)?;
     Ok(!is_clean)
 }
 
-fn is_root(id: &DocId) -> bool
-    ensures { result ≡ is_root id.now }
+fn is_root_id(id: &DocId) -> bool
+    ensures { result ≡ is_root_id id.now }
 {
     match id {
         DocId::Node(path) => path.depth() == 0,
@@ -54,8 +55,8 @@ fn is_root(id: &DocId) -> bool
     }
 }
 
-fn is_settings(id: &DocId) -> bool
-    ensures { result ≡ is_settings id.now }
+fn is_settings_id(id: &DocId) -> bool
+    ensures { result ≡ is_settings_id id.now }
 {
     matches!(id, DocId::Settings)
 }
@@ -78,7 +79,7 @@ fn is_clean(opening: &Opening<'_>, document: &Document) -> Result<bool, AllocErr
 // Whether all that may go otherwise stays.
 fn all_stay(opening: &Opening<'_>, document: &Document) -> Result<bool, AllocError>
     ensures { IfOk result (λ all. all
-        ≡ list_all (stays opening.now.documents.now opening.now.pin.now document.now)
+        ≡ list_all (stays_opened opening.now.documents.now opening.now.pin.now document.now)
         (dated_in document.now)) }
 {
     if !entries_stay(opening, document, &document.deleted)? {
@@ -92,7 +93,7 @@ fn all_stay(opening: &Opening<'_>, document: &Document) -> Result<bool, AllocErr
 
 fn marks_and_values_stay(opening: &Opening<'_>, document: &Document) -> Result<bool, AllocError>
     ensures { IfOk result (λ all. all
-        ≡ list_all (stays opening.now.documents.now opening.now.pin.now document.now)
+        ≡ list_all (stays_opened opening.now.documents.now opening.now.pin.now document.now)
         (keys_of document.now.touched ++ keys_of document.now.guard
         ++ flat_map (λ p. keys_of p.1) document.now.props)) }
 {
@@ -107,7 +108,7 @@ fn marks_and_values_stay(opening: &Opening<'_>, document: &Document) -> Result<b
 
 fn values_stay(opening: &Opening<'_>, document: &Document) -> Result<bool, AllocError>
     ensures { IfOk result (λ all. all
-        ≡ list_all (stays opening.now.documents.now opening.now.pin.now document.now)
+        ≡ list_all (stays_opened opening.now.documents.now opening.now.pin.now document.now)
         (flat_map (λ p. keys_of p.1) document.now.props)) }
 {
     for (_, values) in document.props.iter() {
@@ -124,11 +125,11 @@ fn entries_stay<V>(
     entries: &Keyed<Revision, V>,
 ) -> Result<bool, AllocError>
     ensures { IfOk result (λ all. all
-        ≡ list_all (stays opening.now.documents.now opening.now.pin.now document.now)
+        ≡ list_all (stays_opened opening.now.documents.now opening.now.pin.now document.now)
         (keys_of entries.now)) }
 {
     for (r, _) in entries.iter() {
-        if !stays(opening, document, *r)? {
+        if !stays_opened(opening, document, *r)? {
             return Ok(false);
         }
     }
@@ -137,9 +138,13 @@ fn entries_stay<V>(
 
 /// Whether what a document keeps by a revision stays: the base sees the revision, and it is
 /// committed as it stands in the document.
-pub fn stays(opening: &Opening<'_>, document: &Document, r: Revision) -> Result<bool, AllocError>
+pub fn stays_opened(
+    opening: &Opening<'_>,
+    document: &Document,
+    r: Revision,
+) -> Result<bool, AllocError>
     ensures { IfOk result (λ told. told
-        ≡ stays opening.now.documents.now opening.now.pin.now document.now r) }
+        ≡ stays_opened opening.now.documents.now opening.now.pin.now document.now r) }
 {
     counts(opening.alloc, opening.documents, opening.pin, document, r)
 }
@@ -175,12 +180,13 @@ fn staying<V: DeepCopy + Drop>(
     entries: &Keyed<Revision, V>,
 ) -> Result<Keyed<Revision, V>, AllocError>
     ensures { IfOk result (λ left. left
-        ≡ those (stays opening.now.documents.now opening.now.pin.now document.now) entries.now) }
+        ≡ those (stays_opened opening.now.documents.now opening.now.pin.now document.now)
+        entries.now) }
 {
     let _ = entries.len();
     let mut left = Keyed::new(opening.alloc);
     for (r, value) in entries.iter() {
-        let stays = stays(opening, document, *r)?;
+        let stays = stays_opened(opening, document, *r)?;
         put_if(stays, &mut left, *r, value)?;
     }
     Ok(left)
@@ -224,7 +230,7 @@ fn staying_values(
     document: &Document,
 ) -> Result<Keyed<Name, Values>, AllocError>
     ensures { IfOk result (λ left. left
-        ≡ values_left (stays opening.now.documents.now opening.now.pin.now document.now)
+        ≡ values_left (stays_opened opening.now.documents.now opening.now.pin.now document.now)
         document.now.props) }
 {
     let _ = document.props.len();
@@ -258,16 +264,16 @@ struct Marks {
 
 fn staying_marks(opening: &Opening<'_>, document: &Document) -> Result<Marks, AllocError>
     ensures { IfOk result (λ marks. (marks.deleted
-        ≡ those (stays opening.now.documents.now opening.now.pin.now document.now)
+        ≡ those (stays_opened opening.now.documents.now opening.now.pin.now document.now)
         document.now.deleted)
         × (marks.commit_root
-        ≡ those (stays opening.now.documents.now opening.now.pin.now document.now)
+        ≡ those (stays_opened opening.now.documents.now opening.now.pin.now document.now)
         document.now.commit_root)
         × (marks.touched
-        ≡ those (stays opening.now.documents.now opening.now.pin.now document.now)
+        ≡ those (stays_opened opening.now.documents.now opening.now.pin.now document.now)
         document.now.touched)
         × (marks.guard
-        ≡ those (stays opening.now.documents.now opening.now.pin.now document.now)
+        ≡ those (stays_opened opening.now.documents.now opening.now.pin.now document.now)
         document.now.guard)) }
 {
     Ok(Marks {
@@ -287,10 +293,10 @@ struct Pins {
 
 fn pins_left(alloc: Global, document: &Document) -> Result<Pins, AllocError>
     ensures { IfOk result (λ pins. (pins.checkpoints
-        ≡ cond (is_settings document.now.id) [] document.now.checkpoints)
-        × (pins.readers ≡ cond (is_settings document.now.id) [] document.now.readers)) }
+        ≡ cond (is_settings_id document.now.id) [] document.now.checkpoints)
+        × (pins.readers ≡ cond (is_settings_id document.now.id) [] document.now.readers)) }
 {
-    if is_settings(&document.id) {
+    if is_settings_id(&document.id) {
         return Ok(Pins {
             checkpoints: Keyed::new(alloc),
             readers: Keyed::new(alloc),
@@ -306,10 +312,10 @@ fn pins_left(alloc: Global, document: &Document) -> Result<Pins, AllocError>
 fn sessions_counted(document: &Document, sessions: u32) -> u32
     requires few { IsTrue (nat_le document.now.sessions 16777152) }
     requires more { sessions ≤ 64 }
-    ensures { result ≡ cond (is_settings document.now.id) (document.now.sessions + sessions)
+    ensures { result ≡ cond (is_settings_id document.now.id) (document.now.sessions + sessions)
         document.now.sessions }
 {
-    if is_settings(&document.id) {
+    if is_settings_id(&document.id) {
         return document.sessions + sessions;
     }
     document.sessions
@@ -317,9 +323,9 @@ fn sessions_counted(document: &Document, sessions: u32) -> u32
 
 // The vector, of the root; else a document's own.
 fn settled_vector(id: &DocId, base: &RevVec, own: &RevVec) -> RevVec
-    ensures { result ≡ cond (is_root id.now) base.now own.now }
+    ensures { result ≡ cond (is_root_id id.now) base.now own.now }
 {
-    if is_root(id) { *base } else { *own }
+    if is_root_id(id) { *base } else { *own }
 }
 
 // A document as it is opened, with its number.
@@ -330,7 +336,7 @@ fn opened_document(
 ) -> Result<Document, AllocError>
     requires few { IsTrue (nat_le document.now.sessions 16777152) }
     requires more { opening.now.sessions ≤ 64 }
-    ensures { IfOk result (λ d. d ≡ record (settled opening.now.pin.now.base opening.now.sessions
+    ensures { IfOk result (λ d. d ≡ record (begun_anew opening.now.pin.now.base opening.now.sessions
         (cleaned opening.now.documents.now opening.now.pin.now document.now))
         { mod_count = mod_count }) }
 {
@@ -369,7 +375,7 @@ fn staying_contents(opening: &Opening<'_>, document: &Document) -> Result<Conten
     ensures { IfOk result (λ c. (c.revisions
         ≡ those (sees opening.now.pin.now.base) document.now.revisions)
         × (c.props
-        ≡ values_left (stays opening.now.documents.now opening.now.pin.now document.now)
+        ≡ values_left (stays_opened opening.now.documents.now opening.now.pin.now document.now)
         document.now.props)
         × (c.prev ≡ document.now.prev)) }
 {
@@ -396,7 +402,7 @@ pub fn opened_documents(
     let mut opened = Vec::new(opening.alloc);
     let mut last = number;
     for (_, document) in opening.documents.iter() {
-        let is_changed = is_changed(opening, document)?;
+        let is_changed = changes_at_opening(opening, document)?;
         last = number_after(is_changed, last);
         let mod_count = number_of(is_changed, last, document);
         opened.push(opened_document(opening, document, mod_count)?)?;

@@ -7,6 +7,6 @@ mod documents;
 mod fault;
 mod open;
 
-pub use documents::{Opening, is_changed, opened_documents, stays};
+pub use documents::{Opening, changes_at_opening, opened_documents, stays_opened};
 pub use fault::OpenFault;
 pub use open::{Opened, open_documents};

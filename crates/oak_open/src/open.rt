@@ -5,7 +5,7 @@ ghost use Rattle.std.specs.Map.{values_of};
 ghost use Rattle.jr_path.specs.Ids.{id_cmp};
 ghost use Rattle.oak_store.specs.Tables.{by_id};
 ghost use Rattle.oak_sound.specs.Meant.{opened_pin, opened_tree};
-ghost use Rattle.oak_sound.specs.Sound.{AreSound, first_broken};
+ghost use Rattle.oak_sound.specs.Sound.{AreSoundDocuments, first_broken};
 ghost use Rattle.oak_open.specs.Opening.{Blames, IsOpened, opened_table};
 
 use crate::OpenFault;
@@ -76,7 +76,7 @@ fn by_id(alloc: Global, documents: Vec<Document>) -> Result<ById, AllocError>
 // What documents of so many cluster nodes mean as a whole, where no rule is broken.
 fn sound_meaning(alloc: Global, documents: &ById, clusters: u32) -> Result<Meaning, OpenFault>
     requires { 1 ≤ clusters × clusters ≤ 8 }
-    ensures sound { IfOk result (λ m. AreSound clusters documents.now) }
+    ensures sound { IfOk result (λ m. AreSoundDocuments clusters documents.now) }
     ensures pin { IfOk result (λ m. m.pin ≡ opened_pin clusters documents.now) }
     ensures tree { IfOk result (λ m. m.tree ≡ opened_tree clusters documents.now) }
     ensures err { IfErr result (Blames (first_broken clusters documents.now)) }
@@ -98,7 +98,7 @@ fn open_sound(
 ) -> Result<Opened, AllocError>
     requires sessions { sessions ≤ 64 }
     requires ordered { IsStrictlySortedBy id_cmp (map (λ d. d.id) (values_of documents.now)) }
-    requires sound { AreSound clusters documents.now }
+    requires sound { AreSoundDocuments clusters documents.now }
     requires pin { meant.pin ≡ opened_pin clusters documents.now }
     requires tree { meant.tree ≡ opened_tree clusters documents.now }
     ensures { IfOk result (IsOpened clusters sessions documents.now) }
@@ -122,7 +122,7 @@ fn opened_table(
 ) -> Result<DocTable, AllocError>
     requires sessions { sessions ≤ 64 }
     requires ordered { IsStrictlySortedBy id_cmp (map (λ d. d.id) (values_of documents.now)) }
-    requires sound { AreSound clusters documents.now }
+    requires sound { AreSoundDocuments clusters documents.now }
     requires pin { pin.now ≡ opened_pin clusters documents.now }
     ensures { IfOk result (λ t. t ≡ opened_table clusters sessions documents.now) }
 {

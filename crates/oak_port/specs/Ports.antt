@@ -25,7 +25,7 @@ use Rattle.oak_machine.specs.Asked.{is_of_commit}
 use Rattle.oak_machine.specs.Laws.{AreOthers, Asks, Says, Starts, after}
 use Rattle.oak_machine.specs.Runs.{IsNode, IsRun}
 use Rattle.oak_machine.specs.Changed.{changes_between}
-use Rattle.oak_machine.specs.Sessions.{base_of, has_left, has_login, is_attached}
+use Rattle.oak_machine.specs.Sessions.{base_of, cursor_at, has_left, has_login, is_attached}
 use Rattle.oak_machine.specs.Sessions.{kept_checkpoint, next_index}
 use Rattle.oak_machine.specs.Steps.{is_appended_by, is_kind}
 use Rattle.oak_commit.specs.declared.outcome.CommitEnd.{CommitEnd}
@@ -199,7 +199,7 @@ Makes h s (Starting (task.Changes since)) (out.Went k) own now =
     (k ≡ kind.Read) × (own ≡ []) × (now ≡ Starting (task.Changes since))
 Makes h s (Starting (task.Changes since)) (out.Ready (end.Changes found)) own now =
     (v : RevVec) × (base_of h.past s ≡ Some v)
-    × (found ≡ changes_between h.begin h.past since.base v) × (own ≡ []) × (now ≡ Idle)
+    × (found ≡ changes_between h.begin h.past since v) × (own ≡ []) × (now ≡ Idle)
 Makes h s (Starting t) out.Memory own now = (own ≡ []) × (now ≡ Idle)
 Makes h s (Publishing r) (out.Went k) own now =
     (k ≡ kind.Back) × (own ≡ event.Went s kind.Back ∷ []) × (now ≡ Publishing r)
@@ -309,8 +309,9 @@ LastsOn before now old new = (new.history ≡ old.history) → now ≡ before
 -- ---- what a task asks
 
 -- a task may start: a login first, the others of a session that has logged in and not left; an edit
--- that the law lets start; a detaching where the session is attached, and others only where it isn't.
--- No world does these yet: what changed, splits, sweeps, collections, stops and recoveries
+-- that the law lets start; a detaching where the session is attached, and others only where it isn't;
+-- what changed since a vector where the session's cursor is there. No world does these yet: splits,
+-- sweeps, collections, stops and recoveries
 abbrev pub MayBegin : Starts → History → ℕ → Task → Type 0
 MayBegin starts h s task.Login = IsFalse (has_login h.past s)
 MayBegin starts h s (task.Commit edit marks) =
@@ -329,7 +330,9 @@ MayBegin starts h s (task.Attach i) =
     IsTrue (has_login h.past s) × IsFalse (has_left h.past s) × IsFalse (is_attached h.past s)
 MayBegin starts h s task.Detach =
     IsTrue (has_login h.past s) × IsFalse (has_left h.past s) × IsTrue (is_attached h.past s)
-MayBegin starts h s (task.Changes since) = ⊥
+MayBegin starts h s (task.Changes since) =
+    IsTrue (has_login h.past s) × IsFalse (has_left h.past s) × IsFalse (is_attached h.past s)
+    × (cursor_at h.past s ≡ Some since)
 MayBegin starts h s (task.Stop k) = ⊥
 MayBegin starts h s (task.Recover k) = ⊥
 MayBegin starts h s _ = IsTrue (has_login h.past s) × IsFalse (has_left h.past s)

@@ -49,8 +49,9 @@ pub enum Task {
     Release(Text),
     /// What the session observes begins at its base (JSR 283, section 12).
     Observe,
-    /// The commits are read that the session's base sees and this pin doesn't, with their changes.
-    Changes(Pin),
+    /// The commits are read that the session's base sees and this vector, that of its cursor,
+    /// doesn't, with their changes (JSR 283, 12 Observation).
+    Changes(RevVec),
     /// The cluster node of that number is stopped: it takes no further part.
     Stop(u32),
     /// What the stopped cluster node of that number left is undone or published.

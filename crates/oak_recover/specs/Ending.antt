@@ -40,6 +40,7 @@ abbrev pub undone_asked : Recovery → Ask → List (DocId × Revision)
 undone_asked s (ask.Undo r) = (undo_id s, r) ∷ []
 undone_asked s _ = []
 
+-- what a recovery undoes where by the ask that is due, if a revision is
 abbrev pub undone_at : Recovery → List (DocId × Revision)
 undone_at s = undone_asked s (due s)
 

@@ -22,6 +22,7 @@ use Rattle.oak_recover.specs.declared.reading.Reading.{Reading}
 abbrev pub Doubts : Type 0
 Doubts = List (Revision × DocId)
 
+-- the doubts with one revision more, under its commit root
 abbrev pub with_doubt : Document → Doubts → Revision → Doubts
 with_doubt d es r = insert_entry revision_cmp es r (commit_root_of d r)
 

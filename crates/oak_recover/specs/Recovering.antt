@@ -81,6 +81,7 @@ abbrev pub back_stage : Option Path → Stage
 back_stage (Some p) = cond (length p == 0) stage.Publish stage.Write
 back_stage None = stage.Done
 
+-- the stage in which a recovery stands
 abbrev pub stage_of : Recovery → Stage
 stage_of s = by s.step
   where
@@ -106,6 +107,7 @@ abbrev pub passed_with : Recovery → Option Revision → Recovery
 passed_with s None = s
 passed_with s (Some r) = record s { upto = unwrap_or (with_later (Some s.upto) r) r; noted = s.noted ++ option_to_list (node_path s.reading.at) }
 
+-- the document that was read last is passed, with the latest committed revision that it has
 abbrev pub passed : Recovery → Recovery
 passed s = passed_with s s.reading.committed
 
@@ -158,6 +160,7 @@ upto_after s before = option_map_or (λ p. cond (length p == 0) (upto_told s.aft
 abbrev pub told : Recovery → Option Document → Recovery
 told s before = record s { upto = upto_after s before; written = s.written + 1; step = cond (nat_lt (s.written + 1) (length s.paths)) step.Back step.Settings }
 
+-- the update that was due is made, of a document or of the settings, or there was none
 abbrev pub fed_update : Recovery → Option Document → Recovery
 fed_update s before = by s.step
   where
@@ -166,6 +169,7 @@ fed_update s before = by s.step
     by step.Settings = record s { step = step.Done }
     by _ = s
 
+-- the document that was due is found, or there is none
 abbrev pub fed_found : Recovery → Option Document → Recovery
 fed_found s found = by s.step
   where

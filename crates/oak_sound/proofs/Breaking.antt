@@ -3,7 +3,7 @@ use Rattle.std.proofs.Common.{◌≡◌, ℕ, zero, suc, ◌+◌, Bool, true, fa
 use Rattle.jr_path.specs.declared.path.DocId.{DocId}
 use Rattle.oak_doc.specs.declared.document.Document.{Document}
 use Rattle.oak_sound.specs.Meant.{ById}
-use Rattle.oak_sound.specs.Sound.{Rule, first_breaking}
+use Rattle.oak_sound.specs.Sound.{DocumentRule, first_breaking}
 
 nothing_there : {X : Type 0} (x : X) (more : List X) → [] ≡ x ∷ more → ⊥
 nothing_there x more is = let lengths : 0 ≡ suc (length more) = ap length is in omega arith
@@ -32,19 +32,19 @@ is_at_place (y ∷ xs) (suc k) x more is =
     }
 
 -- so far each document keeps the rule; those that are left decide
-pub record IsSoFar (rule : Rule) (ds : ById) (at : ℕ) (rest : ById) : Type 0 where
+pub record IsSoFar (rule : DocumentRule) (ds : ById) (at : ℕ) (rest : ById) : Type 0 where
   pub behind : rest ≡ drop at ds
   pub size : at + length rest ≡ length ds
   pub decides : first_breaking rule (take at ds) rest ≡ first_breaking rule [] ds
 
-pub begins : (rule : Rule) (ds : ById) → IsSoFar rule ds 0 ds
+pub begins : (rule : DocumentRule) (ds : ById) → IsSoFar rule ds 0 ds
 begins rule ds = record { behind = refl; size = omega arith; decides = refl }
 
-step : (rule : Rule) (before : ById) (e : DocId × Document) (more : ById) (b : Bool) → rule before e ≡ b → first_breaking rule before (e ∷ more) ≡ cond b (first_breaking rule (before ++ e ∷ []) more) (Some (length before))
+step : (rule : DocumentRule) (before : ById) (e : DocId × Document) (more : ById) (b : Bool) → rule before e ≡ b → first_breaking rule before (e ∷ more) ≡ cond b (first_breaking rule (before ++ e ∷ []) more) (Some (length before))
 step rule before e more b is = ap (λ c. cond c (first_breaking rule (before ++ e ∷ []) more) (Some (length before))) is
 
 -- one more document keeps it
-pub goes_on : (rule : Rule) (ds : ById) (at : ℕ) (rest : ById) (e : DocId × Document) (more : ById) → rest ≡ e ∷ more → rule (take at ds) e ≡ true → IsSoFar rule ds at rest → IsSoFar rule ds (at + 1) more
+pub goes_on : (rule : DocumentRule) (ds : ById) (at : ℕ) (rest : ById) (e : DocId × Document) (more : ById) → rest ≡ e ∷ more → rule (take at ds) e ≡ true → IsSoFar rule ds at rest → IsSoFar rule ds (at + 1) more
 goes_on rule ds at rest e more first keeps so_far =
     let place = is_at_place ds at e more (sym so_far.behind ∙ first) in
     record {
@@ -56,12 +56,12 @@ goes_on rule ds at rest e more first keeps so_far =
     }
 
 -- one document breaks it
-pub breaks : (rule : Rule) (ds : ById) (at : ℕ) (rest : ById) (e : DocId × Document) (more : ById) → rest ≡ e ∷ more → rule (take at ds) e ≡ false → IsSoFar rule ds at rest → Some at ≡ first_breaking rule [] ds
+pub breaks : (rule : DocumentRule) (ds : ById) (at : ℕ) (rest : ById) (e : DocId × Document) (more : ById) → rest ≡ e ∷ more → rule (take at ds) e ≡ false → IsSoFar rule ds at rest → Some at ≡ first_breaking rule [] ds
 breaks rule ds at rest e more first broken so_far =
     let place = is_at_place ds at e more (sym so_far.behind ∙ first) in
     ap Some (sym place.size) ∙ sym (step rule (take at ds) e more false broken)
     ∙ ap (first_breaking rule (take at ds)) (sym first) ∙ so_far.decides
 
 -- all keep it
-pub ends : (rule : Rule) (ds : ById) (at : ℕ) (rest : ById) → rest ≡ [] → IsSoFar rule ds at rest → None ≡ first_breaking rule [] ds
+pub ends : (rule : DocumentRule) (ds : ById) (at : ℕ) (rest : ById) → rest ≡ [] → IsSoFar rule ds at rest → None ≡ first_breaking rule [] ds
 ends rule ds at rest none so_far = ap (first_breaking rule (take at ds)) (sym none) ∙ so_far.decides

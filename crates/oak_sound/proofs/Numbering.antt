@@ -12,13 +12,13 @@ use Rattle.jr_path.specs.declared.path.DocId.{DocId}
 use Rattle.jr_path.proofs.Maps.{lookup-insert_entry}
 use Rattle.oak_doc.specs.declared.document.Document.{Document}
 use Rattle.oak_sound.specs.Meant.{ById}
-use Rattle.oak_sound.specs.Sound.{Rule, first_breaking, keeps_numbers}
+use Rattle.oak_sound.specs.Sound.{DocumentRule, first_breaking, keeps_numbers}
 use Rattle.oak_sound.proofs.Breaking.{IsSoFar, breaks, goes_on, is_at_place}
 
 abbrev pub Numbers : Type 0
 Numbers = List (ℕ × Unit {0})
 
-abbrev pub numbers_rule : Rule
+abbrev pub numbers_rule : DocumentRule
 numbers_rule = λ before e. keeps_numbers before e.1
 
 abbrev pub has_number : Numbers → ℕ → Bool

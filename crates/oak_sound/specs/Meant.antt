@@ -1,4 +1,5 @@
--- What documents at rest mean as a whole: how far they are committed, and the tree that they show there.
+-- What documents at rest mean as a whole: how far they are committed, and the tree that they show
+-- there.
 use Rattle.std.specs.Prelude.{ℕ, max, List, [], ◌++◌, fold}
 use Rattle.std.specs.BTreeMap.{insert_entry}
 use Rattle.std.specs.List.{filter, flat_map}
@@ -24,16 +25,16 @@ abbrev pub swept : ById → RevVec
 swept ds = option_map_or (λ d. d.sweep_rev) (documents_in ds (Node [])) no_entries
 
 -- the revisions of the entries of a document: of `_deleted` and of the values of its properties
-abbrev pub entries_of : Document → List Revision
-entries_of d = keys_of d.deleted ++ flat_map (λ p. keys_of p.1) d.props
+abbrev pub entry_revisions : Document → List Revision
+entry_revisions d = keys_of d.deleted ++ flat_map (λ p. keys_of p.1) d.props
 
 -- those that are committed as they stand in the document
-abbrev pub committed_in : ById → RevVec → Document → List Revision
-committed_in ds t d = filter (is_committed (documents_in ds) t d) (entries_of d)
+abbrev pub committed_entries_in : ById → RevVec → Document → List Revision
+committed_entries_in ds t d = filter (is_committed (documents_in ds) t d) (entry_revisions d)
 
 -- the committed entries of all documents
 abbrev pub committed_entries : ById → RevVec → List Revision
-committed_entries ds t = flat_map (λ e. committed_in ds t e.1) ds
+committed_entries ds t = flat_map (λ e. committed_entries_in ds t e.1) ds
 
 -- for each of so many cluster nodes the greatest revision of a committed entry, or its start
 abbrev pub opened_at : ℕ → ById → RevVec

@@ -1,11 +1,13 @@
 -- Which documents a repository can be opened from: five rules, each of single documents.
-use Rattle.std.specs.Prelude.{◌≡◌, ℕ, ◌^◌, Bool, true, false, cond, not, ◌&&◌, ◌||◌, ◌==◌, nat_le, nat_lt, List, [], ◌∷◌, ◌++◌, length, Option, None, Some, is_some, codes}
+use Rattle.std.specs.Prelude.{◌≡◌, ℕ, ◌^◌, Bool, true, false, cond, not, ◌&&◌, ◌||◌, ◌==◌, nat_le}
+use Rattle.std.specs.Prelude.{nat_lt, List, [], ◌∷◌, ◌++◌, length, Option, None, Some, is_some}
 use Rattle.std.specs.List.{filter, filter_map, flat_map, list_all, list_any}
 use Rattle.std.specs.Map.{keys_of}
 use Rattle.std.specs.Option.{option_map, option_map_or, option_or}
 use Rattle.jr_path.specs.declared.path.Path.{Path}
 use Rattle.jr_path.specs.declared.path.DocId.{DocId}
 use Rattle.jr_path.specs.declared.path.DocId.TheVariants.{Node, Prev, Settings}
+use Rattle.jr_items.specs.Names.{system, version_storage}
 use Rattle.jr_value.specs.declared.value.Property.{Property}
 use Rattle.jr_rev.specs.declared.revision.Revision.{Revision}
 use Rattle.jr_rev.specs.declared.vector.RevVec.{RevVec}
@@ -18,7 +20,7 @@ use Rattle.oak_doc.specs.declared.document.PrevEntry.{PrevEntry}
 use Rattle.oak_doc.specs.Updates.{values_of_property}
 use Rattle.oak_machine.specs.History.{has_entry}
 use Rattle.oak_read.specs.Meaning.{documents_in, is_committed, latest, path_of}
-use Rattle.oak_sound.specs.Meant.{ById, entries_of, opened_tree, swept}
+use Rattle.oak_sound.specs.Meant.{ById, entry_revisions, opened_tree, swept}
 
 -- the cluster nodes that there may be
 abbrev pub eight : List ℕ
@@ -53,14 +55,14 @@ abbrev pub of_pin : Pin → List Revision
 of_pin p = of_vector p.base ++ of_vector p.sweep
 
 -- what a document keeps by revision
-abbrev pub kept_in : Document → List Revision
-kept_in d =
+abbrev pub keyed_revisions : Document → List Revision
+keyed_revisions d =
     keys_of d.deleted ++ keys_of d.commit_root ++ keys_of d.revisions ++ keys_of d.touched
     ++ keys_of d.guard ++ flat_map (λ p. keys_of p.1) d.props
 
 -- the revisions that it keeps otherwise
-abbrev pub named_in : Document → List Revision
-named_in d =
+abbrev pub other_revisions : Document → List Revision
+other_revisions d =
     flat_map (λ e. e.0 ∷ e.1.0 ∷ []) d.collisions
     ++ flat_map (λ e. e.high ∷ e.low ∷ []) d.prev
     ++ of_vector d.last_rev ++ of_vector d.sweep_rev
@@ -69,7 +71,8 @@ named_in d =
 -- each revision in a document is drawable
 abbrev pub keeps_revisions : ℕ → Document → Bool
 keeps_revisions clusters d =
-    list_all (is_drawable clusters) (kept_in d) && list_all (is_drawable clusters) (named_in d)
+    list_all (is_drawable clusters) (keyed_revisions d)
+    && list_all (is_drawable clusters) (other_revisions d)
 
 -- ---- 3: numbers
 
@@ -87,22 +90,26 @@ abbrev pub has_roots_above : DocId → Document → Bool
 has_roots_above id d = list_all (λ e. nat_lt e.1 (length (path_of id))) d.commit_root
 
 -- each entry of a previous document is between the revisions that it is listed with
-abbrev pub is_between : PrevEntry → Document → Bool
-is_between e x = list_all (λ r. is_at_most e.low r && is_at_most r e.high) (entries_of x)
+abbrev pub is_in_listed_range : PrevEntry → Document → Bool
+is_in_listed_range e x =
+    list_all (λ r. is_at_most e.low r && is_at_most r e.high) (entry_revisions x)
 
 -- wherever that number is listed
 abbrev pub is_as_listed : ℕ → Document → Document → Bool
-is_as_listed n x d = list_all (λ e. not (e.number == n) || is_between e x) d.prev
+is_as_listed n x d = list_all (λ e. not (e.number == n) || is_in_listed_range e x) d.prev
 
 module _ (ds : ById) (t : RevVec) where
   -- the latest entry of an item in a document that is committed there
-  abbrev pub latest_committed : {X : Type 0} → Document → List (Revision × X) → Option (Revision × X)
+  abbrev pub latest_committed : {X : Type 0} → Document → List (Revision × X)
+      → Option (Revision × X)
   latest_committed d es = latest (filter (λ e. is_committed (documents_in ds) t d e.0) es)
 
   -- each of the second entries is before the latest committed one of the first
-  abbrev pub are_behind : {X Y : Type 0} → Document → List (Revision × X) → List (Revision × Y) → Bool
+  abbrev pub are_behind : {X Y : Type 0} → Document → List (Revision × X) → List (Revision × Y)
+      → Bool
   are_behind d es older =
-      list_all (λ r. option_map_or (λ e. is_before r e.0) (latest_committed d es) false) (keys_of older)
+      list_all (λ r. option_map_or (λ e. is_before r e.0) (latest_committed d es) false)
+      (keys_of older)
 
   -- for each entry of a previous document there is a later committed one of its item
   abbrev pub has_later : Document → Document → Bool
@@ -123,22 +130,17 @@ module _ (ds : ById) (t : RevVec) where
       option_map_or (is_as_listed n d) (documents_in ds (Node p)) true
   keeps_previous Settings d = true
 
+  -- a document's commit roots stand above it, and its previous documents are as listed
   abbrev pub keeps_roots : DocId → Document → Bool
   keeps_roots id d = has_roots_above id d && keeps_previous id d
 
 -- ---- 5: the tree
 
-abbrev pub system_path : Path
-system_path = codes "jcr:system" ∷ []
-
-abbrev pub storage_path : Path
-storage_path = codes "jcr:system" ∷ codes "jcr:versionStorage" ∷ []
-
 -- the repository's own nodes are there
 abbrev pub has_system : Nodes → Bool
 has_system nodes =
-    is_some (node_at nodes []) && is_some (node_at nodes system_path)
-    && is_some (node_at nodes storage_path)
+    is_some (node_at nodes []) && is_some (node_at nodes system)
+    && is_some (node_at nodes version_storage)
 
 -- an entry is there, and it is a value
 abbrev pub is_value : Option (Revision × Option Property) → Bool
@@ -162,11 +164,11 @@ module _ (ds : ById) (t : RevVec) (nodes : Nodes) where
 -- ---- the rules in order
 
 -- what is asked of a document, after the documents before it
-abbrev pub Rule : Type 0
-Rule = ById → DocId × Document → Bool
+abbrev pub DocumentRule : Type 0
+DocumentRule = ById → DocId × Document → Bool
 
 -- the rules, each with its number
-abbrev pub rules : ℕ → ById → List (ℕ × Rule)
+abbrev pub rules : ℕ → ById → List (ℕ × DocumentRule)
 rules clusters ds =
     (1, λ before e. keeps_vectors clusters e.0 e.1)
     ∷ (2, λ before e. keeps_revisions clusters e.1)
@@ -176,13 +178,13 @@ rules clusters ds =
     ∷ []
 
 -- the first document that doesn't keep a rule, counted from 0
-abbrev pub first_breaking : Rule → ById → ById → Option ℕ
+abbrev pub first_breaking : DocumentRule → ById → ById → Option ℕ
 first_breaking keeps before [] = None
 first_breaking keeps before (e ∷ es) =
     cond (keeps before e) (first_breaking keeps (before ++ e ∷ []) es) (Some (length before))
 
 -- the first of some rules that is broken, with the first document that breaks it
-abbrev pub first_broken_of : List (ℕ × Rule) → ById → Option (ℕ × ℕ)
+abbrev pub first_broken_of : List (ℕ × DocumentRule) → ById → Option (ℕ × ℕ)
 first_broken_of [] ds = None
 first_broken_of (r ∷ rs) ds =
     option_or (option_map (λ i. (r.0, i)) (first_breaking r.1 [] ds)) (first_broken_of rs ds)
@@ -192,5 +194,5 @@ abbrev pub first_broken : ℕ → ById → Option (ℕ × ℕ)
 first_broken clusters ds = first_broken_of (rules clusters ds) ds
 
 -- documents from which a repository can be opened
-abbrev pub AreSound : ℕ → ById → Type 0
-AreSound clusters ds = first_broken clusters ds ≡ None
+abbrev pub AreSoundDocuments : ℕ → ById → Type 0
+AreSoundDocuments clusters ds = first_broken clusters ds ≡ None

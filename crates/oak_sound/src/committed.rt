@@ -13,7 +13,8 @@ use std::alloc::{AllocError, Global};
 /// Documents in store order, by their ids.
 pub type ById = Keyed<DocId, Document>;
 
-// Whether the sweep vector sees the revision, or its commit root, as it stands in the document, has it.
+// Whether the sweep vector sees the revision, or its commit root, as it stands in the document, has
+// it.
 pub(crate) fn is_committed(
     alloc: Global,
     documents: &ById,

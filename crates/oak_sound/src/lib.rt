@@ -1,5 +1,5 @@
-//! Documents from which a repository can be opened: how far they are committed, the tree that they show there, and the
-//! rules that they keep.
+//! Documents from which a repository can be opened: how far they are committed, the tree that they
+//! show there, and the rules that they keep.
 //!
 //! Oak, DocumentNodeStore: "Node Document", "Clustering".
 #![tactic(auto)]

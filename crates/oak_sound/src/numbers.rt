@@ -20,7 +20,8 @@ pub(crate) fn first_misnumbered(
     alloc: Global,
     documents: &ById,
 ) -> Result<Option<usize>, AllocError>
-    ensures { IfOk result (λ at. at ≡ first_breaking (λ before e. keeps_numbers before e.1) [] documents.now) }
+    ensures { IfOk result (λ at. at
+        ≡ first_breaking (λ before e. keeps_numbers before e.1) [] documents.now) }
 {
     let mut numbers = Keyed::new(alloc);
     let _ = documents.len();

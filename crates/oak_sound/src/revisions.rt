@@ -4,7 +4,8 @@ ghost use Rattle.std.specs.List.{flat_map, list_all};
 ghost use Rattle.std.specs.Map.{keys_of};
 ghost use Rattle.std.specs.Option.{option_map_or};
 ghost use Rattle.jr_rev.specs.Vectors.{entry};
-ghost use Rattle.oak_sound.specs.Sound.{first_breaking, is_drawable, keeps_revisions, kept_in, named_in, eight, of_pin, of_vector};
+ghost use Rattle.oak_sound.specs.Sound.{first_breaking, is_drawable, keeps_revisions};
+ghost use Rattle.oak_sound.specs.Sound.{keyed_revisions, other_revisions, eight, of_pin, of_vector};
 
 use crate::committed::ById;
 use jr_path::{Item, Keyed, Name};
@@ -32,7 +33,7 @@ fn keeps_revisions(document: &Document, clusters: u32) -> bool
 }
 
 fn keeps_kept(document: &Document, clusters: u32) -> bool
-    ensures { result ≡ list_all (is_drawable clusters) (kept_in document.now) }
+    ensures { result ≡ list_all (is_drawable clusters) (keyed_revisions document.now) }
 {
     are_drawable(&document.deleted, clusters)
         && are_drawable(&document.commit_root, clusters)
@@ -43,7 +44,7 @@ fn keeps_kept(document: &Document, clusters: u32) -> bool
 }
 
 fn keeps_named(document: &Document, clusters: u32) -> bool
-    ensures { result ≡ list_all (is_drawable clusters) (named_in document.now) }
+    ensures { result ≡ list_all (is_drawable clusters) (other_revisions document.now) }
 {
     are_drawable_collisions(&document.collisions, clusters)
         && are_drawable_ranges(document.prev.as_slice(), clusters)

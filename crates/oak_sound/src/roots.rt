@@ -1,5 +1,6 @@
 // The rule of commit roots and previous documents.
-ghost use Rattle.std.specs.Prelude.{◌≡◌, ◌||◌, ◌&&◌, not, ◌==◌, [], IfOk, nat_lt, false, length, true};
+ghost use Rattle.std.specs.Prelude.{◌≡◌, ◌||◌, ◌&&◌, not, ◌==◌, [], IfOk, nat_lt, false, length};
+ghost use Rattle.std.specs.Prelude.{true};
 ghost use Rattle.std.specs.List.{list_all, flat_map};
 ghost use Rattle.std.specs.Map.{keys_of};
 ghost use Rattle.std.specs.Option.{option_copied, option_map_or};
@@ -7,7 +8,9 @@ ghost use Rattle.jr_path.specs.declared.path.DocId.TheVariants.{Node, Prev};
 ghost use Rattle.jr_rev.specs.Revisions.{is_at_most, is_before};
 ghost use Rattle.oak_doc.specs.Updates.{values_of_property};
 ghost use Rattle.oak_read.specs.Meaning.{path_of, documents_in};
-ghost use Rattle.oak_sound.specs.Sound.{are_behind, first_breaking, has_later, has_roots_above, is_as_listed, is_between, is_well_listed, keeps_previous, keeps_roots};
+ghost use Rattle.oak_sound.specs.Sound.{are_behind, first_breaking, has_later, has_roots_above};
+ghost use Rattle.oak_sound.specs.Sound.{is_as_listed, is_in_listed_range, is_well_listed};
+ghost use Rattle.oak_sound.specs.Sound.{keeps_previous, keeps_roots};
 
 use crate::committed::{ById, latest_committed};
 use jr_path::{DeepCopy, DocId, Keyed, Name, Path};
@@ -23,7 +26,8 @@ pub(crate) fn first_misrooted(
     sweep: &RevVec,
 ) -> Result<Option<usize>, AllocError>
     ensures { IfOk result (λ at. at
-        ≡ first_breaking (λ before e. keeps_roots documents.now sweep.now e.0 e.1) [] documents.now) }
+        ≡ first_breaking (λ before e. keeps_roots documents.now sweep.now e.0 e.1) []
+        documents.now) }
 {
     let _ = documents.len();
     for (at, (id, document)) in documents.iter().enumerate() {
@@ -41,7 +45,8 @@ fn keeps_roots(
     id: &DocId,
     document: &Document,
 ) -> Result<bool, AllocError>
-    ensures { IfOk result (λ keeps. keeps ≡ keeps_roots documents.now sweep.now id.now document.now) }
+    ensures { IfOk result (λ keeps. keeps
+        ≡ keeps_roots documents.now sweep.now id.now document.now) }
 {
     if !has_roots_above(id, document) {
         return Ok(false);
@@ -85,7 +90,8 @@ fn keeps_previous(
     id: &DocId,
     document: &Document,
 ) -> Result<bool, AllocError>
-    ensures { IfOk result (λ keeps. keeps ≡ keeps_previous documents.now sweep.now id.now document.now) }
+    ensures { IfOk result (λ keeps. keeps
+        ≡ keeps_previous documents.now sweep.now id.now document.now) }
 {
     match id {
         DocId::Node(path) => lists_well(alloc, documents, sweep, path, document),
@@ -145,7 +151,8 @@ fn has_later_where_there(
     id: DocId,
 ) -> Result<bool, AllocError>
     ensures { IfOk result (λ has. has
-        ≡ option_map_or (has_later documents.now sweep.now document.now) (documents_in documents.now id) true) }
+        ≡ option_map_or (has_later documents.now sweep.now document.now)
+        (documents_in documents.now id) true) }
 {
     match documents.get(&id) {
         Some(previous) => has_later(alloc, documents, sweep, document, previous),
@@ -184,7 +191,8 @@ fn has_later_values(
     document: &Document,
     props: &Keyed<Name, Keyed<Revision, Option<Property>>>,
 ) -> Result<bool, AllocError>
-    ensures { IfOk result (λ has. has ≡ list_all (λ p. are_behind documents.now sweep.now document.now
+    ensures { IfOk result (λ has. has
+        ≡ list_all (λ p. are_behind documents.now sweep.now document.now
         (values_of_property document.now.props p.0) p.1) props.now) }
 {
     for (name, older) in props.iter() {
@@ -267,7 +275,9 @@ fn is_as_listed(
 }
 
 fn is_as_listed_in(listed: &[PrevEntry], number: u64, previous: &Document) -> bool
-    ensures { result ≡ list_all (λ e. not (e.number == number) || is_between e previous.now) listed.now }
+    ensures { result
+        ≡ list_all (λ e. not (e.number == number) || is_in_listed_range e previous.now)
+        listed.now }
 {
     listed
         .iter()
@@ -276,13 +286,14 @@ fn is_as_listed_in(listed: &[PrevEntry], number: u64, previous: &Document) -> bo
 
 // Whether an entry lists another number, or the document's entries are between its revisions.
 fn is_between_if(entry: &PrevEntry, number: u64, previous: &Document) -> bool
-    ensures { result ≡ (not (entry.now.number == number) || is_between entry.now previous.now) }
+    ensures { result
+        ≡ (not (entry.now.number == number) || is_in_listed_range entry.now previous.now) }
 {
-    entry.number != number || is_between(entry, previous)
+    entry.number != number || is_in_listed_range(entry, previous)
 }
 
-fn is_between(entry: &PrevEntry, previous: &Document) -> bool
-    ensures { result ≡ is_between entry.now previous.now }
+fn is_in_listed_range(entry: &PrevEntry, previous: &Document) -> bool
+    ensures { result ≡ is_in_listed_range entry.now previous.now }
 {
     are_between(entry, &previous.deleted) && are_values_between(entry, &previous.props)
 }

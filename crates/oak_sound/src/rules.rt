@@ -20,21 +20,25 @@ pub struct Broken {
     pub document: usize,
 }
 
-/// The first of these rules that is broken by documents of so many cluster nodes, if one is, where it is told what they
-/// mean:
+/// The first of these rules that is broken by documents of so many cluster nodes, if one is, where
+/// it is told what they mean:
 ///
-/// 1. the root's `_lastRev` and `_sweepRev` have an entry for each cluster node and no other, the second at most the
-///    first;
-/// 2. each revision, in vectors too, has counter 0, a time below 2^62 and one of these cluster nodes;
-/// 3. each `_modCount` is below 2^63 and differs from those before it, and `_sessions` is at most 16,777,152;
-/// 4. each commit root stands above its node; each number of a previous document that is listed is below the
-///    `_modCount` of the document that lists it, and where that previous document is there, it has its entries between
-///    the revisions that it is listed with, and behind each of them the document has a later committed one of the item;
-/// 5. what the documents show is a tree with the repository's own nodes, and where there is no node no property of it
-///    has a value as its latest committed entry.
+/// 1. the root's `_lastRev` and `_sweepRev` have an entry for each cluster node and no other, the
+///    second at most the first;
+/// 2. each revision, in vectors too, has counter 0, a time below 2^62 and one of these cluster
+///    nodes;
+/// 3. each `_modCount` is below 2^63 and differs from those before it, and `_sessions` is at most
+///    16,777,152;
+/// 4. each commit root stands above its node; each number of a previous document that is listed is
+///    below the `_modCount` of the document that lists it, and where that previous document is
+///    there, it has its entries between the revisions that it is listed with, and behind each of
+///    them the document has a later committed one of the item;
+/// 5. what the documents show is a tree with the repository's own nodes, and where there is no node
+///    no property of it has a value as its latest committed entry.
 ///
-/// A previous document breaks the fourth where its entries aren't between those revisions, the document that lists it
-/// where the rest doesn't hold. The root's document breaks the fifth where one of the repository's own nodes is missing.
+/// A previous document breaks the fourth where its entries aren't between those revisions, the
+/// document that lists it where the rest doesn't hold. The root's document breaks the fifth where
+/// one of the repository's own nodes is missing.
 pub fn first_broken(
     alloc: Global,
     documents: &ById,

@@ -1,10 +1,13 @@
 // The rule of the tree.
 ghost use Rattle.std.specs.Prelude.{◌≡◌, ◌&&◌, [], IfOk, is_some};
+ghost use Rattle.jr_items.specs.Names.{system, version_storage};
 ghost use Rattle.jr_path.specs.declared.path.DocId.TheVariants.{Node};
 ghost use Rattle.jr_tree.specs.Trees.{has_parent, node_at};
-ghost use Rattle.oak_sound.specs.Sound.{first_breaking, has_no_values, has_system, is_value, keeps_node, keeps_tree, latest_committed, storage_path, system_path};
+ghost use Rattle.oak_sound.specs.Sound.{first_breaking, has_no_values, has_system, is_value};
+ghost use Rattle.oak_sound.specs.Sound.{keeps_node, keeps_tree, latest_committed};
 
 use crate::committed::{ById, latest_committed};
+use jr_items::OwnName;
 use jr_path::{DocId, Keyed, Name, Path};
 use jr_rev::{RevVec, Revision};
 use jr_tree::Tree;
@@ -85,17 +88,17 @@ fn has_all(tree: &Tree, root: &Path, system: &Path, storage: &Path) -> bool
 }
 
 fn system_path(alloc: Global) -> Result<Path, AllocError>
-    ensures { IfOk result (λ path. path ≡ system_path) }
+    ensures { IfOk result (λ path. path ≡ system) }
 {
     let root = Path::root(alloc);
-    root.child(&Name::of(alloc, "jcr:system")?)
+    root.child(&OwnName::System.name(alloc)?)
 }
 
 fn storage_path(alloc: Global) -> Result<Path, AllocError>
-    ensures { IfOk result (λ path. path ≡ storage_path) }
+    ensures { IfOk result (λ path. path ≡ version_storage) }
 {
     let system = system_path(alloc)?;
-    system.child(&Name::of(alloc, "jcr:versionStorage")?)
+    system.child(&OwnName::VersionStorage.name(alloc)?)
 }
 
 fn keeps_node(

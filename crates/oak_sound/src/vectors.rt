@@ -12,7 +12,8 @@ use oak_doc::Document;
 
 // The first document that doesn't keep the rule of vectors.
 pub(crate) fn first_without_vectors(documents: &ById, clusters: u32) -> Option<usize>
-    ensures { result ≡ first_breaking (λ before e. keeps_vectors clusters e.0 e.1) [] documents.now }
+    ensures { result
+        ≡ first_breaking (λ before e. keeps_vectors clusters e.0 e.1) [] documents.now }
 {
     let _ = documents.len();
     for (at, (id, document)) in documents.iter().enumerate() {

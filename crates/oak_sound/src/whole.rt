@@ -5,7 +5,8 @@ ghost use Rattle.std.specs.Map.{keys_of};
 ghost use Rattle.jr_rev.specs.Vectors.{raised, start};
 ghost use Rattle.jr_path.specs.declared.path.DocId.TheVariants.{Node};
 ghost use Rattle.oak_read.specs.Meaning.{documents_in, is_committed};
-ghost use Rattle.oak_sound.specs.Meant.{committed_entries, committed_in, opened_pin, opened_tree, shown_tree, swept, with_shown};
+ghost use Rattle.oak_sound.specs.Meant.{committed_entries, committed_entries_in, opened_pin};
+ghost use Rattle.oak_sound.specs.Meant.{opened_tree, shown_tree, swept, with_shown};
 
 use crate::committed::{ById, is_committed};
 use jr_path::{DeepCopy, DocId, Keyed, Path};
@@ -42,8 +43,9 @@ impl Meaning {
     }
 }
 
-/// What documents of so many cluster nodes mean as a whole: for each cluster node the greatest revision of a committed
-/// entry, or its start; the sweep vector of the root's document; and the tree that they show at these.
+/// What documents of so many cluster nodes mean as a whole: for each cluster node the greatest
+/// revision of a committed entry, or its start; the sweep vector of the root's document; and the
+/// tree that they show at these.
 pub fn meant(alloc: Global, documents: &ById, clusters: u32) -> Result<Meaning, AllocError>
     requires { 1 ≤ clusters × clusters ≤ 8 }
     ensures pin { IfOk result (λ m. m.pin ≡ opened_pin clusters documents.now) }
@@ -93,7 +95,7 @@ fn raise_by(
     vector: &mut RevVec,
 ) -> Result<(), AllocError>
     ensures { OnOk result (vector.new
-        ≡ fold raised vector.old (committed_in documents.now sweep.now document.now)) }
+        ≡ fold raised vector.old (committed_entries_in documents.now sweep.now document.now)) }
 {
     raise_by_entries(alloc, documents, sweep, document, &document.deleted, vector)?;
     raise_by_values(alloc, documents, sweep, document, vector)

@@ -10,6 +10,9 @@ use Rattle.jr_rev.specs.declared.revision.Revision.{Revision}
 use Rattle.jr_rev.specs.declared.vector.RevVec.{RevVec}
 use Rattle.jr_rev.specs.Revisions.{is_before}
 use Rattle.jr_rev.specs.Vectors.{sees}
+use Rattle.oak_changes.specs.declared.changes.ChangesReader.{ChangesReader}
+use Rattle.oak_changes.specs.declared.changes.Step.TheVariants as observed
+use Rattle.oak_changes.specs.Reading as changes
 use Rattle.oak_clash.specs.Clashes.{marked_paths}
 use Rattle.oak_commit.specs.Clashing.{Met, Writer, mark_op}
 use Rattle.oak_commit.specs.Committing.{Committing, begun, due_of, fed, first_path, is_past, wanting}
@@ -66,6 +69,7 @@ pub record Parts : Type 0 where
   pub memory : NodeState
   pub list : List Event
 
+-- the parts that a step may change: the table, its node's memory and the list of events
 abbrev pub parts : Table → NodeState → List Event → Parts
 parts t m es = record { table = t; memory = m; list = es }
 
@@ -118,6 +122,22 @@ ReadsOn t r v (answers.Ready e) = (v ≡ work.Rest) × (end_of_reading (read_on 
 ReadsOn t r v answers.Memory = v ≡ work.Rest
 ReadsOn t r v _ = ⊥
 
+-- ---- what commits changed
+
+-- the reader of changes, once the documents have answered what it asked
+abbrev pub changes_on : Table → ChangesReader → ChangesReader
+changes_on t r = changes.fed r (answer t.documents (changes.due r))
+
+-- the reader of changes is fed what the documents answer; where nothing more is due then, the task
+-- ends with what the commits changed
+abbrev pub ReadsChangesOn : Table → ChangesReader → Work → StepOut → Type 0
+ReadsChangesOn t r v (answers.Went kind.Read) =
+    (v ≡ work.Changes (changes_on t r)) × (changes.due (changes_on t r) ≢ ask.Done)
+ReadsChangesOn t r v (answers.Ready (ends.Changes commits)) =
+    (v ≡ work.Rest) × ((changes_on t r).step ≡ observed.Done commits)
+ReadsChangesOn t r v answers.Memory = v ≡ work.Rest
+ReadsChangesOn t r v _ = ⊥
+
 -- ---- a commit
 
 -- the mark that was due is made, with `rest` to make still
@@ -163,6 +183,7 @@ pub record IsMarkMade (s : ℕ) (t u : Table) (es fs : List Event) (c d : Commit
   pub list : fs ≡ es ++ event.Went s kind.Mark ∷ []
   pub committer : d ≡ fed_made t c
 
+-- a mark is refused, since its condition is unmet; the table stays, and the refusal is told
 pub record IsMarkRefused (t u : Table) (es fs : List Event) (c d : Committing) : Type 0 where
   pub cause : Cond
   pub thing : Kept
@@ -173,6 +194,7 @@ pub record IsMarkRefused (t u : Table) (es fs : List Event) (c d : Committing) :
   pub list : fs ≡ es ++ refusal ∷ []
   pub committer : d ≡ fed c (reply.Unmet cause thing)
 
+-- a mark is made or refused
 abbrev pub IsMarked : ℕ → Table → Table → List Event → List Event → Committing → Committing → Type 0
 IsMarked s t u es fs c d = IsMarkMade s t u es fs c d ⊎ IsMarkRefused t u es fs c d
 
@@ -194,6 +216,7 @@ pub record IsLastMade (t u : Table) (es fs : List Event) (c d : Committing) : Ty
   pub list : fs ≡ es ++ event.Commit c.revision ∷ []
   pub committer : d ≡ fed_made t c
 
+-- the last write is refused by a collision that another kept; the table stays
 pub record IsLastRefused (t u : Table) (es fs : List Event) (c d : Committing) : Type 0 where
   pub cause : Cond
   pub other : Revision
@@ -212,6 +235,7 @@ pub record IsRefusedBy (f : OpFault) (es fs : List Event) (c d : Committing) : T
   pub list : fs ≡ es ++ event.Refuse c.revision item other ∷ []
   pub committer : d ≡ fed c (reply.Unmet cause (kept.Entry other item))
 
+-- the last write is made or refused
 abbrev pub IsLast : Table → Table → List Event → List Event → Committing → Committing → Type 0
 IsLast t u es fs c d = IsLastMade t u es fs c d ⊎ IsLastRefused t u es fs c d
 
@@ -281,6 +305,7 @@ pub record IsGivenUp (t : Table) (es : List Event) (c : Committing) (u : Table) 
   pub list : fs ≡ es
   pub does : v ≡ work.Commit (wanting c)
 
+-- a step of a committer's update goes on, or gives up for want of memory
 abbrev pub UpdatesOn : ℕ → Table → List Event → Committing → Table → List Event → Work → StepOut
     → Type 0
 UpdatesOn s t es c u fs v o = GoesOn s t es c u fs v o ⊎ IsGivenUp t es c u fs v o
@@ -417,6 +442,7 @@ Steps s k p work.Refresh q v (answers.Ready (ends.Pinned pin)) =
 Steps s k p work.Refresh q v answers.Memory = Refused p q v
 Steps s k p work.Refresh q v _ = ⊥
 Steps s k p (work.Read r) q v o = (q ≡ p) × ReadsOn p.table r v o
+Steps s k p (work.Changes r) q v o = (q ≡ p) × ReadsChangesOn p.table r v o
 Steps s k p (work.Plan edit marks) q v (answers.Went kind.Draw) =
     (q ≡ parts p.table (with_notes (next_draw p.memory) (with_draw p.memory (next_draw p.memory))
     (marked_paths marks))
@@ -445,9 +471,11 @@ needed_for w (Some (end.Committed r)) = 3
 needed_for w (Some (end.Clash item o)) = length w.written + 2
 needed_for w (Some end.Memory) = length w.written + 2
 
+-- for how many events of a commit, as it stands, places are kept
 abbrev pub needed_by : Committing → ℕ
 needed_by c = needed_for c.writer c.outcome
 
+-- for how many events of a session's work, as it stands, places are kept
 abbrev pub needed : Work → ℕ
 needed (work.Commit c) = needed_by c
 needed (work.Move r) = 1

@@ -2,6 +2,7 @@
 use Rattle.std.specs.Prelude.{◌≡◌, Option, Some, None, IsSome}
 use Rattle.std.specs.declared.alloc.Global.{Global}
 use Rattle.jr_rev.specs.declared.vector.Pin.{Pin}
+use Rattle.oak_changes.specs.Reading.{changes_reader}
 use Rattle.oak_commit.specs.Stages.{stage_of}
 use Rattle.oak_commit.specs.declared.stage.Stage.{Stage}
 use Rattle.oak_commit.specs.declared.stage.Stage.TheVariants as stage
@@ -24,6 +25,8 @@ Begins pin (task.Load p) v =
     (a : Global) × (at : Pin) × (pin ≡ Some at) × (v ≡ work.Read (node_reader a at p))
 Begins pin (task.List p) v =
     (a : Global) × (at : Pin) × (pin ≡ Some at) × (v ≡ work.Read (children_reader a at p))
+Begins pin (task.Changes since) v =
+    (a : Global) × (at : Pin) × (pin ≡ Some at) × (v ≡ work.Changes (changes_reader a since at))
 Begins pin (task.Commit edit marks) v = v ≡ work.Plan edit marks
 Begins pin task.BackWrite v = v ≡ work.Upkeep upkeep.Write
 Begins pin task.BackRead v = v ≡ work.Upkeep upkeep.Read
@@ -38,10 +41,10 @@ Begins pin _ v = ⊥
 abbrev pub CanBegin : Option Pin → Task → Type 0
 CanBegin pin (task.Load p) = IsSome pin
 CanBegin pin (task.List p) = IsSome pin
+CanBegin pin (task.Changes since) = IsSome pin
 CanBegin pin (task.Split p) = ⊥
 CanBegin pin task.Sweep = ⊥
 CanBegin pin task.Collect = ⊥
-CanBegin pin (task.Changes since) = ⊥
 CanBegin pin (task.Stop k) = ⊥
 CanBegin pin (task.Recover k) = ⊥
 CanBegin pin _ = Unit {0}
@@ -56,12 +59,14 @@ kind_of stage.Undo = Some kind.Undo
 kind_of stage.Finish = Some kind.Finish
 kind_of stage.Done = None
 
+-- the kind of the step that is due, if a step is
 abbrev pub kind_due : Work → Option StepKind
 kind_due work.Rest = None
 kind_due work.Login = Some kind.Login
 kind_due work.End = Some kind.End
 kind_due work.Refresh = Some kind.Pin
 kind_due (work.Read r) = Some kind.Read
+kind_due (work.Changes r) = Some kind.Read
 kind_due (work.Plan edit marks) = Some kind.Draw
 kind_due (work.Commit c) = kind_of (stage_of c)
 kind_due (work.Move r) = Some kind.Pin

@@ -1,12 +1,14 @@
-// Loads and lists, one document at a time.
+// Loads, lists and readings of what commits changed, one document at a time.
 ghost use Rattle.std.specs.Prelude.{◌≡◌, IfOk, OnErr, OnOk};
 ghost use Rattle.std.specs.Option.{option_copied};
 ghost use Rattle.oak_doc.specs.declared.asks.Ask.TheVariants as ask;
 ghost use Rattle.oak_read.specs.Reading.{answer, due, fed};
-ghost use Rattle.oak_step.specs.Parts.{ReadsOn, end_of_reading};
+ghost use Rattle.oak_changes.specs.Reading as changes;
+ghost use Rattle.oak_step.specs.Parts.{ReadsChangesOn, ReadsOn, end_of_reading};
 
 use crate::work::Work;
 use jr_path::DeepCopy;
+use oak_changes::ChangesReader;
 use oak_doc::{Ask, Document, Reply};
 use oak_machine::StepKind;
 use oak_port::{StepOut, TaskEnd};
@@ -35,20 +37,54 @@ fn read_once(table: &DocTable, reader: &mut Reader) -> Result<(), AllocError>
         (reader.new ≡ fed reader.old (answer table.now.documents (due reader.old))) }
     ensures err { OnErr result (reader.new ≡ reader.old) }
 {
-    match reader.next()? {
+    let reply = answer(table, reader.next()?)?;
+    reader.feed(reply)
+}
+
+// The reader of changes is fed what the documents answer to what is due, and where it is done then it
+// gives what the commits changed.
+pub(crate) fn read_changes(table: &DocTable, reader: ChangesReader) -> (Work, StepOut)
+    ensures { ReadsChangesOn table.now reader result.0 result.1 }
+{
+    let mut reader = reader;
+    if read_changes_once(table, &mut reader).is_err() {
+        drop(reader);
+        return (Work::Rest, StepOut::Memory);
+    }
+    if reader.is_done() {
+        return (Work::Rest, StepOut::Ready(TaskEnd::Changes(reader.take())));
+    }
+    (Work::Changes(reader), StepOut::Went(StepKind::Read))
+}
+
+// Feeds the reader of changes what the documents answer to what is due.
+fn read_changes_once(table: &DocTable, reader: &mut ChangesReader) -> Result<(), AllocError>
+    ensures ok { OnOk result
+        (reader.new ≡ changes.fed reader.old (answer table.now.documents (changes.due reader.old))) }
+    ensures err { OnErr result (reader.new ≡ reader.old) }
+{
+    let reply = answer(table, reader.next()?)?;
+    reader.feed(reply)
+}
+
+// What the documents answer to an ask.
+fn answer(table: &DocTable, asking: Ask) -> Result<Reply, AllocError>
+    ensures { IfOk result (λ reply. reply ≡ answer table.now.documents asking) }
+{
+    match asking {
         Ask::Find(id) => {
             let found = copied(table.find(&id));
             drop(id);
-            reader.feed(Reply::Found(found?))
+            Ok(Reply::Found(found?))
         }
         Ask::NextAfter(id) => {
             let found = copied(table.next_after(id.as_ref()));
             drop(id);
-            reader.feed(Reply::Found(found?))
+            Ok(Reply::Found(found?))
         }
         other => {
             drop(other);
-            reader.feed(Reply::Found(None))
+            Ok(Reply::Found(None))
         }
     }
 }

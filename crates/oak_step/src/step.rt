@@ -6,7 +6,7 @@ ghost use Rattle.oak_read.specs.Reading.{IsTable};
 ghost use Rattle.oak_step.specs.Parts.{CanCommit, CanMove, CanStep, CommitsOn, EndsSo, HasRoot, IsOver, IsUpdating, Moves, Steps, Updates, UpdatesOn, end_events, needed, needed_by, parts};
 
 use crate::commit;
-use crate::load::read;
+use crate::load::{read, read_changes};
 use crate::session::{leave, login, refresh, refresh_kept};
 use crate::upkeep::keep_up;
 use crate::work::Work;
@@ -55,6 +55,7 @@ pub fn step_work(
             Err(AllocError) => (Work::Rest, StepOut::Memory),
         },
         Work::Read(reader) => read(table, reader),
+        Work::Changes(reader) => read_changes(table, reader),
         Work::Plan(edit, marks) => match commit::begin(alloc, memory, events, s, edit, marks) {
             Ok(committer) => (Work::Commit(committer), StepOut::Went(StepKind::Draw)),
             Err(AllocError) => (Work::Rest, StepOut::Memory),

@@ -6,6 +6,7 @@ use crate::upkeep::Upkeep;
 use jr_path::List;
 use jr_rev::{Pin, Revision};
 use jr_tree::Edit;
+use oak_changes::ChangesReader;
 use oak_clash::MarkAt;
 use oak_commit::{Committer, Stage};
 use oak_machine::StepKind;
@@ -23,6 +24,8 @@ pub enum Work {
     Refresh,
     /// A load, or a list.
     Read(Reader),
+    /// A reading of what commits changed.
+    Changes(ChangesReader),
     /// A commit that hasn't drawn its revision.
     Plan(Edit, List<MarkAt>),
     /// A commit from its draw to its end.
@@ -51,6 +54,10 @@ impl Work {
                 Some(pin) => Ok(Work::Read(Reader::children(alloc, &path, &pin)?)),
                 None => unreachable!(),
             },
+            Task::Changes(since) => match pin {
+                Some(pin) => Ok(Work::Changes(ChangesReader::new(alloc, &since, &pin))),
+                None => unreachable!(),
+            },
             Task::Commit(edit, marks) => Ok(Work::Plan(edit, marks)),
             Task::BackWrite => Ok(Work::Upkeep(Upkeep::Write)),
             Task::BackRead => Ok(Work::Upkeep(Upkeep::Read)),
@@ -61,8 +68,7 @@ impl Work {
             Task::Observe => Ok(Work::Upkeep(Upkeep::Observe)),
             // No world does these yet.
             Task::Split(_path) => unreachable!(),
-            Task::Sweep | Task::Collect | Task::Changes(_) | Task::Stop(_) | Task::Recover(_) =>
-                unreachable!(),
+            Task::Sweep | Task::Collect | Task::Stop(_) | Task::Recover(_) => unreachable!(),
         }
     }
 
@@ -75,7 +81,7 @@ impl Work {
             Work::Login => Some(StepKind::Login),
             Work::End => Some(StepKind::End),
             Work::Refresh | Work::Move(_) => Some(StepKind::Pin),
-            Work::Read(_) => Some(StepKind::Read),
+            Work::Read(_) | Work::Changes(_) => Some(StepKind::Read),
             Work::Plan(_, _) => Some(StepKind::Draw),
             Work::Commit(committer) => kind_of(committer.stage()),
             Work::Upkeep(upkeep) => Some(upkeep.due()),

@@ -63,6 +63,7 @@ abbrev pub after_ask : Alone → Ask → Alone
 after_ask s (ask.Update op) = after_result s op.id (updated (s.documents op.id) op (s.number + 1))
 after_ask s _ = s
 
+-- what so many asks come to, each done as it falls due
 abbrev pub after_steps : ℕ → Alone → Alone
 after_steps zero s = s
 after_steps (suc n) s = after_steps n (after_ask s (publishing.due s.writer))
@@ -77,6 +78,8 @@ pub record AreTold (these : Path → Bool) (upto : Revision) (before after : Doc
   pub gone : (p : Path) → IsTrue (these p) → before (id.Node p) ≡ None → after (id.Node p) ≡ None
   pub others : (x : DocId) → ((p : Path) → IsTrue (these p) → x ≡ id.Node p → ⊥) → after x ≡ before x
 
+-- A background write, where nobody else changes documents, ends after an ask for each of its paths,
+-- and has told its revision to the documents of the pending paths and of all above them.
 abbrev pub Publishes : Type 0
 Publishes = (a : Global) (pending : Pending) (b : BackWrite) → publishing.IsBegun a pending b → (ds : Documents) (number : ℕ)
     → let end = after_steps (length b.paths) (record { documents = ds; number = number; writer = b }) in
@@ -90,6 +93,7 @@ answer ds (ask.Find x) = reply.Found (ds x)
 answer ds (ask.Memory m) = reply.Learnt
 answer ds _ = reply.Found None
 
+-- a background read after so many replies of documents at rest
 abbrev pub after_replies : Documents → ℕ → BackRead → BackRead
 after_replies ds zero b = b
 after_replies ds (suc n) b = after_replies ds n (learning.fed b (answer ds (learning.due b)))
@@ -102,5 +106,6 @@ pub record LearnsOf (ds : Documents) (root : Document) (b : BackRead) : Type 0 w
   pub last : (after_replies ds 2 b).last ≡ root.last_rev
   pub sweep : (after_replies ds 2 b).sweep ≡ root.sweep_rev
 
+-- where the root has a document, a background read of documents at rest learns its two vectors
 abbrev pub Learns : Type 0
 Learns = (a : Global) (cluster : ℕ) (ds : Documents) (root : Document) → ds (id.Node []) ≡ Some root → LearnsOf ds root (learning.begun a cluster)

@@ -28,6 +28,7 @@ due b = by b.step
     by step.Learn = ask.Memory (memory.Learn b.last b.sweep)
     by step.Done = ask.Done
 
+-- the stage in which a background read stands
 abbrev pub stage_of : BackRead → Stage
 stage_of b = by b.step
   where

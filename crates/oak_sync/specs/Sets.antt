@@ -13,6 +13,7 @@ use Rattle.oak_sync.specs.Upward.{is_upward}
 abbrev pub Ids : Type 0
 Ids = List (DocId × Unit {0})
 
+-- the document id is in the set
 abbrev pub has : Ids → DocId → Bool
 has ids x = is_some (lookup (is_at (id_cmp x)) ids)
 

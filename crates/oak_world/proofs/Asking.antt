@@ -17,7 +17,7 @@ use Rattle.oak_machine.specs.declared.event.StepKind.TheVariants as kind
 use Rattle.oak_machine.specs.Asked.{AreAskedIn, IsAsked, IsAskedFor, is_made_by}
 use Rattle.oak_machine.specs.Commits.{draw_of}
 use Rattle.oak_machine.specs.History.{History, Past}
-use Rattle.oak_machine.specs.Laws.{Asks, Says, Starts, StartsProper, after, is_revision_of}
+use Rattle.oak_machine.specs.Laws.{Asks, Says, Starts, StartsProper, StartsWrite, after, is_revision_of}
 use Rattle.oak_machine.specs.Runs.{IsRunOf, StartsLast}
 use Rattle.oak_machine.specs.Sessions.{is_stopped, next_index}
 use Rattle.oak_machine.specs.Steps.{is_appended_by, is_kind, is_moving, is_on, kinds_for, leaves_went, where_test}
@@ -281,13 +281,13 @@ module _ (asks : Asks) {L : Type 0} (w : WorldOf L) (asked : IsAskedWorld asks w
         by q false apart e may = subst (λ (n : ℕ). asks q n e) (sym (next_said q apart)) (asked.coming q e (subst (λ (x : ActorState). MayAppend (shown_work x.work) e) (others_are w s seated said.actors quiet refl q apart) may))
 
 -- a step is made
-module _ (starts : Starts) (says : Says) (proper : StartsProper starts) (last : StartsLast starts says) {L : Type 0} (w : WorldOf L) (is : IsWorld starts says w) (s : ℕ) (there : is_some (slice_get w.history.sessions s) ≡ true) (u : WorldOf L) (o : StepOut) (m : StepsIn w s u o)
+module _ (starts : Starts) (says : Says) (proper : StartsProper starts) (writes : StartsWrite starts) (last : StartsLast starts says) {L : Type 0} (w : WorldOf L) (is : IsWorld starts says w) (s : ℕ) (there : is_some (slice_get w.history.sessions s) ≡ true) (u : WorldOf L) (o : StepOut) (m : StepsIn w s u o)
     (asks : Asks) (asked : IsAskedWorld asks w) where
   abbrev step : IsStepOf starts says s (state_of w) (work_in w.actors s) (state_of u) m.does o
-  step = step_is starts says proper last w is s there u o m
+  step = step_is starts says proper writes last w is s there u o m
 
   abbrev grows : live u.history ≡ after step.own (live w.history)
-  grows = grown starts says proper last w is s there u o m
+  grows = grown starts says proper writes last w is s there u o m
 
   stepped : IsAskedStep asks (live w.history) step.own (shown_work (work_in w.actors s)) (shown_work m.does)
   stepped = step_asked asks starts says w.history.clusters w.history.sessions w.history.past is.kept.sessions.run s (shown_work (work_in w.actors s)) asked.made (asked.coming s) o step.own (shown_work m.does) step.tells step.of_step
@@ -303,7 +303,7 @@ module _ (starts : Starts) (says : Says) (proper : StartsProper starts) (last : 
           let n : q ≡ s = same_number q s same in
           subst (λ (i : ℕ). asks q i e) (sym (next q))
           (subst (λ (i : ℕ). asks i (next_index w.history.past i) e) (sym n)
-          (asked.coming s e (stepped.less e (subst (λ (x : Work). MayAppend (shown_work x) e) (ap (work_in u.actors) n ∙ does_now starts says proper last w is s there u o m) may))))
+          (asked.coming s e (stepped.less e (subst (λ (x : Work). MayAppend (shown_work x) e) (ap (work_in u.actors) n ∙ does_now starts says proper writes last w is s there u o m) may))))
       by q false apart e may =
           subst (λ (i : ℕ). asks q i e) (sym (next q))
-          (asked.coming q e (subst (λ (x : ActorState). MayAppend (shown_work x.work) e) (others_are w s (seat starts says proper last w is s there) u.actors _ m.actors q apart) may))
+          (asked.coming q e (subst (λ (x : ActorState). MayAppend (shown_work x.work) e) (others_are w s (seat starts says proper writes last w is s there) u.actors _ m.actors q apart) may))

@@ -10,7 +10,7 @@ use Rattle.jr_rev.specs.declared.vector.Pin.{Pin}
 use Rattle.oak_machine.specs.declared.event.Event.TheVariants as event
 use Rattle.oak_machine.specs.declared.event.Journal.{Journal}
 use Rattle.oak_machine.specs.Recorded.{Recorded}
-use Rattle.oak_machine.specs.Laws.{Asks, Says, Starts, StartsProper}
+use Rattle.oak_machine.specs.Laws.{Asks, Says, Starts, StartsProper, StartsWrite}
 use Rattle.oak_machine.specs.Runs.{StartsLast}
 use Rattle.oak_machine.specs.Sessions.{next_index}
 use Rattle.oak_node.specs.Memory.{NodeState}
@@ -42,6 +42,7 @@ begins_free pin task.End v h = ap needed h
 begins_free pin task.Refresh v h = ap needed h
 begins_free pin (task.Load p) v h = ap needed h.3
 begins_free pin (task.List p) v h = ap needed h.3
+begins_free pin (task.Changes since) v h = ap needed h.3
 begins_free pin (task.Commit edit marks) v h = ap needed h
 begins_free pin task.BackWrite v h = ap needed h
 begins_free pin task.BackRead v h = ap needed h
@@ -52,7 +53,7 @@ begins_free pin task.Detach v h = ap needed h
 begins_free pin task.Observe v h = ap needed h
 begins_free pin _ v h = absurd h
 
-module _ (starts : Starts) (says : Says) (proper : StartsProper starts) (last : StartsLast starts says) {L : Type 0} (law : L) (j : Journal) (t : Table) (ms : List NodeState) (actors : List Actor) (is : IsWorld starts says (shown_world law j t ms actors)) (placed : ArePlaced actors j.events.places)
+module _ (starts : Starts) (says : Says) (proper : StartsProper starts) (writes : StartsWrite starts) (last : StartsLast starts says) {L : Type 0} (law : L) (j : Journal) (t : Table) (ms : List NodeState) (actors : List Actor) (is : IsWorld starts says (shown_world law j t ms actors)) (placed : ArePlaced actors j.events.places)
     (s k : ℕ) (on : slice_get j.sessions s ≡ Some k) (a : Actor) (at : a ≡ get_or actors s a) where
   abbrev w : WorldOf L
   w = shown_world law j t ms actors
@@ -64,16 +65,16 @@ module _ (starts : Starts) (says : Says) (proper : StartsProper starts) (last : 
   here = read_at actors s a a (actor_within starts says proper law j t ms actors is s there) at
 
   seated : s < length w.actors
-  seated = seat starts says proper last w is s there
+  seated = seat starts says proper writes last w is s there
 
   works : work_in w.actors s ≡ a.work
   works = ap (λ (b : ActorState). b.work) (actor_shown actors s a here)
 
   pub seat_placed : IsPlaced a
-  seat_placed = its_placed starts says proper last law j t ms actors is placed s k on a here
+  seat_placed = its_placed starts says proper writes last law j t ms actors is placed s k on a here
 
   pub seat_places : a.places ≤ j.events.places
-  seat_places = own_are starts says proper last law j t ms actors is placed s k on a here
+  seat_places = own_are starts says proper writes last law j t ms actors is placed s k on a here
 
   pub seat_busy : work_in w.actors s ≢ work.Rest → a.work ≢ work.Rest
   seat_busy busy e = busy (works ∙ e)
@@ -93,29 +94,29 @@ module _ (starts : Starts) (says : Says) (proper : StartsProper starts) (last : 
 
     stands : (asks : Asks) (v : WorldOf L) → now ≡ v → IsWorld starts says v → IsAskedWorld asks v → Stands asks
     stands asks v e kept asked = (
-      (subst (λ (x : WorldOf L). IsWorld starts says x) (sym e) kept, set_placed starts says proper last law j t ms actors is placed s k on a here b es.places its places),
+      (subst (λ (x : WorldOf L). IsWorld starts says x) (sym e) kept, set_placed starts says proper writes last law j t ms actors is placed s k on a here b es.places its places),
       subst (λ (x : WorldOf L). IsAskedWorld asks x) (sym e) asked,
     )
 
     module _ (list : es.list ≡ j.events.list) where
       pub reserved_is : (room : Option ℕ) → shown_actor b ≡ record (shown_actor a) { reply = room } → now ≡ with_reply w s room
-      reserved_is room shown = replied_is starts says proper last law j t ms actors is placed s k on a here b es room shown list
+      reserved_is room shown = replied_is starts says proper writes last law j t ms actors is placed s k on a here b es room shown list
 
       pub unchanged_is : shown_actor b ≡ shown_actor a → now ≡ w
-      unchanged_is shown = same_is starts says proper last law j t ms actors is placed s k on a here b es shown list
+      unchanged_is shown = same_is starts says proper writes last law j t ms actors is placed s k on a here b es shown list
 
       pub reserve_stands : (asks : Asks) → IsAskedWorld asks w → (r : Result Unit AllocError) (room : ℕ) → OnOk r (shown_actor b ≡ record (shown_actor a) { reply = Some room }) → OnErr r (shown_actor b ≡ shown_actor a) → Stands asks
-      reserve_stands asks asked (Ok x) room ok err = stands asks (with_reply w s (Some room)) (reserved_is (Some room) ok) (reply_keeps starts says proper last w is s there (Some room)) (reply_asked asks w asked s seated (Some room))
+      reserve_stands asks asked (Ok x) room ok err = stands asks (with_reply w s (Some room)) (reserved_is (Some room) ok) (reply_keeps starts says proper writes last w is s there (Some room)) (reply_asked asks w asked s seated (Some room))
       reserve_stands asks asked (Err x) room ok err = stands asks w (unchanged_is err) is asked
 
     -- ---- a reply
 
     module _ (i : ℕ) (text : Text) (shown : shown_actor b ≡ record (shown_actor a) { reply = None }) (list : es.list ≡ j.events.list ++ event.Said s i text ∷ []) where
       pub saying_is : now ≡ said_in w s i text
-      saying_is = said_is starts says proper last law j t ms actors is placed s k on a here b es i text shown list
+      saying_is = said_is starts says proper writes last law j t ms actors is placed s k on a here b es i text shown list
 
       pub say_stands : (asks : Asks) → IsAskedWorld asks w → work_in w.actors s ≡ work.Rest → i ≡ next_index w.history.past s → says (live w.history) s i text → Stands asks
-      say_stands asks asked idle next lawful = stands asks (said_in w s i text) saying_is (said_keep starts says proper last w is s there idle i text next lawful) (said_asked asks w asked s seated idle i text)
+      say_stands asks asked idle next lawful = stands asks (said_in w s i text) saying_is (said_keep starts says proper writes last w is s there idle i text next lawful) (said_asked asks w asked s seated idle i text)
 
   -- ---- a task
 
@@ -130,14 +131,14 @@ module _ (starts : Starts) (says : Says) (proper : StartsProper starts) (last : 
         omega (arith, free, kept)
 
     pub starting_is : shown_world law j t ms (slice_set actors s begun) ≡ with_work w s v
-    starting_is = begun_is starts says proper last law j t ms actors is placed s k on a here begun j.events v (ap (λ (c : ℕ). record (shown_actor a) { work = v; began = c }) count) refl
+    starting_is = begun_is starts says proper writes last law j t ms actors is placed s k on a here begun j.events v (ap (λ (c : ℕ). record (shown_actor a) { work = v; began = c }) count) refl
 
     pub start_stands : (asks : Asks) → IsAskedWorld asks w → IsAskedOf asks (live w.history) s x → work_in w.actors s ≡ work.Rest → MayBegin starts (live w.history) s x → pin ≡ actor_pin (state_of w) s
         → (IsWorld starts says (shown_world law j t ms (slice_set actors s begun)) × ArePlaced (slice_set actors s begun) j.events.places) × IsAskedWorld asks (shown_world law j t ms (slice_set actors s begun))
     start_stands asks asked so idle may same = (
       (
-        subst (λ (x : WorldOf L). IsWorld starts says x) (sym starting_is) (start_keeps starts says proper last w is s there idle x v may (subst (λ (p : Option Pin). Begins p x v) same begins)),
-        set_placed starts says proper last law j t ms actors is placed s k on a here begun j.events.places begun_placed refl,
+        subst (λ (x : WorldOf L). IsWorld starts says x) (sym starting_is) (start_keeps starts says proper writes last w is s there idle x v may (subst (λ (p : Option Pin). Begins p x v) same begins)),
+        set_placed starts says proper writes last law j t ms actors is placed s k on a here begun j.events.places begun_placed refl,
       ),
       subst (λ (x : WorldOf L). IsAskedWorld asks x) (sym starting_is) (start_asked asks w asked s seated pin x v begins so),
     )
@@ -149,7 +150,7 @@ module _ (starts : Starts) (says : Says) (proper : StartsProper starts) (last : 
     remembered = memory_is starts says proper law j t ms actors is s there k on m m read
 
     pub step_can : work_in w.actors s ≢ work.Rest → length j.events.list < 2 ^ 63 → CanStep s m j.events.places a.work
-    step_can busy short = can starts says proper last law j t ms actors is placed s k on a here m remembered busy short
+    step_can busy short = can starts says proper writes last law j t ms actors is placed s k on a here m remembered busy short
 
     module _ (u : Table) (n : NodeState) (es : Recorded) (b : Actor) (o : StepOut) (busy : work_in w.actors s ≢ work.Rest) (made : Steps s k (parts t m j.events.list) a.work (parts u n es.list) b.work o)
         (began : b.began ≡ a.began) (reply : b.reply ≡ a.reply) (reads : b.reads ≡ reads_after a.work o a.reads) (attached : b.attached ≡ attached_after a.work o a.attached) where
@@ -157,13 +158,13 @@ module _ (starts : Starts) (says : Says) (proper : StartsProper starts) (last : 
       stepped = shown_world law (record j { events = es }) u (slice_set ms (k - 1) n) (slice_set actors s b)
 
       pub step_made : StepsIn w s stepped o
-      step_made = steps_in starts says proper last law j t ms actors is placed s k on a here m remembered u n es b o (seat_busy busy) made began reply reads attached
+      step_made = steps_in starts says proper writes last law j t ms actors is placed s k on a here m remembered u n es b o (seat_busy busy) made began reply reads attached
 
       pub step_stands : (asks : Asks) → IsAskedWorld asks w → IsTable u.documents → IsPlaced b → es.places + a.places ≡ j.events.places + b.places → (IsWorld starts says stepped × ArePlaced (slice_set actors s b) es.places) × IsAskedWorld asks stepped
       step_stands asks asked table its places = (
-        step_keeps_all starts says proper last law j t ms actors is placed s k on a here m remembered u n es b o (seat_busy busy) made began reply reads attached table its places,
-        step_keeps_asked starts says proper last w is s there stepped o step_made asks asked,
+        step_keeps_all starts says proper writes last law j t ms actors is placed s k on a here m remembered u n es b o (seat_busy busy) made began reply reads attached table its places,
+        step_keeps_asked starts says proper writes last w is s there stepped o step_made asks asked,
       )
 
       pub step_shown : (name : GName) → StepSeen starts says (shown_at name w s) (shown_at name stepped s) o
-      step_shown name = seen starts says proper last law j t ms actors is placed s k on a here m remembered u n es b o (seat_busy busy) made began reply reads attached name
+      step_shown name = seen starts says proper writes last law j t ms actors is placed s k on a here m remembered u n es b o (seat_busy busy) made began reply reads attached name

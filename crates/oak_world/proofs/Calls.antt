@@ -13,7 +13,7 @@ use Rattle.oak_machine.specs.declared.event.Event.TheVariants as event
 use Rattle.oak_machine.specs.declared.event.Journal.{Journal}
 use Rattle.oak_machine.specs.Recorded.{Recorded}
 use Rattle.oak_machine.specs.History.{Past}
-use Rattle.oak_machine.specs.Laws.{Says, Starts, StartsProper}
+use Rattle.oak_machine.specs.Laws.{Says, Starts, StartsProper, StartsWrite}
 use Rattle.oak_machine.specs.Runs.{StartsLast}
 use Rattle.oak_node.specs.Memory.{NodeState}
 use Rattle.oak_read.specs.Reading.{IsTable}
@@ -48,7 +48,7 @@ set_same (y ∷ ys) (suc s) x h = ap (λ zs. y ∷ zs) (set_same ys s x h)
 pub actor_shown : (actors : List Actor) (s : ℕ) (a : Actor) → slice_get actors s ≡ Some a → actor_in (map shown_actor actors) s ≡ shown_actor a
 actor_shown actors s a here = ap (λ (o : Option ActorState). unwrap_or o idle) (slice_get-map shown_actor actors s ∙ ap (option_map shown_actor) here)
 
-module _ (starts : Starts) (says : Says) (proper : StartsProper starts) (last : StartsLast starts says) {L : Type 0} (law : L) (j : Journal) (t : Table) (ms : List NodeState) (actors : List Actor) (is : IsWorld starts says (shown_world law j t ms actors)) (placed : ArePlaced actors j.events.places)
+module _ (starts : Starts) (says : Says) (proper : StartsProper starts) (writes : StartsWrite starts) (last : StartsLast starts says) {L : Type 0} (law : L) (j : Journal) (t : Table) (ms : List NodeState) (actors : List Actor) (is : IsWorld starts says (shown_world law j t ms actors)) (placed : ArePlaced actors j.events.places)
     (s k : ℕ) (on : slice_get j.sessions s ≡ Some k) (a : Actor) (here : slice_get actors s ≡ Some a) where
   abbrev w : WorldOf L
   w = shown_world law j t ms actors
@@ -60,7 +60,7 @@ module _ (starts : Starts) (says : Says) (proper : StartsProper starts) (last : 
   within = slice_get_within actors s a here
 
   seated : s < length w.actors
-  seated = seat starts says proper last w is s there
+  seated = seat starts says proper writes last w is s there
 
   node_is : node_in w.history s ≡ k
   node_is = ap (λ o. unwrap_or o 0) on
@@ -96,7 +96,7 @@ module _ (starts : Starts) (says : Says) (proper : StartsProper starts) (last : 
         let few : length (reverse j.events.list) < 2 ^ 63 = subst (λ (n : ℕ). n < 2 ^ 63) (sym l) short in
         subst (λ (x : NodeState). CanStep s x j.events.places a.work) memory_is
         (subst (λ (v : Work). CanStep s (memory_at ms (node_in w.history s)) j.events.places v) work_is
-        (can_step starts says proper last w is s there busy j.events.places (subst (λ (v : Work). needed v ≤ j.events.places) (sym work_is) need) few))
+        (can_step starts says proper writes last w is s there busy j.events.places (subst (λ (v : Work). needed v ≤ j.events.places) (sym work_is) need) few))
 
     -- its step
     module _ (u : Table) (n : NodeState) (es : Recorded) (b : Actor) (o : StepOut) where
@@ -145,10 +145,10 @@ module _ (starts : Starts) (says : Says) (proper : StartsProper starts) (last : 
                 ∙ sym (ap (λ (x : ActorState). record x { work = b.work; reads = reads_after x.work o x.reads; attached = attached_after x.work o x.attached }) actor_is))))
 
         pub step_keeps_all : b.began ≡ a.began → b.reply ≡ a.reply → b.reads ≡ reads_after a.work o a.reads → b.attached ≡ attached_after a.work o a.attached → IsTable u.documents → IsPlaced b → es.places + a.places ≡ j.events.places + b.places → IsWorld starts says now × ArePlaced (slice_set actors s b) es.places
-        step_keeps_all began reply reads attached table its places = (step_keeps starts says proper last w is s there now o (steps_in began reply reads attached) table, set_placed b es.places its places)
+        step_keeps_all began reply reads attached table its places = (step_keeps starts says proper writes last w is s there now o (steps_in began reply reads attached) table, set_placed b es.places its places)
 
         pub seen : b.began ≡ a.began → b.reply ≡ a.reply → b.reads ≡ reads_after a.work o a.reads → b.attached ≡ attached_after a.work o a.attached → (name : GName) → StepSeen starts says (shown_at name w s) (shown_at name now s) o
-        seen began reply reads attached name = step_seen starts says proper last w is s there now o (steps_in began reply reads attached) name
+        seen began reply reads attached name = step_seen starts says proper writes last w is s there now o (steps_in began reply reads attached) name
 
   -- ---- other calls
 

@@ -2,7 +2,7 @@
 use Rattle.jr_path.specs.declared.path.Path.{Path}
 use Rattle.oak_doc.specs.declared.document.PrevEntry.{PrevEntry}
 use mathlib.Core.Bool.{false≢true}
-use Rattle.std.proofs.Common.{◌≡◌, ◌≢◌, ◌↔◌, ℕ, zero, suc, ◌^◌, ◌<◌, ◌≤◌, Bool, true, false, ◌||◌, Option, Some, None, List, [], ◌∷◌, ◌++◌, length, map, is_some, refl, sym, ap, subst, ◌∙◌, arith}
+use Rattle.std.proofs.Common.{◌≡◌, ◌≢◌, ◌↔◌, ℕ, zero, suc, ◌^◌, ◌<◌, ◌≤◌, Bool, true, false, ◌||◌, cond, Option, Some, None, List, [], ◌∷◌, ◌++◌, length, map, is_some, refl, sym, ap, subst, ◌∙◌, arith}
 use Rattle.std.specs.Prelude.{◌==◌, slice_get, slice_set, IsSome}
 use Rattle.std.specs.Borrow.{GName}
 use Rattle.std.proofs.lemmas.List.{length-set}
@@ -10,6 +10,8 @@ use Rattle.std.proofs.lemmas.Option.{slice_get_within}
 use Rattle.jr_path.specs.Lists.{Text}
 use Rattle.jr_rev.specs.declared.revision.Revision.{Revision}
 use Rattle.jr_rev.specs.declared.vector.Pin.{Pin}
+use Rattle.oak_changes.specs.Reading.{changes_reader}
+use Rattle.oak_changes.specs.declared.changes.ChangesReader.{ChangesReader}
 use Rattle.oak_commit.specs.Committing.{Committing}
 use Rattle.oak_commit.specs.Stages.{stage_of}
 use Rattle.oak_commit.specs.declared.outcome.CommitEnd.{CommitEnd}
@@ -19,7 +21,7 @@ use Rattle.oak_commit.specs.declared.stage.Stage.TheVariants as stage
 use Rattle.oak_machine.specs.declared.event.Event.{Event}
 use Rattle.oak_machine.specs.declared.event.Event.TheVariants as event
 use Rattle.oak_machine.specs.History.{History, Past}
-use Rattle.oak_machine.specs.Laws.{AreOthers, Says, Starts, StartsProper, after}
+use Rattle.oak_machine.specs.Laws.{AreOthers, Says, Starts, StartsProper, StartsWrite, after}
 use Rattle.oak_machine.specs.Runs.{IsNode, IsRun, StartsLast}
 use Rattle.oak_machine.specs.Sessions.{is_attached, is_stopped, next_index}
 use Rattle.oak_node.specs.Heads.{HasEnded, known_time}
@@ -32,12 +34,12 @@ use Rattle.core_nodes.specs.Nodes.{cursor_owner}
 use Rattle.core_nodes.proofs.Pasts.{ended_was_drawn}
 use Rattle.core_nodes.proofs.Waits.{has_ended}
 use Rattle.core_world.specs.Kept.{IsKept}
-use Rattle.core_world.specs.States.{State, actor_pin, memory_of, with_session}
-use Rattle.core_world.specs.Steps.{after_said, with_reader}
+use Rattle.core_world.specs.States.{State, actor_pin, memory_of, reader_pin, with_session}
+use Rattle.core_world.specs.Steps.{after_said, with_observer, with_reader}
 use Rattle.core_world.proofs.Flights.{other_number, same_number}
 use Rattle.core_world.proofs.Lives.{its_node, on_node}
 use Rattle.core_world.proofs.Truths.{due_drawn, flies_there, pin_there, time_known}
-use Rattle.core_world.proofs.Whole.{list_whole, load_whole, said_whole}
+use Rattle.core_world.proofs.Whole.{list_whole, load_whole, notice_whole, said_whole}
 use Rattle.oak_port.specs.declared.task.StepOut.{StepOut}
 use Rattle.oak_port.specs.declared.task.Task.{Task}
 use Rattle.oak_port.specs.declared.task.Task.TheVariants as task
@@ -51,8 +53,8 @@ use Rattle.oak_step.specs.Parts.{CanKeepUp, CanStep, HasRoot, needed}
 use Rattle.oak_world.specs.Seen.{no_seat, seat_of, shown_at, shown_by, shown_upkeep, shown_work}
 use Rattle.oak_step.specs.Works.{Begins, CanBegin, kind_due, kind_of}
 use Rattle.oak_world.specs.Steps.{HasCome, StepsIn, attached_after}
-use Rattle.oak_world.specs.Worlds.{ActorState, Story, WorldOf, actor_in, live, node_in, reading_of, running_as, running_of, said_in, state_of, state_with, with_reply, with_work, work_in}
-use Rattle.oak_world.proofs.States.{actor_other, actor_set, session_same, session_set}
+use Rattle.oak_world.specs.Worlds.{ActorState, Story, WorldOf, actor_in, live, node_in, observing_of, reading_of, running_as, running_of, said_in, state_of, state_with, with_reply, with_work, work_in}
+use Rattle.oak_world.proofs.States.{SameReaders, actor_other, actor_set, readers_same, readers_set, same_readers, session_same, session_set, with_readers}
 use Rattle.oak_step.proofs.Stages.{counted_stage, done_stage}
 use Rattle.oak_world.proofs.Others.{attached_left}
 use Rattle.oak_world.proofs.Pinning.{actor_there}
@@ -147,6 +149,7 @@ idle_shown work.Login h = cc
 idle_shown work.End h = cc
 idle_shown work.Refresh h = cc
 idle_shown (work.Read r) h = cc
+idle_shown (work.Changes r) h = cc
 idle_shown (work.Plan edit marks) h = cc
 idle_shown (work.Commit c) h = absurd (by c.outcome h)
   where
@@ -175,6 +178,7 @@ busy_due starts h s work.Login may = (λ k e. cc, λ busy. refl)
 busy_due starts h s work.End may = (λ k e. cc, λ busy. refl)
 busy_due starts h s work.Refresh may = (λ k e. cc, λ busy. refl)
 busy_due starts h s (work.Read r) may = (λ k e. cc, λ busy. refl)
+busy_due starts h s (work.Changes r) may = (λ k e. cc, λ busy. refl)
 busy_due starts h s (work.Plan edit marks) may = (λ k e. cc, λ busy. refl)
 busy_due starts h s (work.Commit c) may = (λ k e. cc, λ busy. staged c may.unended (stage_of c) refl)
 busy_due starts h s (work.Move r) may = (λ k e. cc, λ busy. refl)
@@ -187,6 +191,7 @@ begins_shown pin task.End v h = ap shown_work h
 begins_shown pin task.Refresh v h = ap shown_work h
 begins_shown pin (task.Load p) v h = ap shown_work h.3
 begins_shown pin (task.List p) v h = ap shown_work h.3
+begins_shown pin (task.Changes since) v h = ap shown_work h.3
 begins_shown pin (task.Commit edit marks) v h = ap shown_work h
 begins_shown pin task.BackWrite v h = ap shown_work h
 begins_shown pin task.BackRead v h = ap shown_work h
@@ -197,7 +202,7 @@ begins_shown pin task.Detach v h = ap shown_work h
 begins_shown pin task.Observe v h = ap shown_work h
 begins_shown pin _ v h = absurd h
 
-module _ (starts : Starts) (says : Says) (proper : StartsProper starts) (last : StartsLast starts says) {L : Type 0} (w : WorldOf L) (is : IsWorld starts says w) (s : ℕ) (there : is_some (slice_get w.history.sessions s) ≡ true) where
+module _ (starts : Starts) (says : Says) (proper : StartsProper starts) (writes : StartsWrite starts) (last : StartsLast starts says) {L : Type 0} (w : WorldOf L) (is : IsWorld starts says w) (s : ℕ) (there : is_some (slice_get w.history.sessions s) ≡ true) where
   abbrev does : Work
   does = work_in w.actors s
 
@@ -248,6 +253,7 @@ module _ (starts : Starts) (says : Says) (proper : StartsProper starts) (last : 
       omega arith
   can_by work.Refresh busy at may places kept short = come_pinned may.0
   can_by (work.Read r) busy at may places kept short = tt
+  can_by (work.Changes r) busy at may places kept short = tt
   can_by (work.Plan edit marks) busy at may places kept short = let t : known_time (memory_of (state_of w) s) ≤ length w.history.past = time_known starts says proper (state_of w) is.kept.sessions (node_in w.history s) node in omega arith
   can_by (work.Commit c) busy at may places kept short = record { flying = flies_there starts says proper (state_of w) is.kept.sessions s (running_as s c) (ap (running_of s) at); unended = may.unended; counted = counted_stage c may.looked; kept = kept }
   can_by (work.Upkeep u) busy at may places kept short = can_keep_up u may.0
@@ -267,7 +273,7 @@ module _ (starts : Starts) (says : Says) (proper : StartsProper starts) (last : 
   can_begin (task.Split p) may = may
   can_begin task.Sweep may = may
   can_begin task.Collect may = may
-  can_begin (task.Changes since) may = may
+  can_begin (task.Changes since) may = actor_there starts says proper (state_of w) is.kept s there is.unstopped may.0 may.1
   can_begin (task.Stop k) may = may
   can_begin (task.Recover k) may = may
   can_begin _ may = tt
@@ -280,7 +286,7 @@ module _ (starts : Starts) (says : Says) (proper : StartsProper starts) (last : 
 
   module _ (u : WorldOf L) (o : StepOut) (m : StepsIn w s u o) where
     pub step_is : IsStepOf starts says s (state_of w) (work_in w.actors s) (state_of u) m.does o
-    step_is = any_step starts says proper (state_of w) is.kept s there few_sessions refl is.unstopped is.table (work_in w.actors s) refl refl (is.may s) (state_of u) m.does o m.makes
+    step_is = any_step starts says proper writes (state_of w) is.kept s there few_sessions is.unstopped is.table (work_in w.actors s) refl refl refl (is.may s) (state_of u) m.does o m.makes
 
     pub grown : (live u.history) ≡ after step_is.own (live w.history)
     grown = step_is.grown
@@ -353,44 +359,58 @@ module _ (starts : Starts) (says : Says) (proper : StartsProper starts) (last : 
       by q false apart = subst (λ (b : ActorState). May starts (live w.history) q b.work) (sym (others_are w s seat (slice_set w.actors s a) a refl q apart)) (is.may q)
 
   -- the state, where the session does this
-  set_state : (a : ActorState) → state_with w.history w.table w.memories (slice_set w.actors s a) ≡ record (state_of w) { running = with_session (state_of w).running s (running_of s a.work); reading = with_session (state_of w).reading s (reading_of a.work) }
+  set_state : (a : ActorState) → state_with w.history w.table w.memories (slice_set w.actors s a) ≡ with_readers w s seat (record (state_of w) { running = with_session (state_of w).running s (running_of s a.work) }) a.work
   set_state a =
       ap (λ (f : ℕ → Option Running). record (state_with w.history w.table w.memories (slice_set w.actors s a)) { running = f }) (session_set running_of w.actors s a seat)
-      ∙ ap (λ (f : ℕ → Option Reader). record (state_of w) { running = with_session (state_of w).running s (running_of s a.work); reading = f }) (session_set (λ q v. reading_of v) w.actors s a seat)
+      ∙ readers_set w s seat (record (state_of w) { running = with_session (state_of w).running s (running_of s a.work) }) a
 
-  -- where it has the committer that it had, the state has its reader now
-  reader_state : (a : ActorState) → running_of s (work_in w.actors s) ≡ running_of s a.work → state_with w.history w.table w.memories (slice_set w.actors s a) ≡ with_reader (state_of w) s (reading_of a.work)
-  reader_state a running =
-      set_state a
-      ∙ ap (λ (f : ℕ → Option Running). record (state_of w) { running = f; reading = with_session (state_of w).reading s (reading_of a.work) }) (session_same (state_of w).running s (running_of s a.work) running)
+  -- where it has the committer that it had, the state has its readers now
+  idle_state : (a : ActorState) → running_of s (work_in w.actors s) ≡ running_of s a.work → state_with w.history w.table w.memories (slice_set w.actors s a) ≡ with_readers w s seat (state_of w) a.work
+  idle_state a running = set_state a ∙ ap (λ (f : ℕ → Option Running). with_readers w s seat (record (state_of w) { running = f }) a.work) (session_same (state_of w).running s (running_of s a.work) running)
 
-  same_state : (a : ActorState) → running_of s (work_in w.actors s) ≡ running_of s a.work → reading_of (work_in w.actors s) ≡ reading_of a.work → state_with w.history w.table w.memories (slice_set w.actors s a) ≡ state_of w
-  same_state a running reading = reader_state a running ∙ ap (λ (f : ℕ → Option Reader). record (state_of w) { reading = f }) (session_same (state_of w).reading s (reading_of a.work) reading)
+  reader_state : (a : ActorState) → running_of s (work_in w.actors s) ≡ running_of s a.work → observing_of (work_in w.actors s) ≡ observing_of a.work → state_with w.history w.table w.memories (slice_set w.actors s a) ≡ with_reader (state_of w) s (reading_of a.work)
+  reader_state a running observing = idle_state a running ∙ ap (λ (f : ℕ → Option ChangesReader). record (with_reader (state_of w) s (reading_of a.work)) { observing = f }) (session_same (state_of w).observing s (observing_of a.work) observing)
+
+  observer_state : (a : ActorState) → running_of s (work_in w.actors s) ≡ running_of s a.work → reading_of (work_in w.actors s) ≡ reading_of a.work → state_with w.history w.table w.memories (slice_set w.actors s a) ≡ with_observer (state_of w) s (observing_of a.work)
+  observer_state a running reading = idle_state a running ∙ ap (λ (f : ℕ → Option Reader). record (with_observer (state_of w) s (observing_of a.work)) { reading = f }) (session_same (state_of w).reading s (reading_of a.work) reading)
+
+  same_state : (a : ActorState) → running_of s (work_in w.actors s) ≡ running_of s a.work → SameReaders (work_in w.actors s) a.work → state_with w.history w.table w.memories (slice_set w.actors s a) ≡ state_of w
+  same_state a running same = idle_state a running ∙ readers_same w s seat (state_of w) a.work same
 
   pub reply_keeps : (room : Option ℕ) → IsWorld starts says (with_reply w s room)
-  reply_keeps room = set_keeps (record (actor_in w.actors s) { reply = room }) refl (subst (λ (t : State). IsKept starts says t) (sym (same_state (record (actor_in w.actors s) { reply = room }) refl refl)) is.kept) (is.may s)
+  reply_keeps room = set_keeps (record (actor_in w.actors s) { reply = room }) refl (subst (λ (t : State). IsKept starts says t) (sym (same_state (record (actor_in w.actors s) { reply = room }) refl (refl, refl))) is.kept) (is.may s)
 
   module _ (idle : work_in w.actors s ≡ work.Rest) where
     abbrev begun : Work → ActorState
     begun v = record (actor_in w.actors s) { work = v; began = length w.history.past }
 
     -- a task that reads nothing
-    quiet_keeps : (v : Work) → running_of s v ≡ None → reading_of v ≡ None → May starts (live w.history) s v → IsWorld starts says (with_work w s v)
-    quiet_keeps v running reading may = set_keeps (begun v) refl (subst (λ (t : State). IsKept starts says t) (sym (same_state (begun v) (ap (running_of s) idle ∙ sym running) (ap reading_of idle ∙ sym reading))) is.kept) may
+    quiet_keeps : (v : Work) → running_of s v ≡ None → SameReaders work.Rest v → May starts (live w.history) s v → IsWorld starts says (with_work w s v)
+    quiet_keeps v running same may = set_keeps (begun v) refl (subst (λ (t : State). IsKept starts says t) (sym (same_state (begun v) (ap (running_of s) idle ∙ sym running) (same_readers (work_in w.actors s) v work.Rest v idle refl same))) is.kept) may
 
     reads_keeps : (r : Reader) → IsKept starts says (with_reader (state_of w) s (Some r)) → HasCome (live w.history) s → IsWorld starts says (with_work w s (work.Read r))
-    reads_keeps r kept come = set_keeps (begun (work.Read r)) refl (subst (λ (t : State). IsKept starts says t) (sym (reader_state (begun (work.Read r)) (ap (running_of s) idle))) kept) come
+    reads_keeps r kept come = set_keeps (begun (work.Read r)) refl (subst (λ (t : State). IsKept starts says t) (sym (reader_state (begun (work.Read r)) (ap (running_of s) idle) (ap observing_of idle))) kept) come
+
+    observes_keeps : (r : ChangesReader) → IsKept starts says (with_observer (state_of w) s (Some r)) → HasCome (live w.history) s → is_attached w.history.past s ≡ false → IsWorld starts says (with_work w s (work.Changes r))
+    observes_keeps r kept come detached = set_keeps (begun (work.Changes r)) refl (subst (λ (t : State). IsKept starts says t) (sym (observer_state (begun (work.Changes r)) (ap (running_of s) idle) (ap reading_of idle))) kept) (come, detached)
+
+    -- a session that isn't attached reads at its own pin
+    own_pin : (pin : Pin) → is_attached w.history.past s ≡ false → actor_pin (state_of w) s ≡ Some pin → pin_of (memory_of (state_of w) s) s ≡ Some pin
+    own_pin pin detached has = sym (ap (λ (b : Bool). cond b (reader_pin w.table s) (pin_of (memory_of (state_of w) s) s)) detached) ∙ has
 
     upkeep_keeps : (u : Upkeep) (v : Work) → v ≡ work.Upkeep u → HasCome (live w.history) s → MayKeepUp (live w.history) s u → IsWorld starts says (with_work w s v)
-    upkeep_keeps u v is come may = subst (λ (x : Work). IsWorld starts says (with_work w s x)) (sym is) (quiet_keeps (work.Upkeep u) refl refl (come, may))
+    upkeep_keeps u v is come may = subst (λ (x : Work). IsWorld starts says (with_work w s x)) (sym is) (quiet_keeps (work.Upkeep u) refl (refl, refl) (come, may))
 
     pub start_keeps : (t : Task) (v : Work) → MayBegin starts (live w.history) s t → Begins (actor_pin (state_of w) s) t v → IsWorld starts says (with_work w s v)
-    start_keeps task.Login v may h = subst (λ (x : Work). IsWorld starts says (with_work w s x)) (sym h) (quiet_keeps work.Login refl refl may)
-    start_keeps task.End v may h = subst (λ (x : Work). IsWorld starts says (with_work w s x)) (sym h) (quiet_keeps work.End refl refl (record { login = may.0; stays = may.1 }))
-    start_keeps task.Refresh v may h = subst (λ (x : Work). IsWorld starts says (with_work w s x)) (sym h) (quiet_keeps work.Refresh refl refl (record { login = may.0; stays = may.1 }, may.2))
+    start_keeps task.Login v may h = subst (λ (x : Work). IsWorld starts says (with_work w s x)) (sym h) (quiet_keeps work.Login refl (refl, refl) may)
+    start_keeps task.End v may h = subst (λ (x : Work). IsWorld starts says (with_work w s x)) (sym h) (quiet_keeps work.End refl (refl, refl) (record { login = may.0; stays = may.1 }))
+    start_keeps task.Refresh v may h = subst (λ (x : Work). IsWorld starts says (with_work w s x)) (sym h) (quiet_keeps work.Refresh refl (refl, refl) (record { login = may.0; stays = may.1 }, may.2))
     start_keeps (task.Load p) v may h = subst (λ (x : Work). IsWorld starts says (with_work w s x)) (sym h.3) (reads_keeps (node_reader h.0 h.1 p) (load_whole starts says proper (state_of w) is.kept s h.0 h.1 p (none_stopped w.history.sessions w.history.past is.unstopped s) may.0 may.1 h.2) (record { login = may.0; stays = may.1 }))
     start_keeps (task.List p) v may h = subst (λ (x : Work). IsWorld starts says (with_work w s x)) (sym h.3) (reads_keeps (children_reader h.0 h.1 p) (list_whole starts says proper (state_of w) is.kept s h.0 h.1 p (none_stopped w.history.sessions w.history.past is.unstopped s) may.0 may.1 h.2) (record { login = may.0; stays = may.1 }))
-    start_keeps (task.Commit edit marks) v may h = subst (λ (x : Work). IsWorld starts says (with_work w s x)) (sym h) (quiet_keeps (work.Plan edit marks) refl refl (record { login = may.0; stays = may.1 }, may.2, may.3))
+    start_keeps (task.Changes since) v may h =
+        subst (λ (x : Work). IsWorld starts says (with_work w s x)) (sym h.3)
+        (observes_keeps (changes_reader h.0 since h.1) (notice_whole starts says proper (state_of w) is.kept s h.0 since h.1 (none_stopped w.history.sessions w.history.past is.unstopped s) few_sessions may.0 may.1 may.3 (own_pin h.1 may.2 h.2)) (record { login = may.0; stays = may.1 }) may.2)
+    start_keeps (task.Commit edit marks) v may h = subst (λ (x : Work). IsWorld starts says (with_work w s x)) (sym h) (quiet_keeps (work.Plan edit marks) refl (refl, refl) (record { login = may.0; stays = may.1 }, may.2, may.3))
     start_keeps task.BackWrite v may h = upkeep_keeps upkeep.Write v h (record { login = may.0; stays = may.1 }) tt
     start_keeps task.BackRead v may h = upkeep_keeps upkeep.Read v h (record { login = may.0; stays = may.1 }) tt
     start_keeps (task.Checkpoint i) v may h = upkeep_keeps (upkeep.Checkpoint i) v h (record { login = may.0; stays = may.1 }) may.2
@@ -416,7 +436,7 @@ module _ (starts : Starts) (says : Says) (proper : StartsProper starts) (last : 
       kept_said = said_whole starts says proper (state_of w) is.kept s i text next lawful
 
       said_state : state_of (said_in w s i text) ≡ after_said (state_of w) s i text
-      said_state = ap (λ (t : State). record t { past = said ∷ w.history.past }) (same_state (record (actor_in w.actors s) { reply = None }) refl refl)
+      said_state = ap (λ (t : State). record t { past = said ∷ w.history.past }) (same_state (record (actor_in w.actors s) { reply = None }) refl (refl, refl))
 
       pub said_keep : IsWorld starts says (said_in w s i text)
       said_keep = record {

@@ -35,17 +35,18 @@ use Rattle.core_clash.specs.Core.{root_of}
 use Rattle.core_world.specs.States.{State, base_in, memory_of, nodes_in}
 use Rattle.core_world.specs.Steps.{after_mark, after_update, after_write, marked_by, with_result}
 use Rattle.oak_step.proofs.Stages.{finish_stage}
-use Rattle.oak_step.specs.Parts.{EndsSo, committed, marked, read_on}
+use Rattle.oak_step.specs.Parts.{EndsSo, changes_on, committed, marked, read_on}
 use Rattle.oak_step.specs.Upkeeps.{told_ids}
 use Rattle.oak_step.specs.declared.upkeep.Upkeep.{Upkeep}
 use Rattle.oak_step.specs.declared.upkeep.Upkeep.TheVariants as upkeep
 use Rattle.oak_step.specs.declared.work.Work.{Work}
 use Rattle.oak_step.specs.declared.work.Work.TheVariants as work
 use Rattle.oak_world.proofs.Counting.{told_few}
+use Rattle.oak_world.proofs.Observing.{changes_lower}
 use Rattle.oak_world.proofs.Reading.{read_lowers}
 use Rattle.oak_world.proofs.States.{actor_set}
 use Rattle.oak_world.specs.Kept.{IsWorld, May}
-use Rattle.oak_world.specs.Left.{commit_left, left_in, left_of, marks_left, reads_left, upkeep_left, writes_left}
+use Rattle.oak_world.specs.Left.{changes_left, commit_left, left_in, left_of, marks_left, reads_left, upkeep_left, writes_left}
 use Rattle.oak_world.specs.Steps.{Makes, MakesCommit, MakesUpdate, MakesUpkeep, Publishes, StepsIn}
 use Rattle.oak_world.specs.Worlds.{ActorState, WorldOf, idle, live, running_as, state_of, work_in}
 
@@ -306,6 +307,7 @@ rooted starts h s work.Login may = tt
 rooted starts h s work.End may = tt
 rooted starts h s work.Refresh may = tt
 rooted starts h s (work.Read r) may = tt
+rooted starts h s (work.Changes r) may = tt
 rooted starts h s (work.Plan edit marks) may = tt
 rooted starts h s (work.Upkeep u) may = tt
 rooted starts h s (work.Move r) may = tt
@@ -384,6 +386,14 @@ module _ (s : ℕ) (w u : State) (m n : NodeState) (x : Work) where
   less table (work.Read r) (answers.Ready e) roots h = inr (rest_less _ h.1)
   less table (work.Read r) answers.Memory roots h = inr (rest_less _ h.1)
   less table (work.Read r) _ roots h = absurd h
+  less table (work.Changes r) (answers.Went kind.Read) roots h =
+      let lower = changes_lower w.table table r h.2 in
+      let z : now ≡ suc (changes_left w.table (changes_on w.table r)) =
+      ap (λ (v : Work). left_of s u.table n v) h.1 ∙ ap (λ (y : State). suc (changes_left y.table (changes_on w.table r))) h.0 in
+      inr (omega (arith, z, lower))
+  less table (work.Changes r) (answers.Ready (ends.Changes commits)) roots h = inr (rest_less _ h.1)
+  less table (work.Changes r) answers.Memory roots h = inr (rest_less _ h.1)
+  less table (work.Changes r) _ roots h = absurd h
   less table (work.Plan edit marks) (answers.Went kind.Draw) roots h =
       let d : Committing = begun (next_draw (memory_of w s)) (base_in w s) edit marks in
       let z : now ≡ commit_left w.table d None = ap (λ (v : Work). left_of s u.table n v) h.1 ∙ ap (λ (y : State). commit_left y.table d None) h.0 in
@@ -410,6 +420,7 @@ over s t m work.Login h = absurd (omega (arith, h))
 over s t m work.End h = absurd (omega (arith, h))
 over s t m work.Refresh h = absurd (omega (arith, h))
 over s t m (work.Read r) h = absurd (omega (arith, h))
+over s t m (work.Changes r) h = absurd (omega (arith, h))
 over s t m (work.Plan edit marks) h = absurd (omega (arith, h))
 over s t m (work.Commit c) h = absurd (by c.outcome h)
   where

@@ -10,6 +10,7 @@ use Rattle.jr_path.specs.declared.path.Item.{Item}
 use Rattle.jr_path.specs.declared.path.DocId.TheVariants as id
 use Rattle.jr_rev.specs.declared.revision.Revision.{Revision}
 use Rattle.jr_rev.specs.Revisions.{is_before}
+use Rattle.oak_changes.specs.declared.changes.ChangesReader.{ChangesReader}
 use Rattle.oak_clash.specs.Clashes.{commit_root}
 use Rattle.oak_commit.proofs.Looks.{looked_alone}
 use Rattle.oak_commit.specs.Clashing.{Met, mark_op}
@@ -28,15 +29,15 @@ use Rattle.oak_store.specs.Tables.{Table, after_undo, found as found_in, next_nu
 use Rattle.core_clash.specs.Core.{root_of}
 use Rattle.core_clash.specs.Sessions.{Running}
 use Rattle.core_world.specs.States.{State, memory_at, nodes_in, with_memory, with_session}
-use Rattle.core_world.specs.Steps.{after_last, after_mark, after_update, after_write, after_write_in_want, lasted_by, marked_by, moved_head, with_reader, with_result}
+use Rattle.core_world.specs.Steps.{after_last, after_mark, after_update, after_write, after_write_in_want, lasted_by, marked_by, moved_head, with_observer, with_reader, with_result}
 use Rattle.oak_step.specs.declared.work.Work.TheVariants as work
 use Rattle.oak_step.specs.Parts.{IsLast, IsMade, IsMarked, IsUndone, IsWritten, Parts, committed, end_events, fed_made, marked, op_due, parts, refusal_at, result_of}
 use Rattle.oak_world.specs.Steps.{MakesUpdate}
-use Rattle.oak_world.specs.Worlds.{ActorState, WorldOf, node_in, parts_at, reading_of, running_as, running_of, state_of, with_parts, work_in}
+use Rattle.oak_world.specs.Worlds.{ActorState, WorldOf, node_in, observing_of, parts_at, reading_of, running_as, running_of, state_of, with_parts, work_in}
 use Rattle.oak_step.proofs.Feeding.{blocked_last, blocked_mark, fed_last, fed_mark, fed_undo, fed_write, op_last, op_mark, op_write}
 use Rattle.oak_world.proofs.Going.{going_is}
 use Rattle.oak_step.proofs.Stages.{IsLastStage, IsMarkStage, IsUndoStage, IsWriteStage}
-use Rattle.oak_world.proofs.States.{memory_same, moved, moved_is, newest, quiet_is, rest_is, session_same}
+use Rattle.oak_world.proofs.States.{SameReaders, memory_same, moved, moved_is, newest, quiet_is, readers_same, rest_is, session_same, with_readers}
 
 -- the end of a revision, with the head where that moved
 pub ends_newest : (past : Past) (k : ℕ) (m : NodeState) (r : Revision) → reverse (reverse past ++ end_events k m r) ≡ moved_head k m (finished m r) (event.End r ∷ past)
@@ -55,74 +56,80 @@ module _ {L : Type 0} (w : WorldOf L) (s : ℕ) (there : s < length w.actors) wh
 
   -- ---- sessions
 
+  -- no committer is changed
+  not_running : (a : ActorState) → running_of s (work_in w.actors s) ≡ running_of s a.work → with_readers w s there (record (state_of w) { running = with_session (state_of w).running s (running_of s a.work) }) a.work ≡ with_readers w s there (state_of w) a.work
+  not_running a running = ap (λ (f : ℕ → Option Running). with_readers w s there (record (state_of w) { running = f }) a.work) (session_same (state_of w).running s (running_of s a.work) running)
+
   -- nothing changes
-  pub same_is : (a : ActorState) → running_of s (work_in w.actors s) ≡ running_of s a.work → reading_of (work_in w.actors s) ≡ reading_of a.work → state_of (with_parts w s (parts_at w s) a) ≡ state_of w
-  same_is a running reading =
-      rest_is w s there a
-      ∙ (ap (λ (f : ℕ → Option Running). record (state_of w) { running = f; reading = with_session (state_of w).reading s (reading_of a.work) }) (session_same (state_of w).running s (running_of s a.work) running)
-      ∙ ap (λ (f : ℕ → Option Reader). record (state_of w) { reading = f }) (session_same (state_of w).reading s (reading_of a.work) reading))
+  pub same_is : (a : ActorState) → running_of s (work_in w.actors s) ≡ running_of s a.work → SameReaders (work_in w.actors s) a.work → state_of (with_parts w s (parts_at w s) a) ≡ state_of w
+  same_is a running same = rest_is w s there a ∙ (not_running a running ∙ readers_same w s there (state_of w) a.work same)
 
   -- the reader alone
-  pub reads_is : (a : ActorState) → running_of s (work_in w.actors s) ≡ running_of s a.work → state_of (with_parts w s (parts_at w s) a) ≡ with_reader (state_of w) s (reading_of a.work)
-  reads_is a running =
+  pub reads_is : (a : ActorState) → running_of s (work_in w.actors s) ≡ running_of s a.work → observing_of (work_in w.actors s) ≡ observing_of a.work → state_of (with_parts w s (parts_at w s) a) ≡ with_reader (state_of w) s (reading_of a.work)
+  reads_is a running observing =
       rest_is w s there a
-      ∙ ap (λ (f : ℕ → Option Running). record (state_of w) { running = f; reading = with_session (state_of w).reading s (reading_of a.work) }) (session_same (state_of w).running s (running_of s a.work) running)
+      ∙ (not_running a running
+      ∙ ap (λ (f : ℕ → Option ChangesReader). record (with_reader (state_of w) s (reading_of a.work)) { observing = f }) (session_same (state_of w).observing s (observing_of a.work) observing))
 
-  -- an event, and the memory
-  pub told_is : (e : Event) (m : NodeState) (a : ActorState) → running_of s (work_in w.actors s) ≡ running_of s a.work → reading_of (work_in w.actors s) ≡ reading_of a.work
-      → state_of (with_parts w s (parts w.table m (reverse w.history.past ++ e ∷ [])) a) ≡ record (state_of w) { past = e ∷ w.history.past; memories = with_memory w.memories node m }
-  told_is e m a running reading =
-      moved_is w s there (parts w.table m (reverse w.history.past ++ e ∷ [])) a
-      ∙ (ap (λ (past : Past). moved w s there past w.table m (running_of s a.work) (reading_of a.work)) (newest w.history.past e)
-      ∙ quiet_is w s there (e ∷ w.history.past) w.table m (running_of s a.work) (reading_of a.work) running reading)
+  -- the reader of changes alone
+  pub observes_is : (a : ActorState) → running_of s (work_in w.actors s) ≡ running_of s a.work → reading_of (work_in w.actors s) ≡ reading_of a.work → state_of (with_parts w s (parts_at w s) a) ≡ with_observer (state_of w) s (observing_of a.work)
+  observes_is a running reading =
+      rest_is w s there a
+      ∙ (not_running a running
+      ∙ ap (λ (f : ℕ → Option Reader). record (with_observer (state_of w) s (observing_of a.work)) { reading = f }) (session_same (state_of w).reading s (reading_of a.work) reading))
 
   -- an event, the documents and the memory
-  pub keeps_is : (e : Event) (t : Table) (m : NodeState) (a : ActorState) → running_of s (work_in w.actors s) ≡ running_of s a.work → reading_of (work_in w.actors s) ≡ reading_of a.work
+  pub keeps_is : (e : Event) (t : Table) (m : NodeState) (a : ActorState) → running_of s (work_in w.actors s) ≡ running_of s a.work → SameReaders (work_in w.actors s) a.work
       → state_of (with_parts w s (parts t m (reverse w.history.past ++ e ∷ [])) a) ≡ record (state_of w) { past = e ∷ w.history.past; table = t; memories = with_memory w.memories node m }
-  keeps_is e t m a running reading =
+  keeps_is e t m a running same =
       moved_is w s there (parts t m (reverse w.history.past ++ e ∷ [])) a
-      ∙ (ap (λ (past : Past). moved w s there past t m (running_of s a.work) (reading_of a.work)) (newest w.history.past e)
-      ∙ quiet_is w s there (e ∷ w.history.past) t m (running_of s a.work) (reading_of a.work) running reading)
+      ∙ (ap (λ (past : Past). moved w s there past t m (running_of s a.work) a.work) (newest w.history.past e)
+      ∙ quiet_is w s there (e ∷ w.history.past) t m (running_of s a.work) a.work running same)
+
+  -- an event, and the memory
+  pub told_is : (e : Event) (m : NodeState) (a : ActorState) → running_of s (work_in w.actors s) ≡ running_of s a.work → SameReaders (work_in w.actors s) a.work
+      → state_of (with_parts w s (parts w.table m (reverse w.history.past ++ e ∷ [])) a) ≡ record (state_of w) { past = e ∷ w.history.past; memories = with_memory w.memories node m }
+  told_is e m a running same = keeps_is e w.table m a running same
 
   -- an event and the documents
-  pub sets_is : (e : Event) (t : Table) (a : ActorState) → running_of s (work_in w.actors s) ≡ running_of s a.work → reading_of (work_in w.actors s) ≡ reading_of a.work
+  pub sets_is : (e : Event) (t : Table) (a : ActorState) → running_of s (work_in w.actors s) ≡ running_of s a.work → SameReaders (work_in w.actors s) a.work
       → state_of (with_parts w s (parts t memory (reverse w.history.past ++ e ∷ [])) a) ≡ record (state_of w) { past = e ∷ w.history.past; table = t }
-  sets_is e t a running reading = keeps_is e t memory a running reading ∙ ap (λ (ms : List NodeState). record (state_of w) { past = e ∷ w.history.past; table = t; memories = ms }) (memory_same w.memories node)
+  sets_is e t a running same = keeps_is e t memory a running same ∙ ap (λ (ms : List NodeState). record (state_of w) { past = e ∷ w.history.past; table = t; memories = ms }) (memory_same w.memories node)
 
   -- ---- a commit
 
   -- the events, the documents and the committer
-  pub runs_is : (past : Past) (es : List Event) (t : Table) (a : ActorState) (x : Option Running) → reverse es ≡ past → running_of s a.work ≡ x → reading_of (work_in w.actors s) ≡ reading_of a.work
+  pub runs_is : (past : Past) (es : List Event) (t : Table) (a : ActorState) (x : Option Running) → reverse es ≡ past → running_of s a.work ≡ x → SameReaders (work_in w.actors s) a.work
       → state_of (with_parts w s (parts t memory es) a) ≡ record (state_of w) { past = past; table = t; running = with_session (state_of w).running s x }
-  runs_is past es t a x told runs reading =
+  runs_is past es t a x told runs same =
       moved_is w s there (parts t memory es) a
-      ∙ (ap (λ (q : Past). moved w s there q t memory (running_of s a.work) (reading_of a.work)) told
-      ∙ (ap (λ (y : Option Running). moved w s there past t memory y (reading_of a.work)) runs
-      ∙ (ap (λ (ms : List NodeState). record (moved w s there past t memory x (reading_of a.work)) { memories = ms }) (memory_same w.memories node)
-      ∙ ap (λ (f : ℕ → Option Reader). record (state_of w) { past = past; table = t; running = with_session (state_of w).running s x; reading = f }) (session_same (state_of w).reading s (reading_of a.work) reading))))
+      ∙ (ap (λ (q : Past). moved w s there q t memory (running_of s a.work) a.work) told
+      ∙ (ap (λ (y : Option Running). moved w s there past t memory y a.work) runs
+      ∙ (ap (λ (ms : List NodeState). record (moved w s there past t memory x a.work) { memories = ms }) (memory_same w.memories node)
+      ∙ readers_same w s there (record (state_of w) { past = past; table = t; running = with_session (state_of w).running s x }) a.work same)))
 
   -- the end
-  pub ended_is : (r : Revision) (a : ActorState) → running_of s a.work ≡ None → reading_of (work_in w.actors s) ≡ reading_of a.work
+  pub ended_is : (r : Revision) (a : ActorState) → running_of s a.work ≡ None → SameReaders (work_in w.actors s) a.work
       → state_of (with_parts w s (parts w.table (finished memory r) (reverse w.history.past ++ end_events node memory r)) a)
       ≡ record (state_of w) { past = moved_head node memory (finished memory r) (event.End r ∷ w.history.past); memories = with_memory w.memories node (finished memory r); running = with_session (state_of w).running s None }
-  ended_is r a runs reading =
+  ended_is r a runs same =
       moved_is w s there (parts w.table (finished memory r) (reverse w.history.past ++ end_events node memory r)) a
-      ∙ (ap (λ (q : Past). moved w s there q w.table (finished memory r) (running_of s a.work) (reading_of a.work)) (ends_newest w.history.past node memory r)
-      ∙ (ap (λ (y : Option Running). moved w s there (moved_head node memory (finished memory r) (event.End r ∷ w.history.past)) w.table (finished memory r) y (reading_of a.work)) runs
-      ∙ ap (λ (f : ℕ → Option Reader). record (moved w s there (moved_head node memory (finished memory r) (event.End r ∷ w.history.past)) w.table (finished memory r) None (reading_of a.work)) { reading = f }) (session_same (state_of w).reading s (reading_of a.work) reading)))
+      ∙ (ap (λ (q : Past). moved w s there q w.table (finished memory r) (running_of s a.work) a.work) (ends_newest w.history.past node memory r)
+      ∙ (ap (λ (y : Option Running). moved w s there (moved_head node memory (finished memory r) (event.End r ∷ w.history.past)) w.table (finished memory r) y a.work) runs
+      ∙ readers_same w s there (record (state_of w) { past = moved_head node memory (finished memory r) (event.End r ∷ w.history.past); memories = with_memory w.memories node (finished memory r); running = with_session (state_of w).running s None }) a.work same))
 
   -- an event, the memory and the committer
-  pub begins_is : (e : Event) (m : NodeState) (a : ActorState) (x : Option Running) → running_of s a.work ≡ x → reading_of (work_in w.actors s) ≡ reading_of a.work
+  pub begins_is : (e : Event) (m : NodeState) (a : ActorState) (x : Option Running) → running_of s a.work ≡ x → SameReaders (work_in w.actors s) a.work
       → state_of (with_parts w s (parts w.table m (reverse w.history.past ++ e ∷ [])) a) ≡ record (state_of w) { past = e ∷ w.history.past; memories = with_memory w.memories node m; running = with_session (state_of w).running s x }
-  begins_is e m a x runs reading =
+  begins_is e m a x runs same =
       moved_is w s there (parts w.table m (reverse w.history.past ++ e ∷ [])) a
-      ∙ (ap (λ (past : Past). moved w s there past w.table m (running_of s a.work) (reading_of a.work)) (newest w.history.past e)
-      ∙ (ap (λ (y : Option Running). moved w s there (e ∷ w.history.past) w.table m y (reading_of a.work)) runs
-      ∙ ap (λ (f : ℕ → Option Reader). record (moved w s there (e ∷ w.history.past) w.table m x (reading_of a.work)) { reading = f }) (session_same (state_of w).reading s (reading_of a.work) reading)))
+      ∙ (ap (λ (past : Past). moved w s there past w.table m (running_of s a.work) a.work) (newest w.history.past e)
+      ∙ (ap (λ (y : Option Running). moved w s there (e ∷ w.history.past) w.table m y a.work) runs
+      ∙ readers_same w s there (record (state_of w) { past = e ∷ w.history.past; memories = with_memory w.memories node m; running = with_session (state_of w).running s x }) a.work same))
 
   -- ---- an operation of a commit on a document
 
-  module _ (c : Committing) (q : Parts) (a : ActorState) (d : Committing) (still : q.memory ≡ memory) (does : a.work ≡ work.Commit d) (reading : reading_of (work_in w.actors s) ≡ None) where
+  module _ (c : Committing) (q : Parts) (a : ActorState) (d : Committing) (still : q.memory ≡ memory) (does : a.work ≡ work.Commit d) (same : SameReaders (work_in w.actors s) a.work) where
     abbrev now : State
     now = state_of (with_parts w s q a)
 
@@ -135,8 +142,7 @@ module _ {L : Type 0} (w : WorldOf L) (s : ℕ) (there : s < length w.actors) wh
     update_is e t y list table stands =
         ap (λ (m : NodeState). state_of (with_parts w s (parts q.table m q.list) a)) still
         ∙ (ap (λ (u : Table). state_of (with_parts w s (parts u memory q.list) a)) table
-        ∙ runs_is (e ∷ w.history.past) q.list t a (Some (running_as s y)) (told e list) (ap (running_of s) does ∙ ap (λ (z : Committing). Some (running_as s z)) stands)
-        (reading ∙ sym (ap reading_of does)))
+        ∙ runs_is (e ∷ w.history.past) q.list t a (Some (running_as s y)) (told e list) (ap (running_of s) does ∙ ap (λ (z : Committing). Some (running_as s z)) stands) same)
 
     -- a mark
     module _ (at : IsMarkStage c) (roots : first_path c.roots ≡ root_of w.history.past at.first.other) where

@@ -51,7 +51,7 @@ module _ (starts : Starts) (says : Says) (clusters : ℕ) (sessions : List ℕ) 
   no_base (e ∷ past) s run new detached = no_base past s run.1 new detached
 
 -- the base of a session that is attached to nothing and hasn't left is that of its pin
-pin_base : (starts : Starts) (says : Says) (proper : StartsProper starts) (w : State) (kept : AreSessionsKept starts says w) (s : ℕ) → is_some (slice_get w.sessions s) ≡ true → is_attached w.past s ≡ false → ((k : ℕ) → is_stopped w.past k ≡ false) → has_left w.past s ≡ false
+pub pin_base : (starts : Starts) (says : Says) (proper : StartsProper starts) (w : State) (kept : AreSessionsKept starts says w) (s : ℕ) → is_some (slice_get w.sessions s) ≡ true → is_attached w.past s ≡ false → ((k : ℕ) → is_stopped w.past k ≡ false) → has_left w.past s ≡ false
     → option_map (λ pin. pin.base) (pin_of (memory_of w s) s) ≡ base_of w.past s
 pin_base starts says proper w kept s there detached going stays = by (has_login w.past s) refl
   where

@@ -24,6 +24,7 @@ use Rattle.core_world.specs.Start.{start_documents, start_state, start_table}
 use Rattle.core_world.specs.States.{State}
 use Rattle.core_world.proofs.Whole.{start_whole}
 use Rattle.core_world.proofs.Named.{start_in_order}
+use Rattle.oak_changes.specs.declared.changes.ChangesReader.{ChangesReader}
 use Rattle.oak_read.specs.declared.reader.Reader.{Reader}
 use Rattle.core_clash.specs.Sessions.{Running}
 use Rattle.std.proofs.Math.Path.{fun_ext}
@@ -33,7 +34,7 @@ use Rattle.oak_step.specs.declared.work.Work.{Work}
 use Rattle.oak_step.specs.declared.work.Work.TheVariants as work
 use Rattle.oak_world.specs.Kept.{ArePlaced, IsAskedWorld, IsPlaced, IsWorld, May}
 use Rattle.oak_world.specs.Seen.{shown_work}
-use Rattle.oak_world.specs.Worlds.{ActorState, WorldOf, actor_in, idle, live, reading_of, running_of, shown_actor, shown_world, start_world, state_of, work_in}
+use Rattle.oak_world.specs.Worlds.{ActorState, WorldOf, actor_in, idle, live, observing_of, reading_of, running_of, shown_actor, shown_world, start_world, state_of, work_in}
 
 -- the seat of a session that does nothing
 abbrev pub idle_actor : Actor
@@ -65,8 +66,9 @@ idle_attached (k ∷ ks) (suc s) = idle_attached ks s
 
 start_same : {L : Type 0} (law : L) (clusters : ℕ) (sessions : List ℕ) → state_of (start_world law clusters sessions) ≡ start_state clusters sessions
 start_same law clusters sessions =
-    ap (λ (f : ℕ → Option Running). record (start_state clusters sessions) { running = f; reading = λ s. reading_of (work_in (map (λ k. idle) sessions) s) }) (fun_ext (λ s. ap (running_of s) (idle_works sessions s)))
-    ∙ ap (λ (f : ℕ → Option Reader). record (start_state clusters sessions) { reading = f }) (fun_ext (λ s. ap reading_of (idle_works sessions s)))
+    ap (λ (f : ℕ → Option Running). record (start_state clusters sessions) { running = f; reading = λ s. reading_of (work_in (map (λ k. idle) sessions) s); observing = λ s. observing_of (work_in (map (λ k. idle) sessions) s) }) (fun_ext (λ s. ap (running_of s) (idle_works sessions s)))
+    ∙ (ap (λ (f : ℕ → Option Reader). record (start_state clusters sessions) { reading = f; observing = λ s. observing_of (work_in (map (λ k. idle) sessions) s) }) (fun_ext (λ s. ap reading_of (idle_works sessions s)))
+    ∙ ap (λ (f : ℕ → Option ChangesReader). record (start_state clusters sessions) { observing = f }) (fun_ext (λ s. ap observing_of (idle_works sessions s))))
 
 pub start_is_world : (starts : Starts) (says : Says) {L : Type 0} (law : L) (clusters : ℕ) (sessions : List ℕ) → length sessions ≤ 64 → AreNodes clusters sessions → IsWorld starts says (start_world law clusters sessions)
 start_is_world starts says law clusters sessions few nodes = record {

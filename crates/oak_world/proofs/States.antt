@@ -5,6 +5,7 @@ use Rattle.std.proofs.lemmas.List.{get_or-set_same, get_or-set_other, reverse-ap
 use Rattle.std.proofs.lemmas.Option.{unwrap_or-slice_get}
 use Rattle.std.specs.Prelude.{◌==◌, reverse, slice_set}
 use Rattle.std.proofs.Math.Path.{fun_ext}
+use Rattle.oak_changes.specs.declared.changes.ChangesReader.{ChangesReader}
 use Rattle.oak_machine.specs.declared.event.Event.{Event}
 use Rattle.oak_machine.specs.History.{Past}
 use Rattle.oak_node.specs.Memory.{NodeState}
@@ -15,7 +16,7 @@ use Rattle.core_world.specs.States.{State, memory_at, with_memory, with_session}
 use Rattle.core_world.proofs.Flights.{other_number, same_number}
 use Rattle.oak_step.specs.declared.work.Work.{Work}
 use Rattle.oak_step.specs.Parts.{Parts}
-use Rattle.oak_world.specs.Worlds.{ActorState, WorldOf, actor_in, idle, node_in, parts_at, reading_of, running_of, state_of, with_parts, with_reply, work_in}
+use Rattle.oak_world.specs.Worlds.{ActorState, WorldOf, actor_in, idle, node_in, observing_of, parts_at, reading_of, running_of, state_of, with_parts, with_reply, work_in}
 
 -- ---- the journal
 
@@ -64,45 +65,69 @@ memory_same ms k = rw (unwrap_or-slice_get ms (k - 1) _) (set_own ms (k - 1) _)
 
 -- ---- the state
 
+-- a session has the readers where it does the one that it has where it does the other
+abbrev pub SameReaders : Work → Work → Type 0
+SameReaders v y = (reading_of v ≡ reading_of y) × (observing_of v ≡ observing_of y)
+
+pub same_readers : (u v x y : Work) → u ≡ x → v ≡ y → SameReaders x y → SameReaders u v
+same_readers u v x y is are same = (ap reading_of is ∙ (same.0 ∙ sym (ap reading_of are)), ap observing_of is ∙ (same.1 ∙ sym (ap observing_of are)))
+
 module _ {L : Type 0} (w : WorldOf L) (s : ℕ) (there : s < length w.actors) where
-  -- the state with these parts, where session s does this
-  abbrev pub moved : Past → Table → NodeState → Option Running → Option Reader → State
-  moved past table m x r = record {
+  -- the state with the readers of a session that does this
+  abbrev pub with_readers : State → Work → State
+  with_readers t v = record t { reading = with_session (state_of w).reading s (reading_of v); observing = with_session (state_of w).observing s (observing_of v) }
+
+  -- with the readers that the session has already
+  pub readers_same : (t : State) (v : Work) → SameReaders (work_in w.actors s) v → with_readers t v ≡ record t { reading = (state_of w).reading; observing = (state_of w).observing }
+  readers_same t v same =
+      ap (λ (f : ℕ → Option Reader). record t { reading = f; observing = with_session (state_of w).observing s (observing_of v) }) (session_same (state_of w).reading s (reading_of v) same.0)
+      ∙ ap (λ (f : ℕ → Option ChangesReader). record t { reading = (state_of w).reading; observing = f }) (session_same (state_of w).observing s (observing_of v) same.1)
+
+  -- the readers, where the session does something else
+  pub readers_set : (t : State) (a : ActorState) → record t { reading = λ q. reading_of (work_in (slice_set w.actors s a) q); observing = λ q. observing_of (work_in (slice_set w.actors s a) q) } ≡ with_readers t a.work
+  readers_set t a =
+      ap (λ (f : ℕ → Option Reader). record t { reading = f; observing = λ q. observing_of (work_in (slice_set w.actors s a) q) }) (session_set (λ q v. reading_of v) w.actors s a there)
+      ∙ ap (λ (f : ℕ → Option ChangesReader). record t { reading = with_session (state_of w).reading s (reading_of a.work); observing = f }) (session_set (λ q v. observing_of v) w.actors s a there)
+
+  -- the state with these parts, where session s has this committer, and the readers of what it does
+  abbrev pub moved : Past → Table → NodeState → Option Running → Work → State
+  moved past table m x v = record {
     clusters = w.history.clusters;
     sessions = w.history.sessions;
     past = past;
     table = table;
     memories = with_memory w.memories (node_in w.history s) m;
     running = with_session (state_of w).running s x;
-    reading = with_session (state_of w).reading s r;
-    observing = (state_of w).observing;
+    reading = with_session (state_of w).reading s (reading_of v);
+    observing = with_session (state_of w).observing s (observing_of v);
     formers = (state_of w).formers;
   }
 
-  pub moved_is : (p : Parts) (a : ActorState) → state_of (with_parts w s p a) ≡ moved (reverse p.list) p.table p.memory (running_of s a.work) (reading_of a.work)
+  pub moved_is : (p : Parts) (a : ActorState) → state_of (with_parts w s p a) ≡ moved (reverse p.list) p.table p.memory (running_of s a.work) a.work
   moved_is p a =
       ap (λ (f : ℕ → Option Running). record (state_of (with_parts w s p a)) { running = f }) (session_set running_of w.actors s a there)
-      ∙ ap (λ (f : ℕ → Option Reader). record (moved (reverse p.list) p.table p.memory (running_of s a.work) (reading_of a.work)) { reading = f }) (session_set (λ q v. reading_of v) w.actors s a there)
+      ∙ readers_set (moved (reverse p.list) p.table p.memory (running_of s a.work) a.work) a
 
   -- room for a reply changes neither the state nor what the session does
   pub replied_state : (room : Option ℕ) → state_of (with_reply w s room) ≡ state_of w
   replied_state room =
       ap (λ (f : ℕ → Option Running). record (state_of (with_reply w s room)) { running = f }) (session_set running_of w.actors s (record (actor_in w.actors s) { reply = room }) there ∙ session_same (state_of w).running s (running_of s (work_in w.actors s)) refl)
-      ∙ ap (λ (f : ℕ → Option Reader). record (state_of w) { reading = f }) (session_set (λ q v. reading_of v) w.actors s (record (actor_in w.actors s) { reply = room }) there ∙ session_same (state_of w).reading s (reading_of (work_in w.actors s)) refl)
+      ∙ (readers_set (state_of w) (record (actor_in w.actors s) { reply = room })
+      ∙ readers_same (state_of w) (work_in w.actors s) (refl, refl))
 
   pub replied_work : (room : Option ℕ) → work_in (with_reply w s room).actors s ≡ work_in w.actors s
   replied_work room = ap (λ (a : ActorState). a.work) (actor_set w.actors s (record (actor_in w.actors s) { reply = room }) there)
 
   -- what the session did not have, it has not
-  pub quiet_is : (past : Past) (table : Table) (m : NodeState) (x : Option Running) (r : Option Reader) → running_of s (work_in w.actors s) ≡ x → reading_of (work_in w.actors s) ≡ r
-      → moved past table m x r ≡ record (state_of w) { past = past; table = table; memories = with_memory w.memories (node_in w.history s) m }
-  quiet_is past table m x r running reading =
-      ap (λ (f : ℕ → Option Running). record (moved past table m x r) { running = f }) (session_same (state_of w).running s x running)
-      ∙ ap (λ (f : ℕ → Option Reader). record (state_of w) { past = past; table = table; memories = with_memory w.memories (node_in w.history s) m; reading = f }) (session_same (state_of w).reading s r reading)
+  pub quiet_is : (past : Past) (table : Table) (m : NodeState) (x : Option Running) (v : Work) → running_of s (work_in w.actors s) ≡ x → SameReaders (work_in w.actors s) v
+      → moved past table m x v ≡ record (state_of w) { past = past; table = table; memories = with_memory w.memories (node_in w.history s) m }
+  quiet_is past table m x v running same =
+      ap (λ (f : ℕ → Option Running). record (moved past table m x v) { running = f }) (session_same (state_of w).running s x running)
+      ∙ readers_same (record (state_of w) { past = past; table = table; memories = with_memory w.memories (node_in w.history s) m }) v same
 
   -- nothing is changed but what the session does
-  pub rest_is : (a : ActorState) → state_of (with_parts w s (parts_at w s) a) ≡ record (state_of w) { running = with_session (state_of w).running s (running_of s a.work); reading = with_session (state_of w).reading s (reading_of a.work) }
+  pub rest_is : (a : ActorState) → state_of (with_parts w s (parts_at w s) a) ≡ with_readers (record (state_of w) { running = with_session (state_of w).running s (running_of s a.work) }) a.work
   rest_is a =
       moved_is (parts_at w s) a
-      ∙ ap (λ (past : Past). moved past w.table (memory_at w.memories (node_in w.history s)) (running_of s a.work) (reading_of a.work)) (reverse-reverse w.history.past)
-      ∙ ap (λ (ms : List NodeState). record (moved w.history.past w.table (memory_at w.memories (node_in w.history s)) (running_of s a.work) (reading_of a.work)) { memories = ms }) (memory_same w.memories (node_in w.history s))
+      ∙ ap (λ (past : Past). moved past w.table (memory_at w.memories (node_in w.history s)) (running_of s a.work) a.work) (reverse-reverse w.history.past)
+      ∙ ap (λ (ms : List NodeState). record (moved w.history.past w.table (memory_at w.memories (node_in w.history s)) (running_of s a.work) a.work) { memories = ms }) (memory_same w.memories (node_in w.history s))

@@ -6,6 +6,7 @@ use Rattle.std.proofs.lemmas.List.{reverse-reverse}
 use Rattle.std.specs.Prelude.{reverse}
 use Rattle.jr_rev.specs.declared.revision.Revision.{Revision}
 use Rattle.jr_tree.specs.declared.edit.Edit.{Edit}
+use Rattle.oak_changes.specs.declared.changes.ChangesReader.{ChangesReader}
 use Rattle.oak_clash.specs.declared.mark.MarkAt.{MarkAt}
 use Rattle.oak_clash.specs.Clashes.{marked_paths}
 use Rattle.oak_commit.specs.Clashing.{Met}
@@ -27,7 +28,7 @@ use Rattle.oak_read.specs.declared.reader.Reader.{Reader}
 use Rattle.oak_store.specs.Tables.{Table}
 use Rattle.core_clash.specs.Core.{root_of}
 use Rattle.core_world.specs.States.{State, memory_at, with_memory, with_session}
-use Rattle.core_world.specs.Steps.{after_finish, after_update, after_want, back_op, settings_op, with_reader}
+use Rattle.core_world.specs.Steps.{after_finish, after_update, after_want, back_op, settings_op, with_observer, with_reader}
 use Rattle.oak_port.specs.declared.task.StepOut.{StepOut}
 use Rattle.oak_port.specs.declared.task.StepOut.TheVariants as answers
 use Rattle.oak_port.specs.declared.task.TaskEnd.TheVariants as ends
@@ -36,10 +37,11 @@ use Rattle.oak_step.specs.declared.work.Work.TheVariants as work
 use Rattle.oak_step.specs.declared.upkeep.Upkeep.{Upkeep}
 use Rattle.oak_step.specs.declared.upkeep.Upkeep.TheVariants as upkeep
 use Rattle.oak_step.specs.Upkeeps.{told_ids}
-use Rattle.oak_step.specs.Parts.{CommitsOn, EndsSo, IsGivenUp, KeepsUp, Parts, PublishesOn, Steps, UpdatesOn, Updates, base_at, parts, parts_ended, read_on}
+use Rattle.oak_step.specs.Parts.{CommitsOn, EndsSo, IsGivenUp, KeepsUp, Parts, PublishesOn, Steps, UpdatesOn, Updates, base_at, changes_on, parts, parts_ended, read_on}
 use Rattle.oak_world.specs.Steps.{Makes, MakesCommit, MakesUpdate, MakesUpkeep, Publishes}
-use Rattle.oak_world.specs.Worlds.{ActorState, WorldOf, node_in, parts_at, reading_of, running_as, running_of, state_of, with_parts, work_in}
-use Rattle.oak_world.proofs.Making.{begins_is, ended_is, makes_last, makes_mark, makes_undo, makes_write, reads_is, runs_is, same_is, sets_is, told_is}
+use Rattle.oak_world.specs.Worlds.{ActorState, WorldOf, node_in, observing_of, parts_at, reading_of, running_as, running_of, state_of, with_parts, work_in}
+use Rattle.oak_world.proofs.Making.{begins_is, ended_is, makes_last, makes_mark, makes_undo, makes_write, observes_is, reads_is, runs_is, same_is, sets_is, told_is}
+use Rattle.oak_world.proofs.States.{SameReaders, same_readers}
 use Rattle.oak_step.proofs.Stages.{IsMarkStage, last_stage, mark_stage, undo_stage, write_stage}
 
 -- parts with the same documents, memory and events
@@ -62,68 +64,85 @@ module _ {L : Type 0} (w : WorldOf L) (s : ℕ) (there : s < length w.actors) (q
   reading_now : (y : Work) → v ≡ y → reading_of a.work ≡ reading_of y
   reading_now y is = ap reading_of (does ∙ is)
 
+  observing_now : (y : Work) → v ≡ y → observing_of a.work ≡ observing_of y
+  observing_now y is = ap observing_of (does ∙ is)
+
   -- nothing changes
-  module _ (u y : Work) (here : work_in w.actors s ≡ u) (is : v ≡ y) (running : running_of s u ≡ running_of s y) (reading : reading_of u ≡ reading_of y) where
+  module _ (u y : Work) (here : work_in w.actors s ≡ u) (is : v ≡ y) (running : running_of s u ≡ running_of s y) (same : SameReaders u y) where
     abbrev runs : running_of s (work_in w.actors s) ≡ running_of s a.work
     runs = ap (running_of s) here ∙ (running ∙ sym (running_now y is))
 
-    abbrev reads : reading_of (work_in w.actors s) ≡ reading_of a.work
-    reads = ap reading_of here ∙ (reading ∙ sym (reading_now y is))
+    abbrev reads : SameReaders (work_in w.actors s) a.work
+    reads = same_readers (work_in w.actors s) a.work u y here (does ∙ is) same
 
     still : q ≡ parts_at w s → now ≡ state_of w
-    still same = ap (λ (p : Parts). state_of (with_parts w s p a)) same ∙ same_is w s there a runs reads
+    still alike = ap (λ (p : Parts). state_of (with_parts w s p a)) alike ∙ same_is w s there a runs reads
 
     tells : (e : Event) (m : NodeState) → q ≡ parts w.table m (reverse w.history.past ++ e ∷ []) → now ≡ record (state_of w) { past = e ∷ w.history.past; memories = with_memory w.memories node m }
-    tells e m same = ap (λ (p : Parts). state_of (with_parts w s p a)) same ∙ told_is w s there e m a runs reads
+    tells e m alike = ap (λ (p : Parts). state_of (with_parts w s p a)) alike ∙ told_is w s there e m a runs reads
 
     sets : (e : Event) (t : Table) → q ≡ parts t memory (reverse w.history.past ++ e ∷ []) → now ≡ record (state_of w) { past = e ∷ w.history.past; table = t }
-    sets e t same = ap (λ (p : Parts). state_of (with_parts w s p a)) same ∙ sets_is w s there e t a runs reads
+    sets e t alike = ap (λ (p : Parts). state_of (with_parts w s p a)) alike ∙ sets_is w s there e t a runs reads
 
   login_makes : work_in w.actors s ≡ work.Login → (o : StepOut) → Steps s node (parts_at w s) work.Login q v o → Makes s (state_of w) work.Login now v o
-  login_makes here (answers.Ready (ends.Pinned pin)) h = (tells work.Login work.Rest here h.2 refl refl (event.Login s memory.head) (with_pin memory s (pin_now memory)) h.1, h.2, h.0)
-  login_makes here answers.Memory h = (still work.Login work.Rest here h.1 refl refl h.0, h.1)
+  login_makes here (answers.Ready (ends.Pinned pin)) h = (tells work.Login work.Rest here h.2 refl (refl, refl) (event.Login s memory.head) (with_pin memory s (pin_now memory)) h.1, h.2, h.0)
+  login_makes here answers.Memory h = (still work.Login work.Rest here h.1 refl (refl, refl) h.0, h.1)
   login_makes here _ h = absurd h
 
   end_makes : work_in w.actors s ≡ work.End → (o : StepOut) → Steps s node (parts_at w s) work.End q v o → Makes s (state_of w) work.End now v o
-  end_makes here (answers.Ready ends.Ended) h = (tells work.End work.Rest here h.1 refl refl (event.Went s kind.End) (without_session memory s) h.0, h.1)
-  end_makes here answers.Memory h = (still work.End work.Rest here h.1 refl refl h.0, h.1)
+  end_makes here (answers.Ready ends.Ended) h = (tells work.End work.Rest here h.1 refl (refl, refl) (event.Went s kind.End) (without_session memory s) h.0, h.1)
+  end_makes here answers.Memory h = (still work.End work.Rest here h.1 refl (refl, refl) h.0, h.1)
   end_makes here _ h = absurd h
 
   refresh_makes : work_in w.actors s ≡ work.Refresh → (o : StepOut) → Steps s node (parts_at w s) work.Refresh q v o → Makes s (state_of w) work.Refresh now v o
-  refresh_makes here (answers.Ready (ends.Pinned pin)) h = (tells work.Refresh work.Rest here h.2 refl refl (event.Refresh s memory.head) (with_pin memory s (pin_now memory)) h.1, h.2, h.0)
-  refresh_makes here answers.Memory h = (still work.Refresh work.Rest here h.1 refl refl h.0, h.1)
+  refresh_makes here (answers.Ready (ends.Pinned pin)) h = (tells work.Refresh work.Rest here h.2 refl (refl, refl) (event.Refresh s memory.head) (with_pin memory s (pin_now memory)) h.1, h.2, h.0)
+  refresh_makes here answers.Memory h = (still work.Refresh work.Rest here h.1 refl (refl, refl) h.0, h.1)
   refresh_makes here _ h = absurd h
 
   -- a reader alone
   module _ (r : Reader) (here : work_in w.actors s ≡ work.Read r) where
-    reads_on : (y : Work) → v ≡ y → running_of s y ≡ None → q ≡ parts_at w s → now ≡ with_reader (state_of w) s (reading_of y)
-    reads_on y is none same =
+    reads_on : (y : Work) → v ≡ y → running_of s y ≡ None → observing_of y ≡ None → q ≡ parts_at w s → now ≡ with_reader (state_of w) s (reading_of y)
+    reads_on y is none unobserved same =
         ap (λ (p : Parts). state_of (with_parts w s p a)) same
-        ∙ (reads_is w s there a (ap (running_of s) here ∙ sym (running_now y is ∙ none))
+        ∙ (reads_is w s there a (ap (running_of s) here ∙ sym (running_now y is ∙ none)) (ap observing_of here ∙ sym (observing_now y is ∙ unobserved))
         ∙ ap (λ (x : Option Reader). with_reader (state_of w) s x) (reading_now y is))
 
     read_makes : (o : StepOut) → Steps s node (parts_at w s) (work.Read r) q v o → Makes s (state_of w) (work.Read r) now v o
-    read_makes (answers.Went kind.Read) h = (reads_on (work.Read (read_on w.table r)) h.1.0 refl h.0, h.1.0, h.1.1)
-    read_makes (answers.Ready e) h = (reads_on work.Rest h.1.0 refl h.0, h.1.0, h.1.1)
-    read_makes answers.Memory h = (reads_on work.Rest h.1 refl h.0, h.1)
+    read_makes (answers.Went kind.Read) h = (reads_on (work.Read (read_on w.table r)) h.1.0 refl refl h.0, h.1.0, h.1.1)
+    read_makes (answers.Ready e) h = (reads_on work.Rest h.1.0 refl refl h.0, h.1.0, h.1.1)
+    read_makes answers.Memory h = (reads_on work.Rest h.1 refl refl h.0, h.1)
     read_makes (answers.Went _) h = absurd h.1
     read_makes (answers.Wait o) h = absurd h.1
     read_makes (answers.Stopped position) h = absurd h.1
+
+  -- a reader of changes alone
+  module _ (r : ChangesReader) (here : work_in w.actors s ≡ work.Changes r) where
+    observes_on : (y : Work) → v ≡ y → running_of s y ≡ None → reading_of y ≡ None → q ≡ parts_at w s → now ≡ with_observer (state_of w) s (observing_of y)
+    observes_on y is none unread same =
+        ap (λ (p : Parts). state_of (with_parts w s p a)) same
+        ∙ (observes_is w s there a (ap (running_of s) here ∙ sym (running_now y is ∙ none)) (ap reading_of here ∙ sym (reading_now y is ∙ unread))
+        ∙ ap (λ (x : Option ChangesReader). with_observer (state_of w) s x) (observing_now y is))
+
+    changes_make : (o : StepOut) → Steps s node (parts_at w s) (work.Changes r) q v o → Makes s (state_of w) (work.Changes r) now v o
+    changes_make (answers.Went kind.Read) h = (observes_on (work.Changes (changes_on w.table r)) h.1.0 refl refl h.0, h.1.0, h.1.1)
+    changes_make (answers.Ready (ends.Changes commits)) h = (observes_on work.Rest h.1.0 refl refl h.0, h.1.0, h.1.1)
+    changes_make answers.Memory h = (observes_on work.Rest h.1 refl refl h.0, h.1)
+    changes_make _ h = absurd h.1
 
   plan_makes : (edit : Edit) (marks : List MarkAt) → work_in w.actors s ≡ work.Plan edit marks → (o : StepOut) → Steps s node (parts_at w s) (work.Plan edit marks) q v o → Makes s (state_of w) (work.Plan edit marks) now v o
   plan_makes edit marks here (answers.Went kind.Draw) h = (
     ap (λ (p : Parts). state_of (with_parts w s p a)) h.0
         ∙ begins_is w s there (event.Draw (record { revision = next_draw memory; session = s; base = base_at memory s; edit = edit; marks = marks })) (with_notes (next_draw memory) (with_draw memory (next_draw memory)) (marked_paths marks)) a
-        (Some (running_as s (begun (next_draw memory) (base_at memory s) edit marks))) (running_now _ h.1) (ap reading_of here ∙ sym (reading_now _ h.1)),
+        (Some (running_as s (begun (next_draw memory) (base_at memory s) edit marks))) (running_now _ h.1) (same_readers (work_in w.actors s) a.work (work.Plan edit marks) _ here (does ∙ h.1) (refl, refl)),
     h.1,
   )
-  plan_makes edit marks here answers.Memory h = (still (work.Plan edit marks) work.Rest here h.1 refl refl h.0, h.1)
+  plan_makes edit marks here answers.Memory h = (still (work.Plan edit marks) work.Rest here h.1 refl (refl, refl) h.0, h.1)
   plan_makes edit marks here _ h = absurd h
 
   move_makes : (r : Revision) → work_in w.actors s ≡ work.Move r → (o : StepOut) → Steps s node (parts_at w s) (work.Move r) q v o → Makes s (state_of w) (work.Move r) now v o
-  move_makes r here (answers.Wait o) h = (still (work.Move r) (work.Move r) here h.1.2 refl refl (same_parts q (parts_at w s) h.0 h.1.0 h.1.1), h.1.2, h.1.3)
+  move_makes r here (answers.Wait o) h = (still (work.Move r) (work.Move r) here h.1.2 refl (refl, refl) (same_parts q (parts_at w s) h.0 h.1.0 h.1.1), h.1.2, h.1.3)
   move_makes r here (answers.Ready (ends.Commit (end.Committed o))) h =
-      (tells (work.Move r) work.Rest here h.1.4 refl refl (event.Refresh s memory.head) (with_pin memory s (pin_now memory)) (same_parts q (parts w.table (with_pin memory s (pin_now memory)) (reverse w.history.past ++ event.Refresh s memory.head ∷ [])) h.0 h.1.2 h.1.3), h.1.4, h.1.0, h.1.1)
+      (tells (work.Move r) work.Rest here h.1.4 refl (refl, refl) (event.Refresh s memory.head) (with_pin memory s (pin_now memory)) (same_parts q (parts w.table (with_pin memory s (pin_now memory)) (reverse w.history.past ++ event.Refresh s memory.head ∷ [])) h.0 h.1.2 h.1.3), h.1.4, h.1.0, h.1.1)
   move_makes r here _ h = absurd h.1
 
   -- ---- a commit
@@ -132,29 +151,32 @@ module _ {L : Type 0} (w : WorldOf L) (s : ℕ) (there : s < length w.actors) (q
     root_first : (at : IsMarkStage c) → first_path c.roots ≡ root_of w.history.past at.first.other
     root_first at = ap first_path (roots ∙ ap (map (λ (f : Met). root_of w.history.past f.other)) at.due)
 
+    alike : (d : Committing) → v ≡ work.Commit d → SameReaders (work_in w.actors s) a.work
+    alike d is = same_readers (work_in w.actors s) a.work (work.Commit c) (work.Commit d) here (does ∙ is) (refl, refl)
+
     updates : (x : StepKind) (d : Committing) → q.memory ≡ memory → v ≡ work.Commit d → Updates s w.table (reverse w.history.past) c q.table q.list d x → MakesUpdate s (state_of w) c now d x
-    updates kind.Mark d same is h = let at : IsMarkStage c = mark_stage c h.0 in makes_mark w s there c q a d same (does ∙ is) (ap reading_of here) at (root_first at) h.1
-    updates kind.Write d same is h = makes_write w s there c q a d same (does ∙ is) (ap reading_of here) (write_stage c h.0) (unsplit (write_stage c h.0).first) h.1
-    updates kind.Last d same is h = makes_last w s there c q a d same (does ∙ is) (ap reading_of here) (last_stage c h.0) h.1
-    updates kind.Undo d same is h = makes_undo w s there c q a d same (does ∙ is) (ap reading_of here) (undo_stage c h.0) h.1
+    updates kind.Mark d same is h = let at : IsMarkStage c = mark_stage c h.0 in makes_mark w s there c q a d same (does ∙ is) (alike d is) at (root_first at) h.1
+    updates kind.Write d same is h = makes_write w s there c q a d same (does ∙ is) (alike d is) (write_stage c h.0) (unsplit (write_stage c h.0).first) h.1
+    updates kind.Last d same is h = makes_last w s there c q a d same (does ∙ is) (alike d is) (last_stage c h.0) h.1
+    updates kind.Undo d same is h = makes_undo w s there c q a d same (does ∙ is) (alike d is) (undo_stage c h.0) h.1
     updates _ d same is h = absurd h
 
     given_up : (o : StepOut) → q.memory ≡ memory → IsGivenUp w.table (reverse w.history.past) c q.table q.list v o → now ≡ after_want (state_of w) s (running_as s c)
     given_up o same h =
         ap (λ (p : Parts). state_of (with_parts w s p a)) (same_parts q (parts_at w s) h.table same h.list)
-        ∙ (runs_is w s there w.history.past (reverse w.history.past) w.table a (Some (running_as s (wanting c))) (reverse-reverse w.history.past) (running_now (work.Commit (wanting c)) h.does) (ap reading_of here ∙ sym (reading_now (work.Commit (wanting c)) h.does))
+        ∙ (runs_is w s there w.history.past (reverse w.history.past) w.table a (Some (running_as s (wanting c))) (reverse-reverse w.history.past) (running_now (work.Commit (wanting c)) h.does) (alike (wanting c) h.does)
         ∙ ap (λ (b : Bool). record (state_of w) { running = with_session (state_of w).running s (Some (record (running_as s (wanting c)) { committed = b })) }) (sym (ap is_past h.going)))
 
-    ends_so : (y : Work) (o : StepOut) → EndsSo c y o → (running_of s y ≡ None) × (reading_of y ≡ None)
-    ends_so y (answers.Went kind.Finish) h = (ap (running_of s) h.1, ap reading_of h.1)
-    ends_so y (answers.Ready (ends.Commit e)) h = (ap (running_of s) h.2, ap reading_of h.2)
+    ends_so : (y : Work) (o : StepOut) → EndsSo c y o → (running_of s y ≡ None) × SameReaders (work.Commit c) y
+    ends_so y (answers.Went kind.Finish) h = (ap (running_of s) h.1, same_readers (work.Commit c) y (work.Commit c) (work.Move c.revision) refl h.1 (refl, refl))
+    ends_so y (answers.Ready (ends.Commit e)) h = (ap (running_of s) h.2, same_readers (work.Commit c) y (work.Commit c) work.Rest refl h.2 (refl, refl))
     ends_so y _ h = absurd h
 
     ended : (o : StepOut) → q ≡ parts_ended node (parts_at w s) c.revision → EndsSo c v o → now ≡ after_finish (state_of w) s (running_as s c)
     ended o same h =
         let quiet = ends_so v o h in
         ap (λ (p : Parts). state_of (with_parts w s p a)) same
-        ∙ ended_is w s there c.revision a (ap (running_of s) does ∙ quiet.0) (ap reading_of here ∙ sym (ap reading_of does ∙ quiet.1))
+        ∙ ended_is w s there c.revision a (ap (running_of s) does ∙ quiet.0) (same_readers (work_in w.actors s) a.work (work.Commit c) v here does quiet.1)
 
     commit_makes : (o : StepOut) → CommitsOn s node (parts_at w s) c q v o → MakesCommit s (state_of w) c now v o
     commit_makes o (inl h) = inr (inl (h.0, ended o h.1 h.2, h.2))
@@ -168,42 +190,42 @@ module _ {L : Type 0} (w : WorldOf L) (s : ℕ) (there : s < length w.actors) (q
 
   module _ (k : Upkeep) (here : work_in w.actors s ≡ work.Upkeep k) where
     publishes : (ids : List DocId) (r : Revision) (o : StepOut) → PublishesOn s node (parts_at w s) ids r q v o → Publishes s (state_of w) ids r now v o
-    publishes ids r (answers.Went kind.Back) h = (h.0, h.1, h.2, sets (work.Upkeep k) (work.Upkeep (upkeep.Publish h.0 r)) here h.4 refl refl (event.Went s kind.Back) (after_update w.table (back_op (names_of h.1) r)) h.3, h.4)
-    publishes ids r (answers.Ready (ends.Published o)) h = (h.0, h.1, sets (work.Upkeep k) work.Rest here h.3 refl refl (event.Out node r) (after_update w.table (back_op [] r)) h.2, h.3)
-    publishes ids r answers.Memory h = (still (work.Upkeep k) work.Rest here h.1 refl refl h.0, h.1)
+    publishes ids r (answers.Went kind.Back) h = (h.0, h.1, h.2, sets (work.Upkeep k) (work.Upkeep (upkeep.Publish h.0 r)) here h.4 refl (refl, refl) (event.Went s kind.Back) (after_update w.table (back_op (names_of h.1) r)) h.3, h.4)
+    publishes ids r (answers.Ready (ends.Published o)) h = (h.0, h.1, sets (work.Upkeep k) work.Rest here h.3 refl (refl, refl) (event.Out node r) (after_update w.table (back_op [] r)) h.2, h.3)
+    publishes ids r answers.Memory h = (still (work.Upkeep k) work.Rest here h.1 refl (refl, refl) h.0, h.1)
     publishes ids r _ h = absurd h
 
   upkeep_makes : (k : Upkeep) → work_in w.actors s ≡ work.Upkeep k → (o : StepOut) → KeepsUp s node (parts_at w s) k q v o → MakesUpkeep s (state_of w) k now v o
-  upkeep_makes upkeep.Write here (answers.Went kind.Back) h = (h.0, h.1, tells (work.Upkeep upkeep.Write) (work.Upkeep (upkeep.Noted h.0)) here h.3 refl refl (event.Went s kind.Back) (without_seen memory) h.2, h.3)
-  upkeep_makes upkeep.Write here answers.Memory h = (still (work.Upkeep upkeep.Write) work.Rest here h.1 refl refl h.0, h.1)
+  upkeep_makes upkeep.Write here (answers.Went kind.Back) h = (h.0, h.1, tells (work.Upkeep upkeep.Write) (work.Upkeep (upkeep.Noted h.0)) here h.3 refl (refl, refl) (event.Went s kind.Back) (without_seen memory) h.2, h.3)
+  upkeep_makes upkeep.Write here answers.Memory h = (still (work.Upkeep upkeep.Write) work.Rest here h.1 refl (refl, refl) h.0, h.1)
   upkeep_makes upkeep.Write here _ h = absurd h
   upkeep_makes (upkeep.Noted n) here o h = publishes (upkeep.Noted n) here (told_ids n.paths) n.upto o h
   upkeep_makes (upkeep.Publish ids r) here o h = publishes (upkeep.Publish ids r) here ids r o h
-  upkeep_makes upkeep.Read here (answers.Went kind.Back) h = (h.0, h.1, sets (work.Upkeep upkeep.Read) (work.Upkeep (upkeep.Learn (h.0).last_rev (h.0).sweep_rev)) here h.3 refl refl (event.Went s kind.Back) w.table h.2, h.3)
-  upkeep_makes upkeep.Read here answers.Memory h = (still (work.Upkeep upkeep.Read) work.Rest here h.1 refl refl h.0, h.1)
+  upkeep_makes upkeep.Read here (answers.Went kind.Back) h = (h.0, h.1, sets (work.Upkeep upkeep.Read) (work.Upkeep (upkeep.Learn (h.0).last_rev (h.0).sweep_rev)) here h.3 refl (refl, refl) (event.Went s kind.Back) w.table h.2, h.3)
+  upkeep_makes upkeep.Read here answers.Memory h = (still (work.Upkeep upkeep.Read) work.Rest here h.1 refl (refl, refl) h.0, h.1)
   upkeep_makes upkeep.Read here _ h = absurd h
-  upkeep_makes (upkeep.Learn last sweep) here (answers.Ready (ends.Learnt u)) h = (h.0, tells (work.Upkeep (upkeep.Learn last sweep)) work.Rest here h.2 refl refl (event.In node (learned memory last sweep).head) (learned memory last sweep) h.1, h.2)
-  upkeep_makes (upkeep.Learn last sweep) here answers.Memory h = (still (work.Upkeep (upkeep.Learn last sweep)) work.Rest here h.1 refl refl h.0, h.1)
+  upkeep_makes (upkeep.Learn last sweep) here (answers.Ready (ends.Learnt u)) h = (h.0, tells (work.Upkeep (upkeep.Learn last sweep)) work.Rest here h.2 refl (refl, refl) (event.In node (learned memory last sweep).head) (learned memory last sweep) h.1, h.2)
+  upkeep_makes (upkeep.Learn last sweep) here answers.Memory h = (still (work.Upkeep (upkeep.Learn last sweep)) work.Rest here h.1 refl (refl, refl) h.0, h.1)
   upkeep_makes (upkeep.Learn last sweep) here _ h = absurd h
-  upkeep_makes (upkeep.Checkpoint i) here (answers.Ready (ends.Set None)) h = (h.0, h.1, sets (work.Upkeep (upkeep.Checkpoint i)) work.Rest here h.3 refl refl (event.Checkpoint i (h.0).base) (after_update w.table (settings_op (change.Checkpoint i h.0))) h.2, h.3)
-  upkeep_makes (upkeep.Checkpoint i) here answers.Memory h = (still (work.Upkeep (upkeep.Checkpoint i)) work.Rest here h.1 refl refl h.0, h.1)
+  upkeep_makes (upkeep.Checkpoint i) here (answers.Ready (ends.Set None)) h = (h.0, h.1, sets (work.Upkeep (upkeep.Checkpoint i)) work.Rest here h.3 refl (refl, refl) (event.Checkpoint i (h.0).base) (after_update w.table (settings_op (change.Checkpoint i h.0))) h.2, h.3)
+  upkeep_makes (upkeep.Checkpoint i) here answers.Memory h = (still (work.Upkeep (upkeep.Checkpoint i)) work.Rest here h.1 refl (refl, refl) h.0, h.1)
   upkeep_makes (upkeep.Checkpoint i) here _ h = absurd h
-  upkeep_makes (upkeep.Release i) here (answers.Ready (ends.Set None)) h = (h.0, sets (work.Upkeep (upkeep.Release i)) work.Rest here h.2 refl refl (event.Release i) (after_update w.table (settings_op (change.Release i))) h.1, h.2)
-  upkeep_makes (upkeep.Release i) here (answers.Ready ends.NoCheckpoint) h = (h.0, sets (work.Upkeep (upkeep.Release i)) work.Rest here h.2 refl refl (event.Went s kind.Settings) (after_update w.table (settings_op (change.Release i))) h.1, h.2)
-  upkeep_makes (upkeep.Release i) here answers.Memory h = (still (work.Upkeep (upkeep.Release i)) work.Rest here h.1 refl refl h.0, h.1)
+  upkeep_makes (upkeep.Release i) here (answers.Ready (ends.Set None)) h = (h.0, sets (work.Upkeep (upkeep.Release i)) work.Rest here h.2 refl (refl, refl) (event.Release i) (after_update w.table (settings_op (change.Release i))) h.1, h.2)
+  upkeep_makes (upkeep.Release i) here (answers.Ready ends.NoCheckpoint) h = (h.0, sets (work.Upkeep (upkeep.Release i)) work.Rest here h.2 refl (refl, refl) (event.Went s kind.Settings) (after_update w.table (settings_op (change.Release i))) h.1, h.2)
+  upkeep_makes (upkeep.Release i) here answers.Memory h = (still (work.Upkeep (upkeep.Release i)) work.Rest here h.1 refl (refl, refl) h.0, h.1)
   upkeep_makes (upkeep.Release i) here _ h = absurd h
-  upkeep_makes (upkeep.Attach i) here (answers.Ready (ends.Set (Some pin))) h = (h.0, sets (work.Upkeep (upkeep.Attach i)) work.Rest here h.2 refl refl (event.Attach s i) (after_update w.table (settings_op (change.Attach s i))) h.1, h.2)
-  upkeep_makes (upkeep.Attach i) here (answers.Ready ends.NoCheckpoint) h = (h.0, sets (work.Upkeep (upkeep.Attach i)) work.Rest here h.2 refl refl (event.Went s kind.Settings) (after_update w.table (settings_op (change.Attach s i))) h.1, h.2)
-  upkeep_makes (upkeep.Attach i) here answers.Memory h = (still (work.Upkeep (upkeep.Attach i)) work.Rest here h.1 refl refl h.0, h.1)
+  upkeep_makes (upkeep.Attach i) here (answers.Ready (ends.Set (Some pin))) h = (h.0, sets (work.Upkeep (upkeep.Attach i)) work.Rest here h.2 refl (refl, refl) (event.Attach s i) (after_update w.table (settings_op (change.Attach s i))) h.1, h.2)
+  upkeep_makes (upkeep.Attach i) here (answers.Ready ends.NoCheckpoint) h = (h.0, sets (work.Upkeep (upkeep.Attach i)) work.Rest here h.2 refl (refl, refl) (event.Went s kind.Settings) (after_update w.table (settings_op (change.Attach s i))) h.1, h.2)
+  upkeep_makes (upkeep.Attach i) here answers.Memory h = (still (work.Upkeep (upkeep.Attach i)) work.Rest here h.1 refl (refl, refl) h.0, h.1)
   upkeep_makes (upkeep.Attach i) here _ h = absurd h
-  upkeep_makes upkeep.Detach here (answers.Went kind.Pin) h = (tells (work.Upkeep upkeep.Detach) (work.Upkeep (upkeep.Detaching (pin_now memory))) here h.1 refl refl (event.Refresh s memory.head) (with_pin memory s (pin_now memory)) h.0, h.1)
-  upkeep_makes upkeep.Detach here answers.Memory h = (still (work.Upkeep upkeep.Detach) work.Rest here h.1 refl refl h.0, h.1)
+  upkeep_makes upkeep.Detach here (answers.Went kind.Pin) h = (tells (work.Upkeep upkeep.Detach) (work.Upkeep (upkeep.Detaching (pin_now memory))) here h.1 refl (refl, refl) (event.Refresh s memory.head) (with_pin memory s (pin_now memory)) h.0, h.1)
+  upkeep_makes upkeep.Detach here answers.Memory h = (still (work.Upkeep upkeep.Detach) work.Rest here h.1 refl (refl, refl) h.0, h.1)
   upkeep_makes upkeep.Detach here _ h = absurd h
-  upkeep_makes (upkeep.Detaching pin) here (answers.Ready (ends.Pinned o)) h = (h.0, sets (work.Upkeep (upkeep.Detaching pin)) work.Rest here h.2 refl refl (event.Detach s) (after_update w.table (settings_op (change.Detach s))) h.1, h.2)
-  upkeep_makes (upkeep.Detaching pin) here answers.Memory h = (still (work.Upkeep (upkeep.Detaching pin)) work.Rest here h.1 refl refl h.0, h.1)
+  upkeep_makes (upkeep.Detaching pin) here (answers.Ready (ends.Pinned o)) h = (h.0, sets (work.Upkeep (upkeep.Detaching pin)) work.Rest here h.2 refl (refl, refl) (event.Detach s) (after_update w.table (settings_op (change.Detach s))) h.1, h.2)
+  upkeep_makes (upkeep.Detaching pin) here answers.Memory h = (still (work.Upkeep (upkeep.Detaching pin)) work.Rest here h.1 refl (refl, refl) h.0, h.1)
   upkeep_makes (upkeep.Detaching pin) here _ h = absurd h
-  upkeep_makes upkeep.Observe here (answers.Ready (ends.Pinned pin)) h = (h.0, tells (work.Upkeep upkeep.Observe) work.Rest here h.2 refl refl (event.Went s kind.Pin) (with_pin memory (cursor_owner s) pin) h.1, h.2)
-  upkeep_makes upkeep.Observe here answers.Memory h = (still (work.Upkeep upkeep.Observe) work.Rest here h.1 refl refl h.0, h.1)
+  upkeep_makes upkeep.Observe here (answers.Ready (ends.Pinned pin)) h = (h.0, tells (work.Upkeep upkeep.Observe) work.Rest here h.2 refl (refl, refl) (event.Went s kind.Pin) (with_pin memory (cursor_owner s) pin) h.1, h.2)
+  upkeep_makes upkeep.Observe here answers.Memory h = (still (work.Upkeep upkeep.Observe) work.Rest here h.1 refl (refl, refl) h.0, h.1)
   upkeep_makes upkeep.Observe here _ h = absurd h
 
   -- ---- all
@@ -215,6 +237,7 @@ module _ {L : Type 0} (w : WorldOf L) (s : ℕ) (there : s < length w.actors) (q
   makes work.End here busy roots o h = end_makes here o h
   makes work.Refresh here busy roots o h = refresh_makes here o h
   makes (work.Read r) here busy roots o h = read_makes r here o h
+  makes (work.Changes r) here busy roots o h = changes_make r here o h
   makes (work.Plan edit marks) here busy roots o h = plan_makes edit marks here o h
   makes (work.Commit c) here busy roots o h = commit_makes c here (roots c refl) o h
   makes (work.Upkeep k) here busy roots o h = upkeep_makes k here o h

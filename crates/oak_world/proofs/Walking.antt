@@ -15,6 +15,10 @@ use Rattle.jr_rev.specs.Revisions.{is_before, is_same}
 use Rattle.jr_rev.specs.Vectors.{sees}
 use Rattle.jr_tree.specs.declared.edit.Edit.{Edit}
 use Rattle.jr_tree.specs.Trees.{Nodes, dated_children_of, initial_tree, node_at}
+use Rattle.jr_tree.specs.declared.shared.CommitChanges.{CommitChanges}
+use Rattle.oak_changes.specs.declared.changes.ChangesReader.{ChangesReader}
+use Rattle.oak_changes.specs.declared.changes.Step.TheVariants as observed
+use Rattle.oak_changes.specs.Reading as changes
 use Rattle.oak_clash.specs.declared.mark.MarkAt.{MarkAt}
 use Rattle.oak_clash.specs.Clashes.{commit_root, marked_paths}
 use Rattle.oak_commit.specs.Clashing.{Met, found, mark_op}
@@ -38,11 +42,12 @@ use Rattle.oak_machine.specs.declared.event.Event.TheVariants as event
 use Rattle.oak_machine.specs.declared.event.StepKind.{StepKind}
 use Rattle.oak_machine.specs.declared.event.StepKind.TheVariants as kind
 use Rattle.oak_machine.specs.History.{History, Past}
+use Rattle.oak_machine.specs.Changed.{changes_between}
 use Rattle.oak_machine.specs.Commits.{is_ended, tree_at}
 use Rattle.oak_machine.specs.Heads.{head_of, local}
-use Rattle.oak_machine.specs.Laws.{AreOthers, Says, Starts, StartsProper, after, is_revision_of}
+use Rattle.oak_machine.specs.Laws.{AreOthers, Says, Starts, StartsProper, StartsWrite, after, is_revision_of}
 use Rattle.oak_machine.specs.Runs.{IsNode, IsRunOf}
-use Rattle.oak_machine.specs.Sessions.{has_login, is_attached, is_stopped, is_stopped_under}
+use Rattle.oak_machine.specs.Sessions.{base_of, has_login, is_attached, is_stopped, is_stopped_under}
 use Rattle.oak_machine.specs.Steps.{is_appended_by, is_kind, is_moving, where_test}
 use Rattle.oak_node.specs.Heads.{AwaitsEarlier, finished, next_draw}
 use Rattle.oak_node.specs.Memory.{NodeState, own_entry}
@@ -57,13 +62,14 @@ use Rattle.core_read.proofs.Latest.{at_most_both, before_itself, not_before}
 use Rattle.core_heads.specs.Sound.{IsSound}
 use Rattle.core_heads.proofs.Runs.{sound_run}
 use Rattle.core_heads.proofs.Steps.{later_end}
+use Rattle.core_changes.proofs.Instants.{reply_keeps}
 use Rattle.core_clash.specs.Core.{root_of}
 use Rattle.core_clash.specs.Sessions.{IsTheirs, Running}
 use Rattle.core_clash.specs.Sound.{IsRooted}
 use Rattle.core_clash.specs.Views.{In}
 use Rattle.core_clash.proofs.Basics.{is_same_self, or_left, same_revision}
 use Rattle.core_clash.proofs.Pasts.{in_flight}
-use Rattle.core_nodes.specs.Nodes.{IsMemoryOf, cursor_owner}
+use Rattle.core_nodes.specs.Nodes.{IsMemoryOf, base_of_pin, cursor_owner}
 use Rattle.core_nodes.proofs.Events.{end_run}
 use Rattle.core_nodes.proofs.Memories.{own_is}
 use Rattle.core_nodes.proofs.Waits.{flying_is}
@@ -72,14 +78,14 @@ use Rattle.core_watch.specs.Standing.{path_read}
 use Rattle.core_watch.proofs.Moments.{fed_keeps}
 use Rattle.core_world.specs.Kept.{IsKept}
 use Rattle.core_world.specs.States.{State, base_in, history_in, memory_at, memory_of, node_of, nodes_in, with_session}
-use Rattle.core_world.specs.Steps.{IsThrough, after_draw, after_finish, after_last, after_leave, after_login, after_mark, after_refresh, after_undoing, after_want, after_write, after_write_in_want, draw_in, lasted_by, marked_by, with_reader}
+use Rattle.core_world.specs.Steps.{IsThrough, after_draw, after_finish, after_last, after_leave, after_login, after_mark, after_refresh, after_undoing, after_want, after_write, after_write_in_want, draw_in, lasted_by, marked_by, with_observer, with_reader}
 use Rattle.core_world.proofs.Commits.{its, on_its_node}
 use Rattle.core_world.proofs.Flights.{number_itself}
 use Rattle.core_world.proofs.Lives.{its_head}
 use Rattle.core_world.proofs.Loads.{children_given, node_given}
 use Rattle.core_world.proofs.Readers.{live_is}
 use Rattle.core_world.proofs.Truths.{met_here}
-use Rattle.core_world.proofs.Whole.{draw_whole, finish_whole, gone_whole, last_whole, leave_whole, login_whole, mark_whole, read_whole, refresh_whole, undo_whole, want_whole, write_in_want_whole, write_whole}
+use Rattle.core_world.proofs.Whole.{changes_whole, draw_whole, feed_whole, finish_whole, gone_whole, last_whole, leave_whole, login_whole, mark_whole, read_whole, refresh_whole, undo_whole, unnotice_whole, want_whole, write_in_want_whole, write_whole}
 use Rattle.oak_port.specs.declared.task.StepOut.{StepOut}
 use Rattle.oak_port.specs.declared.task.StepOut.TheVariants as answers
 use Rattle.oak_port.specs.declared.task.Task.TheVariants as task
@@ -89,13 +95,14 @@ use Rattle.oak_port.specs.Ports.{AreOfStep, Awaiting, HoldsBack, Idle, IsFinish,
 use Rattle.oak_step.specs.declared.work.Work.{Work}
 use Rattle.oak_step.specs.declared.work.Work.TheVariants as work
 use Rattle.oak_world.specs.Kept.{IsAtWork, May}
-use Rattle.oak_step.specs.Parts.{EndsSo, committed, end_of_reading, marked, read_on}
+use Rattle.oak_step.specs.Parts.{EndsSo, changes_on, committed, end_of_reading, marked, read_on}
 use Rattle.oak_world.specs.Seen.{shown_by, shown_work, task_of}
 use Rattle.oak_step.specs.Works.{kind_due, kind_of}
 use Rattle.oak_world.specs.Steps.{HasCome, Makes, MakesCommit, MakesUpdate}
-use Rattle.oak_world.specs.Worlds.{reading_of, running_as, running_of}
+use Rattle.oak_world.specs.Worlds.{observing_of, reading_of, running_as, running_of}
 use Rattle.oak_step.proofs.Feeding.{stage_last, stage_mark, stage_write}
 use Rattle.oak_step.proofs.Stages.{finish_stage}
+use Rattle.oak_world.proofs.Pinning.{pin_base}
 use Rattle.oak_world.proofs.StepsOf.{IsStepOf, apart_one, chosen, flipped, kind_told, none_stopped, refused_stays, with_true}
 use Rattle.oak_world.proofs.Upkeeping.{upkeep_step}
 use Rattle.oak_world.proofs.Staying.{come_left, same_roots}
@@ -199,7 +206,7 @@ same_end a b h = cc
 
 -- ---- a step
 
-module _ (starts : Starts) (says : Says) (proper : StartsProper starts) (w : State) (kept : IsKept starts says w) (s : ℕ) (there : is_some (slice_get w.sessions s) ≡ true) (few : slice_get w.sessions (cursor_owner s) ≡ None) (unobserved : w.observing s ≡ None) (none_halted : (k : ℕ) → is_stopped w.past k ≡ false) where
+module _ (starts : Starts) (says : Says) (proper : StartsProper starts) (writes : StartsWrite starts) (w : State) (kept : IsKept starts says w) (s : ℕ) (there : is_some (slice_get w.sessions s) ≡ true) (few : slice_get w.sessions (cursor_owner s) ≡ None) (none_halted : (k : ℕ) → is_stopped w.past k ≡ false) where
   -- its cluster node isn't stopped
   on_now : is_stopped_under w.sessions w.past s ≡ false
   on_now = none_stopped w.sessions w.past none_halted s
@@ -227,8 +234,8 @@ module _ (starts : Starts) (says : Says) (proper : StartsProper starts) (w : Sta
     as_due = refl;
   }
 
-  leave_step : HasCome h s → w.running s ≡ None → w.reading s ≡ None → StepOf work.End (after_leave w s) work.Rest (answers.Ready ends.Ended)
-  leave_step come idle unread = record {
+  leave_step : HasCome h s → w.running s ≡ None → w.reading s ≡ None → w.observing s ≡ None → StepOf work.End (after_leave w s) work.Rest (answers.Ready ends.Ended)
+  leave_step come idle unread unobserved = record {
     own = event.Went s kind.End ∷ [];
     grown = refl;
     kept = leave_whole starts says proper w kept s on_now few come.login come.stays idle unread unobserved;
@@ -242,8 +249,8 @@ module _ (starts : Starts) (says : Says) (proper : StartsProper starts) (w : Sta
     as_due = refl;
   }
 
-  refresh_step : (pin : Pin) → pin ≡ pin_now (memory_of w s) → HasCome h s → w.running s ≡ None → w.reading s ≡ None → StepOf work.Refresh (after_refresh w s) work.Rest (answers.Ready (ends.Pinned pin))
-  refresh_step pin is come idle unread = record {
+  refresh_step : (pin : Pin) → pin ≡ pin_now (memory_of w s) → HasCome h s → w.running s ≡ None → w.reading s ≡ None → w.observing s ≡ None → StepOf work.Refresh (after_refresh w s) work.Rest (answers.Ready (ends.Pinned pin))
+  refresh_step pin is come idle unread unobserved = record {
     own = event.Refresh s (memory_of w s).head ∷ [];
     grown = refl;
     kept = refresh_whole starts says proper w kept s on_now come.login come.stays idle unread unobserved;
@@ -286,8 +293,8 @@ module _ (starts : Starts) (says : Says) (proper : StartsProper starts) (w : Sta
     as_due = refl;
   }
 
-  moves_step : (r o : Revision) → o ≡ r → sees (memory_of w s).head r ≡ true → HasCome h s → slice_get w.sessions s ≡ Some r.cluster → w.running s ≡ None → w.reading s ≡ None → StepOf (work.Move r) (after_refresh w s) work.Rest (answers.Ready (ends.Commit (end.Committed o)))
-  moves_step r o is seen come on idle unread = record {
+  moves_step : (r o : Revision) → o ≡ r → sees (memory_of w s).head r ≡ true → HasCome h s → slice_get w.sessions s ≡ Some r.cluster → w.running s ≡ None → w.reading s ≡ None → w.observing s ≡ None → StepOf (work.Move r) (after_refresh w s) work.Rest (answers.Ready (ends.Commit (end.Committed o)))
+  moves_step r o is seen come on idle unread unobserved = record {
     own = event.Refresh s (memory_of w s).head ∷ [];
     grown = refl;
     kept = refresh_whole starts says proper w kept s on_now come.login come.stays idle unread unobserved;
@@ -399,6 +406,78 @@ module _ (starts : Starts) (says : Says) (proper : StartsProper starts) (w : Sta
         same = refl;
         tells = given r.parent for_same.same_kind next.step refl gives;
         of_step = last_read r.parent (path_read r);
+        as_due = refl;
+      }
+
+  -- ---- what commits changed
+
+  module _ (table : IsTable w.table.documents) (r : ChangesReader) (here : w.observing s ≡ Some r) (come : HasCome h s) (detached : is_attached w.past s ≡ false) where
+    abbrev then : ChangesReader
+    then = changes_on w.table r
+
+    then_kept : IsKept starts says (with_observer w s (Some then))
+    then_kept = feed_whole starts says proper w kept writes s r here table
+
+    -- it still reads since that vector, up to that pin
+    then_same : (then.from ≡ r.from) × (then.pin ≡ r.pin)
+    then_same = reply_keeps r (answer w.table.documents (changes.due r))
+
+    pub changes_step : StepOf (work.Changes r) (with_observer w s (Some then)) (work.Changes then) (answers.Went kind.Read)
+    changes_step = record {
+      own = [];
+      grown = refl;
+      kept = then_kept;
+      may = (come, detached);
+      apart = λ q k. refl;
+      attached = refl;
+      unstopped = λ q k. k;
+      same = refl;
+      tells = (refl, refl, ap (λ (v : RevVec). Starting (task.Changes v)) then_same.0);
+      of_step = refl;
+      as_due = refl;
+    }
+
+    pub unobserved_step : StepOf (work.Changes r) (with_observer w s None) work.Rest answers.Memory
+    unobserved_step = record {
+      own = [];
+      grown = refl;
+      kept = unnotice_whole starts says proper w kept s;
+      may = tt;
+      apart = λ q k. refl;
+      attached = refl;
+      unstopped = λ q k. k;
+      same = refl;
+      tells = (refl, refl);
+      of_step = refl;
+      as_due = refl;
+    }
+
+    then_here : with_session w.observing s (Some then) s ≡ Some then
+    then_here = ap (λ b. cond b (Some then) (w.observing s)) (number_itself s)
+
+    -- its pin is the session's own, at the session's base, since that is not attached
+    own_base : base_of w.past s ≡ Some r.pin.base
+    own_base = sym (pin_base starts says proper w kept.sessions s there detached none_halted come.stays) ∙ ap base_of_pin (kept.pinned.observes s r here)
+
+    module _ (commits : List CommitChanges) (gives : then.step ≡ observed.Done commits) where
+      told_is : commits ≡ changes_between None w.past r.from r.pin.base
+      told_is =
+          changes_whole starts says proper (with_observer w s (Some then)) then_kept s then commits then_here gives
+          ∙ (ap (λ (v : RevVec). changes_between None w.past v then.pin.base) then_same.0
+          ∙ ap (λ (p : Pin). changes_between None w.past r.from p.base) then_same.1)
+
+      pub told_step : StepOf (work.Changes r) (with_observer w s None) work.Rest (answers.Ready (ends.Changes commits))
+      told_step = record {
+        own = [];
+        grown = refl;
+        kept = unnotice_whole starts says proper w kept s;
+        may = tt;
+        apart = λ q k. refl;
+        attached = refl;
+        unstopped = λ q k. k;
+        same = refl;
+        tells = (r.pin.base, own_base, told_is, refl, refl);
+        of_step = refl;
         as_due = refl;
       }
 
@@ -775,27 +854,31 @@ module _ (starts : Starts) (says : Says) (proper : StartsProper starts) (w : Sta
   still_step v tells due u x same is = at_those v answers.Memory w work.Rest u x same is (record { own = []; grown = refl; kept = kept; may = tt; apart = λ q k. refl; attached = refused_stays v (is_attached w.past s); unstopped = λ q k. k; same = refl; tells = tells; of_step = refl; as_due = due })
 
   -- a step of a session that may do what it does
-  pub any_step : IsTable w.table.documents → (v : Work) → w.running s ≡ running_of s v → w.reading s ≡ reading_of v → May starts h s v → (u : State) (x : Work) (o : StepOut) → Makes s w v u x o → StepOf v u x o
-  any_step table work.Login runs reads may u x (answers.Ready (ends.Pinned pin)) m = at_those work.Login (answers.Ready (ends.Pinned pin)) (after_login w s) work.Rest u x m.0 m.1 (login_step pin m.2 may)
-  any_step table work.Login runs reads may u x answers.Memory m = still_step work.Login (refl, refl) refl u x m.0 m.1
-  any_step table work.Login runs reads may u x _ m = absurd m
-  any_step table work.End runs reads may u x (answers.Ready ends.Ended) m = at_those work.End (answers.Ready ends.Ended) (after_leave w s) work.Rest u x m.0 m.1 (leave_step may runs reads)
-  any_step table work.End runs reads may u x answers.Memory m = still_step work.End (refl, refl) refl u x m.0 m.1
-  any_step table work.End runs reads may u x _ m = absurd m
-  any_step table work.Refresh runs reads may u x (answers.Ready (ends.Pinned pin)) m = at_those work.Refresh (answers.Ready (ends.Pinned pin)) (after_refresh w s) work.Rest u x m.0 m.1 (refresh_step pin m.2 may.0 runs reads)
-  any_step table work.Refresh runs reads may u x answers.Memory m = still_step work.Refresh (refl, refl) refl u x m.0 m.1
-  any_step table work.Refresh runs reads may u x _ m = absurd m
-  any_step table (work.Read r) runs reads may u x (answers.Went kind.Read) m = at_those (work.Read r) (answers.Went kind.Read) (with_reader w s (Some (read_on w.table r))) (work.Read (read_on w.table r)) u x m.0 m.1 (read_step table r reads may)
-  any_step table (work.Read r) runs reads may u x (answers.Ready e) m = at_those (work.Read r) (answers.Ready e) (with_reader w s None) work.Rest u x m.0 m.1 (given_step table r reads may e m.2)
-  any_step table (work.Read r) runs reads may u x answers.Memory m = at_those (work.Read r) answers.Memory (with_reader w s None) work.Rest u x m.0 m.1 (gone_step table r reads may)
-  any_step table (work.Read r) runs reads may u x _ m = absurd m
-  any_step table (work.Plan edit marks) runs reads may u x (answers.Went kind.Draw) m =
+  pub any_step : IsTable w.table.documents → (v : Work) → w.running s ≡ running_of s v → w.reading s ≡ reading_of v → w.observing s ≡ observing_of v → May starts h s v → (u : State) (x : Work) (o : StepOut) → Makes s w v u x o → StepOf v u x o
+  any_step table work.Login runs reads observes may u x (answers.Ready (ends.Pinned pin)) m = at_those work.Login (answers.Ready (ends.Pinned pin)) (after_login w s) work.Rest u x m.0 m.1 (login_step pin m.2 may)
+  any_step table work.Login runs reads observes may u x answers.Memory m = still_step work.Login (refl, refl) refl u x m.0 m.1
+  any_step table work.Login runs reads observes may u x _ m = absurd m
+  any_step table work.End runs reads observes may u x (answers.Ready ends.Ended) m = at_those work.End (answers.Ready ends.Ended) (after_leave w s) work.Rest u x m.0 m.1 (leave_step may runs reads observes)
+  any_step table work.End runs reads observes may u x answers.Memory m = still_step work.End (refl, refl) refl u x m.0 m.1
+  any_step table work.End runs reads observes may u x _ m = absurd m
+  any_step table work.Refresh runs reads observes may u x (answers.Ready (ends.Pinned pin)) m = at_those work.Refresh (answers.Ready (ends.Pinned pin)) (after_refresh w s) work.Rest u x m.0 m.1 (refresh_step pin m.2 may.0 runs reads observes)
+  any_step table work.Refresh runs reads observes may u x answers.Memory m = still_step work.Refresh (refl, refl) refl u x m.0 m.1
+  any_step table work.Refresh runs reads observes may u x _ m = absurd m
+  any_step table (work.Read r) runs reads observes may u x (answers.Went kind.Read) m = at_those (work.Read r) (answers.Went kind.Read) (with_reader w s (Some (read_on w.table r))) (work.Read (read_on w.table r)) u x m.0 m.1 (read_step table r reads may)
+  any_step table (work.Read r) runs reads observes may u x (answers.Ready e) m = at_those (work.Read r) (answers.Ready e) (with_reader w s None) work.Rest u x m.0 m.1 (given_step table r reads may e m.2)
+  any_step table (work.Read r) runs reads observes may u x answers.Memory m = at_those (work.Read r) answers.Memory (with_reader w s None) work.Rest u x m.0 m.1 (gone_step table r reads may)
+  any_step table (work.Read r) runs reads observes may u x _ m = absurd m
+  any_step table (work.Changes r) runs reads observes may u x (answers.Went kind.Read) m = at_those (work.Changes r) (answers.Went kind.Read) (with_observer w s (Some (changes_on w.table r))) (work.Changes (changes_on w.table r)) u x m.0 m.1 (changes_step table r observes may.0 may.1)
+  any_step table (work.Changes r) runs reads observes may u x (answers.Ready (ends.Changes commits)) m = at_those (work.Changes r) (answers.Ready (ends.Changes commits)) (with_observer w s None) work.Rest u x m.0 m.1 (told_step table r observes may.0 may.1 commits m.2)
+  any_step table (work.Changes r) runs reads observes may u x answers.Memory m = at_those (work.Changes r) answers.Memory (with_observer w s None) work.Rest u x m.0 m.1 (unobserved_step table r observes may.0 may.1)
+  any_step table (work.Changes r) runs reads observes may u x _ m = absurd m
+  any_step table (work.Plan edit marks) runs reads observes may u x (answers.Went kind.Draw) m =
       at_those (work.Plan edit marks) (answers.Went kind.Draw) (after_draw w s edit marks (marked_paths marks)) (work.Commit (begun (next_draw (memory_of w s)) (base_in w s) edit marks)) u x m.0 m.1 (draw_step edit marks may.0 may.1 may.2 runs)
-  any_step table (work.Plan edit marks) runs reads may u x answers.Memory m = still_step (work.Plan edit marks) (refl, refl) refl u x m.0 m.1
-  any_step table (work.Plan edit marks) runs reads may u x _ m = absurd m
-  any_step table (work.Commit c) runs reads may u x o m = commit_step c runs may u x o m
-  any_step table (work.Move r) runs reads may u x (answers.Wait q) m = at_those (work.Move r) (answers.Wait q) w (work.Move r) u x m.0 m.1 (waits_step r q m.2 may.0 may.1 may.2)
-  any_step table (work.Move r) runs reads may u x (answers.Ready (ends.Commit (end.Committed o))) m = at_those (work.Move r) (answers.Ready (ends.Commit (end.Committed o))) (after_refresh w s) work.Rest u x m.0 m.1 (moves_step r o m.2 m.3 may.0 may.2 runs reads)
-  any_step table (work.Move r) runs reads may u x _ m = absurd m
-  any_step table (work.Upkeep k) runs reads may u x o m = upkeep_step starts says proper w kept s there none_halted may.0 few unobserved runs reads k may.1 u x o m
-  any_step table work.Rest runs reads may u x o m = absurd m
+  any_step table (work.Plan edit marks) runs reads observes may u x answers.Memory m = still_step (work.Plan edit marks) (refl, refl) refl u x m.0 m.1
+  any_step table (work.Plan edit marks) runs reads observes may u x _ m = absurd m
+  any_step table (work.Commit c) runs reads observes may u x o m = commit_step c runs may u x o m
+  any_step table (work.Move r) runs reads observes may u x (answers.Wait q) m = at_those (work.Move r) (answers.Wait q) w (work.Move r) u x m.0 m.1 (waits_step r q m.2 may.0 may.1 may.2)
+  any_step table (work.Move r) runs reads observes may u x (answers.Ready (ends.Commit (end.Committed o))) m = at_those (work.Move r) (answers.Ready (ends.Commit (end.Committed o))) (after_refresh w s) work.Rest u x m.0 m.1 (moves_step r o m.2 m.3 may.0 may.2 runs reads observes)
+  any_step table (work.Move r) runs reads observes may u x _ m = absurd m
+  any_step table (work.Upkeep k) runs reads observes may u x o m = upkeep_step starts says proper w kept s there none_halted may.0 few observes runs reads k may.1 u x o m
+  any_step table work.Rest runs reads observes may u x o m = absurd m

@@ -69,6 +69,7 @@ May starts h s work.Login = IsFalse (has_login h.past s)
 May starts h s work.End = HasCome h s
 May starts h s work.Refresh = HasCome h s × IsFalse (is_attached h.past s)
 May starts h s (work.Read r) = HasCome h s
+May starts h s (work.Changes r) = HasCome h s × IsFalse (is_attached h.past s)
 May starts h s (work.Plan edit marks) =
     HasCome h s × IsFalse (is_attached h.past s) × starts h s edit marks
 May starts h s (work.Commit c) = IsAtWork h s c

@@ -10,6 +10,9 @@ use Rattle.jr_path.specs.declared.path.Path.{Path}
 use Rattle.jr_rev.specs.declared.revision.Revision.{Revision}
 use Rattle.jr_rev.specs.declared.vector.RevVec.{RevVec}
 use Rattle.jr_tree.specs.declared.edit.Write.{Write}
+use Rattle.oak_changes.specs.declared.changes.ChangesReader.{ChangesReader}
+use Rattle.oak_changes.specs.declared.changes.Step.{Step as ChangesStep}
+use Rattle.oak_changes.specs.declared.changes.Step.TheVariants as told
 use Rattle.oak_clash.specs.declared.mark.MarkAt.{MarkAt}
 use Rattle.oak_commit.specs.Clashing.{Met, found, mark_op}
 use Rattle.oak_commit.specs.Committing.{Committing, begun, first_path, roots_in}
@@ -18,7 +21,6 @@ use Rattle.oak_commit.specs.declared.outcome.CommitEnd.{CommitEnd}
 use Rattle.oak_node.specs.Heads.{next_draw}
 use Rattle.oak_node.specs.Memory.{NodeState}
 use Rattle.oak_node.specs.Seen.{seen_paths}
-use Rattle.oak_read.specs.Reading.{after_replies}
 use Rattle.oak_read.specs.declared.reader.Reader.{Reader}
 use Rattle.oak_read.specs.declared.reader.Step.{Step}
 use Rattle.oak_read.specs.declared.reader.Step.TheVariants as step
@@ -29,52 +31,100 @@ use Rattle.oak_step.specs.declared.upkeep.Upkeep.{Upkeep}
 use Rattle.oak_step.specs.declared.upkeep.Upkeep.TheVariants as upkeep
 use Rattle.oak_step.specs.declared.work.Work.{Work}
 use Rattle.oak_step.specs.declared.work.Work.TheVariants as work
-use Rattle.oak_step.specs.Parts.{base_at, read_on}
+use Rattle.oak_step.specs.Parts.{base_at, changes_on, read_on}
 use Rattle.oak_step.specs.Upkeeps.{told_ids}
 use Rattle.oak_world.specs.Worlds.{WorldOf, state_of, work_in}
 
--- ---- a load or a list
+-- ---- a reader
 
-module _ (t : Table) where
-  -- a reader after so many answers of the documents
-  abbrev pub reads_on : ℕ → Reader → Reader
-  reads_on n r = after_replies t.documents n r
+-- where a reader stands: it asks for the document of a node, for previous documents of the node or
+-- for commit roots, with so many behind the next of these, or for the document behind; or it is done
+pub data Phase : Type 0 where
+  Main : Phase
+  Previous : ℕ → Phase
+  Roots : ℕ → Phase
+  Next : Phase
+  Done : Phase
 
-  -- of a reader that reads commit roots, where behind them so many are left
-  abbrev pub roots_left : (Reader → ℕ) → Reader → Step → ℕ
-  roots_left behind r (step.Roots left) =
-      suc (length left.rest) + behind (reads_on (suc (length left.rest)) r)
+-- readers of one kind, where an answer of the documents makes this of one, by where it stands
+module _ {R : Type 0} (answered : R → R) (phase : R → Phase) where
+  -- a reader after so many answers
+  abbrev pub after_answers : ℕ → R → R
+  after_answers zero r = r
+  after_answers (suc n) r = after_answers n (answered r)
+
+  -- how many asks are left of a reader that reads commit roots, where behind them so many are
+  abbrev pub roots_left : (R → ℕ) → R → Phase → ℕ
+  roots_left behind r (Roots n) = suc n + behind (after_answers (suc n) r)
   roots_left behind r _ = behind r
 
-  -- of a reader that reads previous documents, or commit roots
-  abbrev pub previous_left : (Reader → ℕ) → Reader → Step → ℕ
-  previous_left behind r (step.Previous left) =
-      suc (length left.rest) + roots_left behind (reads_on (suc (length left.rest)) r)
-      (reads_on (suc (length left.rest)) r).step
-  previous_left behind r s = roots_left behind r s
+  -- how many are left of a reader that reads previous documents, or commit roots
+  abbrev pub previous_left : (R → ℕ) → R → Phase → ℕ
+  previous_left behind r (Previous n) =
+      suc n + roots_left behind (after_answers (suc n) r) (phase (after_answers (suc n) r))
+  previous_left behind r p = roots_left behind r p
 
-  -- of a reader that reads the document of a node, or what belongs to it
-  abbrev pub main_left : (Reader → ℕ) → Reader → Step → ℕ
-  main_left behind r step.Main = suc (previous_left behind (read_on t r) (read_on t r).step)
-  main_left behind r s = previous_left behind r s
+  -- how many are left of a reader that asks for the document of a node, or reads what belongs to it
+  abbrev pub main_left : (R → ℕ) → R → Phase → ℕ
+  main_left behind r Main = suc (previous_left behind (answered r) (phase (answered r)))
+  main_left behind r p = previous_left behind r p
 
-  -- of a reader that asks for the next document
-  abbrev pub next_left : (Reader → ℕ) → Reader → Step → ℕ
-  next_left behind r step.Next = suc (previous_left behind (read_on t r) (read_on t r).step)
+  -- how many are left of a reader that asks for the document behind
+  abbrev pub next_left : (R → ℕ) → R → Phase → ℕ
+  next_left behind r Next = suc (previous_left behind (answered r) (phase (answered r)))
   next_left behind r _ = 0
 
-  -- the same, for at most so many documents
-  abbrev pub nexts_left : ℕ → Reader → ℕ
+  -- how many are left of such a reader, where at most so many documents are behind
+  abbrev pub nexts_left : ℕ → R → ℕ
   nexts_left zero r = 0
-  nexts_left (suc n) r = next_left (λ q. nexts_left n q) r r.step
+  nexts_left (suc n) r = next_left (λ q. nexts_left n q) r (phase r)
 
-  -- how many documents stand behind that of a path
-  abbrev pub documents_behind : Path → ℕ
-  documents_behind p = length (filter (λ x. is_lt (id_cmp (id.Node p) x)) (keys_of t.documents))
+  -- how many are left of any reader, where at most so many documents are behind
+  abbrev pub asks_left : ℕ → R → ℕ
+  asks_left n r = main_left (λ q. nexts_left n q) r (phase r)
 
-  -- of a reader, over documents at rest
-  abbrev pub reads_left : Reader → ℕ
-  reads_left r = main_left (λ q. nexts_left (documents_behind r.at) q) r r.step
+-- how many documents stand behind that of a path
+abbrev pub documents_behind : Table → Path → ℕ
+documents_behind t p = length (filter (λ x. is_lt (id_cmp (id.Node p) x)) (keys_of t.documents))
+
+-- where the reader of a load or a list stands
+abbrev pub phase_of : Reader → Phase
+phase_of r = by r.step
+  where
+    by : Step → Phase
+    by step.Main = Main
+    by (step.Previous left) = Previous (length left.rest)
+    by (step.Roots left) = Roots (length left.rest)
+    by step.Next = Next
+    by (step.Done o) = Done
+
+-- how many asks are left of a load or a list, over documents at rest
+abbrev pub reads_left : Table → Reader → ℕ
+reads_left t r = asks_left (read_on t) phase_of (documents_behind t r.at) r
+
+-- where a reader of changes stands; the first document of all it asks for as for one behind
+abbrev pub phase_told : ChangesReader → Phase
+phase_told r = by r.step
+  where
+    by : ChangesStep → Phase
+    by told.First = Next
+    by (told.Previous left) = Previous (length left.rest)
+    by (told.Roots left) = Roots (length left.rest)
+    by told.Next = Next
+    by (told.Done commits) = Done
+
+-- how many documents a reader of changes may come to: all where it asks for the first, else those
+-- behind that of its node
+abbrev pub documents_ahead : Table → ChangesReader → ℕ
+documents_ahead t r = by r.step
+  where
+    by : ChangesStep → ℕ
+    by told.First = length t.documents
+    by _ = documents_behind t r.at
+
+-- how many asks are left of a reader of changes, over documents at rest
+abbrev pub changes_left : Table → ChangesReader → ℕ
+changes_left t r = asks_left (changes_on t) phase_told (documents_ahead t r) r
 
 -- ---- a commit
 
@@ -115,6 +165,7 @@ abbrev pub names_in : List Path → ℕ
 names_in [] = 0
 names_in (p ∷ ps) = length p + names_in ps
 
+-- how many steps of an upkeep are left at most
 abbrev pub upkeep_left : NodeState → Upkeep → ℕ
 upkeep_left m upkeep.Write = suc (suc (names_in (seen_paths m.head m.notes)))
 upkeep_left m (upkeep.Noted n) = suc (length (told_ids n.paths))
@@ -129,6 +180,7 @@ upkeep_left m _ = 1
 abbrev pub left_of : ℕ → Table → NodeState → Work → ℕ
 left_of s t m work.Rest = 0
 left_of s t m (work.Read r) = suc (reads_left t r)
+left_of s t m (work.Changes r) = suc (changes_left t r)
 left_of s t m (work.Plan edit marks) =
     suc (commit_left t (begun (next_draw m) (base_at m s) edit marks) None)
 left_of s t m (work.Commit c) = commit_left t c c.outcome

@@ -48,6 +48,7 @@ shown_work work.Login = Starting task.Login
 shown_work work.End = Starting task.End
 shown_work work.Refresh = Starting task.Refresh
 shown_work (work.Read r) = Starting (task_of r.parent (path_read r))
+shown_work (work.Changes r) = Starting (task.Changes r.from)
 shown_work (work.Plan edit marks) = Starting (task.Commit edit marks)
 shown_work (work.Commit c) = shown_by c.revision c.outcome
 shown_work (work.Move r) = Awaiting r
@@ -57,6 +58,7 @@ shown_work (work.Upkeep u) = shown_upkeep u
 abbrev pub seat_of : ActorState → Seat
 seat_of a = record { work = shown_work a.work; room = a.reply; due = kind_due a.work }
 
+-- the seat of a session that isn't there
 abbrev pub no_seat : Seat
 no_seat = record { work = Idle; room = None; due = None }
 

@@ -7,6 +7,8 @@ use Rattle.jr_path.specs.Lists.{Text}
 use Rattle.jr_rev.specs.declared.revision.Revision.{Revision}
 use Rattle.jr_rev.specs.declared.vector.Pin.{Pin}
 use Rattle.jr_rev.specs.Vectors.{sees}
+use Rattle.oak_changes.specs.declared.changes.Step.TheVariants as observed
+use Rattle.oak_changes.specs.Reading as changes
 use Rattle.oak_clash.specs.Clashes.{marked_paths}
 use Rattle.oak_commit.specs.Clashing.{Met}
 use Rattle.oak_commit.specs.Committing.{Committing, begun, refused, wanting, with_undone, written_alone}
@@ -32,7 +34,7 @@ use Rattle.oak_node.specs.Heads.{AwaitsEarlier, learned, next_draw}
 use Rattle.oak_node.specs.Pins.{pin_now}
 use Rattle.oak_read.specs.Reading.{due}
 use Rattle.core_world.specs.States.{State, base_in, memory_of, nodes_in}
-use Rattle.core_world.specs.Steps.{after_attach, after_back, after_checkpoint, after_detach, after_learn, after_observe, after_out, after_pending, after_release, after_unfound, after_went, after_draw, after_finish, after_last, after_leave, after_login, after_mark, after_refresh, after_undoing, after_want, after_write, after_write_in_want, with_reader}
+use Rattle.core_world.specs.Steps.{after_attach, after_back, after_checkpoint, after_detach, after_learn, after_observe, after_out, after_pending, after_release, after_unfound, after_went, after_draw, after_finish, after_last, after_leave, after_login, after_mark, after_refresh, after_undoing, after_want, after_write, after_write_in_want, with_observer, with_reader}
 use Rattle.oak_port.specs.declared.task.StepOut.{StepOut}
 use Rattle.oak_port.specs.declared.task.StepOut.TheVariants as answers
 use Rattle.oak_port.specs.declared.task.TaskEnd.TheVariants as ends
@@ -42,7 +44,7 @@ use Rattle.oak_step.specs.Upkeeps.{set_checkpoint, told_ids}
 use Rattle.oak_step.specs.declared.work.Work.{Work}
 use Rattle.oak_step.specs.declared.work.Work.TheVariants as work
 use Rattle.oak_step.specs.Works.{kind_due}
-use Rattle.oak_step.specs.Parts.{EndsSo, committed, end_of_reading, marked, read_on}
+use Rattle.oak_step.specs.Parts.{EndsSo, changes_on, committed, end_of_reading, marked, read_on}
 use Rattle.oak_world.specs.Worlds.{WorldOf, actor_in, running_as, state_of, work_in}
 
 -- ---- who may be told what
@@ -178,6 +180,14 @@ Makes s w (work.Read r) u v (answers.Ready e) = (u ≡ with_reader w s None) × 
     × (end_of_reading (read_on w.table r).step ≡ Some e)
 Makes s w (work.Read r) u v answers.Memory = (u ≡ with_reader w s None) × (v ≡ work.Rest)
 Makes s w (work.Read r) u v _ = ⊥
+Makes s w (work.Changes r) u v (answers.Went kind.Read) =
+    (u ≡ with_observer w s (Some (changes_on w.table r))) × (v ≡ work.Changes (changes_on w.table r))
+    × (changes.due (changes_on w.table r) ≢ ask.Done)
+Makes s w (work.Changes r) u v (answers.Ready (ends.Changes commits)) =
+    (u ≡ with_observer w s None) × (v ≡ work.Rest)
+    × ((changes_on w.table r).step ≡ observed.Done commits)
+Makes s w (work.Changes r) u v answers.Memory = (u ≡ with_observer w s None) × (v ≡ work.Rest)
+Makes s w (work.Changes r) u v _ = ⊥
 Makes s w (work.Plan edit marks) u v (answers.Went kind.Draw) =
     (u ≡ after_draw w s edit marks (marked_paths marks))
     × (v ≡ work.Commit (begun (next_draw (memory_of w s)) (base_in w s) edit marks))
@@ -197,6 +207,7 @@ abbrev pub reads_of_load : StepOut → ℕ → ℕ
 reads_of_load answers.Memory n = n
 reads_of_load _ n = min (n + 1) (2 ^ 64 - 1)
 
+-- the reads that are counted, after a step of a session's work
 abbrev pub reads_after : Work → StepOut → ℕ → ℕ
 reads_after (work.Read r) o n = reads_of_load o n
 reads_after _ o n = n
@@ -208,6 +219,7 @@ attaching_by (upkeep.Attach i) = Some true
 attaching_by upkeep.Detach = Some false
 attaching_by _ = None
 
+-- whether a session is attached once its work is made, where that moves its base
 abbrev pub attaching : Work → Option Bool
 attaching work.Login = Some false
 attaching work.Refresh = Some false

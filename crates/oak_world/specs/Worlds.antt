@@ -4,6 +4,7 @@ use Rattle.std.specs.Option.{unwrap_or}
 use Rattle.std.specs.List.{range_with_len}
 use Rattle.jr_path.specs.Lists.{Text}
 use Rattle.jr_rev.specs.Vectors.{start}
+use Rattle.oak_changes.specs.declared.changes.ChangesReader.{ChangesReader}
 use Rattle.oak_commit.specs.Committing.{Committing, is_past}
 use Rattle.oak_commit.specs.Kept.{undoes, wants}
 use Rattle.oak_machine.specs.declared.event.Event.{Event}
@@ -32,6 +33,7 @@ pub record ActorState : Type 0 where
   pub reads : ℕ
   pub attached : Bool
 
+-- a session's part of the world, as it is shown
 abbrev pub shown_actor : Actor → ActorState
 shown_actor a = record {
   work = a.work;
@@ -47,9 +49,11 @@ pub record Story : Type 0 where
   pub sessions : List ℕ
   pub past : Past
 
+-- the history of a story, which begins with nothing
 abbrev pub live : Story → History
 live h = record { clusters = h.clusters; sessions = h.sessions; begin = None; past = h.past }
 
+-- the story that a journal tells, the newest event first
 abbrev pub story_of : Journal → Story
 story_of j = record { clusters = j.clusters; sessions = j.sessions; past = reverse j.events.list }
 
@@ -80,6 +84,7 @@ idle = record { work = work.Rest; began = 0; reply = None; reads = 0; attached =
 abbrev pub actor_in : List ActorState → ℕ → ActorState
 actor_in actors s = unwrap_or (slice_get actors s) idle
 
+-- the work of a session, among all
 abbrev pub work_in : List ActorState → ℕ → Work
 work_in actors s = (actor_in actors s).work
 
@@ -109,14 +114,22 @@ running_as s c = record {
   committed = is_past c.outcome;
 }
 
+-- a session's committer, where it commits
 abbrev pub running_of : ℕ → Work → Option Running
 running_of s (work.Commit c) = Some (running_as s c)
 running_of s _ = None
 
+-- a session's reader, where it loads
 abbrev pub reading_of : Work → Option Reader
 reading_of (work.Read r) = Some r
 reading_of _ = None
 
+-- the reader of what changed that a session's work has
+abbrev pub observing_of : Work → Option ChangesReader
+observing_of (work.Changes r) = Some r
+observing_of _ = None
+
+-- the state of a world: its story, its table, its nodes' memories and what its sessions do
 abbrev pub state_with : Story → Table → List NodeState → List ActorState → State
 state_with h t ms actors = record {
   clusters = h.clusters;
@@ -126,7 +139,7 @@ state_with h t ms actors = record {
   memories = ms;
   running = λ s. running_of s (work_in actors s);
   reading = λ s. reading_of (work_in actors s);
-  observing = λ s. None;
+  observing = λ s. observing_of (work_in actors s);
   formers = λ p k. None;
 }
 

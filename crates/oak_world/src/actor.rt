@@ -184,6 +184,7 @@ fn is_read(work: &Work) -> bool
         | Work::Login
         | Work::End
         | Work::Refresh
+        | Work::Changes(_)
         | Work::Plan(_, _)
         | Work::Commit(_)
         | Work::Move(_)
@@ -198,7 +199,12 @@ fn attaching(work: &Work) -> Option<bool>
     match work {
         Work::Login | Work::Refresh | Work::Move(_) => Some(false),
         Work::Upkeep(upkeep) => attaching_by(upkeep),
-        Work::Rest | Work::End | Work::Read(_) | Work::Plan(_, _) | Work::Commit(_) => None,
+        Work::Rest
+        | Work::End
+        | Work::Read(_)
+        | Work::Changes(_)
+        | Work::Plan(_, _)
+        | Work::Commit(_) => None,
     }
 }
 

@@ -76,6 +76,7 @@ pub record Effect : Type 0 where
   pub sink_now : Output
   pub left : Option (WorldOf JcrLaw)
 
+-- what a call does: what it reads and writes, and the world that it leaves, if it leaves one
 abbrev pub effect : Input → Input → Output → Output → Option (WorldOf JcrLaw) → Effect
 effect source source_now sink sink_now left = record {
   source = source;
@@ -91,6 +92,7 @@ pub record Call : Type 0 where
   pub words : List (List ℕ)
   pub does : Effect
 
+-- a call of the program: with threads or without, its words, and what it does
 abbrev pub call : Bool → List (List ℕ) → Effect → Call
 call threads words does = record { threads = threads; words = words; does = does }
 

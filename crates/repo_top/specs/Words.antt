@@ -30,6 +30,7 @@ pub record TableRow : Type 0 where
 abbrev pub row_option : WordOption → RowOption
 row_option o = record { name = o.name.now; takes = o.takes; required = o.required }
 
+-- a row of the table of words, without where its parts lie in memory
 abbrev pub table_row : Row → TableRow
 table_row r = record { command = r.command.now; verb = r.verb; options = map row_option r.options.now }
 

@@ -5,12 +5,11 @@ ghost use Rattle.sql_pieces.specs.Reading.{Reads, ReadsAs};
 ghost use Rattle.sql_query.specs.Trees.{look_of};
 ghost use Rattle.sql_query.specs.Trees as tree;
 
-use crate::cursor::{Cursor, both};
-use crate::names::only_or;
 use jr_path::{Name, Text};
 use jr_value::{Kind, Value};
 use sql_pieces::{Placed, Says, Sign, SqlFault, is_a, kind_first, literal_first, text_first};
 use sql_query::{DEEPEST, Operand, Operator, PropertyOf};
+use sql_select::{Cursor, both, only_or};
 use std::alloc::Global;
 
 fn operator_in(says: &Says) -> Option<Operator>
@@ -71,174 +70,172 @@ fn upper(alloc: Global, operand: Operand) -> Result<Operand, SqlFault>
     Ok(Operand::Upper(operand))
 }
 
-impl<'a> Cursor<'a> {
-    // ( property ), behind a function's word
-    fn property_call(&mut self, names: &[Name]) -> Result<PropertyOf, SqlFault>
-        ensures { Reads result self.new (property_call names.now self.old) }
-    {
-        self.open()?;
-        let property = self.property(names)?;
-        self.closed(property)
-    }
+// ( property ), behind a function's word
+fn property_call(cursor: &mut Cursor<'_>, names: &[Name]) -> Result<PropertyOf, SqlFault>
+    ensures { Reads result cursor.new (property_call names.now cursor.old) }
+{
+    cursor.open()?;
+    let property = cursor.property(names)?;
+    cursor.closed(property)
+}
 
-    // ( [name] ), behind a function's word
-    fn selector_call(&mut self, names: &[Name]) -> Result<u32, SqlFault>
-        ensures { Reads result self.new (selector_call names.now self.old) }
-    {
-        self.open()?;
-        if self.is_sign(Sign::Close) {
-            let selector = only_or(names, self.place())?;
-            self.advance();
-            return Ok(selector);
-        }
-        let selector = self.declared(names)?;
-        self.closed(selector)
+// ( [name] ), behind a function's word
+fn selector_call(cursor: &mut Cursor<'_>, names: &[Name]) -> Result<u32, SqlFault>
+    ensures { Reads result cursor.new (selector_call names.now cursor.old) }
+{
+    cursor.open()?;
+    if cursor.is_sign(Sign::Close) {
+        let selector = only_or(names, cursor.place())?;
+        cursor.advance();
+        return Ok(selector);
     }
+    let selector = cursor.declared(names)?;
+    cursor.closed(selector)
+}
 
-    // property | LENGTH(property) | NAME([name]) | LOCALNAME([name])
-    fn plain_operand(&mut self, names: &[Name]) -> Result<Operand, SqlFault>
-        ensures { ReadsAs look_of result self.new (plain_operand names.now self.old) }
-    {
-        if self.is_call("LENGTH") {
-            return self.property_call(names).map(Operand::Length);
-        }
-        if self.is_call("NAME") {
-            return self.selector_call(names).map(Operand::Name);
-        }
-        if self.is_call("LOCALNAME") {
-            return self.selector_call(names).map(Operand::LocalName);
-        }
-        self.property(names).map(Operand::Property)
+// property | LENGTH(property) | NAME([name]) | LOCALNAME([name])
+fn plain_operand(cursor: &mut Cursor<'_>, names: &[Name]) -> Result<Operand, SqlFault>
+    ensures { ReadsAs look_of result cursor.new (plain_operand names.now cursor.old) }
+{
+    if cursor.is_call("LENGTH") {
+        return property_call(cursor, names).map(Operand::Length);
     }
-
-    // ( operand ), behind a function's word; `level` counts this operand.
-    #[cycle(operand)]
-    fn operand_call(
-        &mut self,
-        alloc: Global,
-        names: &[Name],
-        room: &[Placed],
-        level: usize,
-    ) -> Result<Operand, SqlFault>
-        ensures { ReadsAs look_of result self.new (operand_call (operand_at names.now room.now) self.old) }
-    {
-        self.open()?;
-        let operand = self.operand(alloc, names, room, level)?;
-        self.closed(operand)
+    if cursor.is_call("NAME") {
+        return selector_call(cursor, names).map(Operand::Name);
     }
-
-    // operand = property | LENGTH(property) | NAME([name]) | LOCALNAME([name]) | LOWER(operand) | UPPER(operand).
-    // No more operands stand inside one another than `room` has pieces; this stands inside so many as `level` says, and
-    // no more than DEEPEST have memory.
-    #[cycle(operand)]
-    pub(crate) fn operand(
-        &mut self,
-        alloc: Global,
-        names: &[Name],
-        room: &[Placed],
-        level: usize,
-    ) -> Result<Operand, SqlFault>
-        ensures { ReadsAs look_of result self.new (operand_at names.now room.now self.old) }
-    {
-        let [_, room @ ..] = room else {
-            return Err(self.fault());
-        };
-        if level > DEEPEST {
-            return Err(SqlFault::Memory);
-        }
-        if self.is_call("LOWER") {
-            let operand = self.operand_call(alloc, names, room, level + 1)?;
-            return lower(alloc, operand);
-        }
-        if self.is_call("UPPER") {
-            let operand = self.operand_call(alloc, names, room, level + 1)?;
-            return upper(alloc, operand);
-        }
-        self.plain_operand(names)
+    if cursor.is_call("LOCALNAME") {
+        return selector_call(cursor, names).map(Operand::LocalName);
     }
+    cursor.property(names).map(Operand::Property)
+}
 
-    // op = = | <> | < | <= | > | >= | LIKE
-    pub(crate) fn operator(&mut self) -> Result<Operator, SqlFault>
-        ensures { Reads result self.new (operator_at self.old) }
-    {
-        let Some(operator) = operator_first(self.pieces) else {
-            return Err(self.fault());
-        };
-        self.advance();
-        Ok(operator)
+// ( operand ), behind a function's word; `level` counts this operand.
+#[cycle(operand)]
+fn operand_call(
+    cursor: &mut Cursor<'_>,
+    alloc: Global,
+    names: &[Name],
+    room: &[Placed],
+    level: usize,
+) -> Result<Operand, SqlFault>
+    ensures { ReadsAs look_of result cursor.new (operand_call (operand_at names.now room.now) cursor.old) }
+{
+    cursor.open()?;
+    let operand = operand(cursor, alloc, names, room, level)?;
+    cursor.closed(operand)
+}
+
+// operand = property | LENGTH(property) | NAME([name]) | LOCALNAME([name]) | LOWER(operand) | UPPER(operand).
+// No more operands stand inside one another than `room` has pieces; this stands inside so many as `level` says, and
+// no more than DEEPEST have memory.
+#[cycle(operand)]
+pub(crate) fn operand(
+    cursor: &mut Cursor<'_>,
+    alloc: Global,
+    names: &[Name],
+    room: &[Placed],
+    level: usize,
+) -> Result<Operand, SqlFault>
+    ensures { ReadsAs look_of result cursor.new (operand_at names.now room.now cursor.old) }
+{
+    let [_, room @ ..] = room else {
+        return Err(cursor.fault());
+    };
+    if level > DEEPEST {
+        return Err(SqlFault::Memory);
     }
-
-    // text | number | TRUE | FALSE | $name
-    fn literal(&mut self) -> Result<Value, SqlFault>
-        ensures { Reads result self.new (literal_at self.old) }
-    {
-        let Some(value) = literal_first(self.pieces)? else {
-            return Err(self.fault());
-        };
-        self.advance();
-        Ok(value)
+    if cursor.is_call("LOWER") {
+        let operand = operand_call(cursor, alloc, names, room, level + 1)?;
+        return lower(alloc, operand);
     }
-
-    // A text, with its value in a CAST.
-    fn text(&mut self) -> Result<(Text, Option<Value>), SqlFault>
-        ensures { Reads result self.new (text_at self.old) }
-    {
-        let Some(text) = text_first(self.pieces)? else {
-            return Err(self.fault());
-        };
-        self.advance();
-        Ok(text)
+    if cursor.is_call("UPPER") {
+        let operand = operand_call(cursor, alloc, names, room, level + 1)?;
+        return upper(alloc, operand);
     }
+    plain_operand(cursor, names)
+}
 
-    // The word of a kind.
-    fn kind(&mut self) -> Result<Kind, SqlFault>
-        ensures { Reads result self.new (kind_at self.old) }
-    {
-        let Some(kind) = kind_first(self.pieces) else {
-            return Err(self.fault());
-        };
-        self.advance();
-        Ok(kind)
-    }
+// op = = | <> | < | <= | > | >= | LIKE
+pub(crate) fn operator(cursor: &mut Cursor<'_>) -> Result<Operator, SqlFault>
+    ensures { Reads result cursor.new (operator_at cursor.old) }
+{
+    let Some(operator) = operator_first(cursor.pieces) else {
+        return Err(cursor.fault());
+    };
+    cursor.advance();
+    Ok(operator)
+}
 
-    // The value of a CAST. Where the text has no value of the kind, the kind is noted, and the text stands for it.
-    fn cast_value(&mut self, kind: Kind, text: Text, value: Option<Value>) -> Value
-        ensures { (result, self.new) ≡ cast_value kind (text, value) self.old }
-    {
-        match value {
-            Some(value) => value,
-            None => {
-                self.refused = first_kind(self.refused, kind);
-                Value::Str(text)
-            }
+// text | number | TRUE | FALSE | $name
+fn literal(cursor: &mut Cursor<'_>) -> Result<Value, SqlFault>
+    ensures { Reads result cursor.new (literal_at cursor.old) }
+{
+    let Some(value) = literal_first(cursor.pieces)? else {
+        return Err(cursor.fault());
+    };
+    cursor.advance();
+    Ok(value)
+}
+
+// A text, with its value in a CAST.
+fn text(cursor: &mut Cursor<'_>) -> Result<(Text, Option<Value>), SqlFault>
+    ensures { Reads result cursor.new (text_at cursor.old) }
+{
+    let Some(text) = text_first(cursor.pieces)? else {
+        return Err(cursor.fault());
+    };
+    cursor.advance();
+    Ok(text)
+}
+
+// The word of a kind.
+fn kind(cursor: &mut Cursor<'_>) -> Result<Kind, SqlFault>
+    ensures { Reads result cursor.new (kind_at cursor.old) }
+{
+    let Some(kind) = kind_first(cursor.pieces) else {
+        return Err(cursor.fault());
+    };
+    cursor.advance();
+    Ok(kind)
+}
+
+// The value of a CAST. Where the text has no value of the kind, the kind is noted, and the text stands for it.
+fn cast_value(cursor: &mut Cursor<'_>, kind: Kind, text: Text, value: Option<Value>) -> Value
+    ensures { (result, cursor.new) ≡ cast_value kind (text, value) cursor.old }
+{
+    match value {
+        Some(value) => value,
+        None => {
+            cursor.refused = first_kind(cursor.refused, kind);
+            Value::Str(text)
         }
     }
+}
 
-    // CAST(text AS kind)
-    fn cast(&mut self) -> Result<Value, SqlFault>
-        ensures { Reads result self.new (cast_at self.old) }
-    {
-        self.advance();
-        self.sign(Sign::Open)?;
-        let text = self.text()?;
-        let word = self.word("AS");
-        let (text, ()) = both(text, word)?;
-        let kind = self.kind();
-        let (text, kind) = both(text, kind)?;
-        let close = self.sign(Sign::Close);
-        let ((text, value), ()) = both(text, close)?;
-        Ok(self.cast_value(kind, text, value))
-    }
+// CAST(text AS kind)
+fn cast(cursor: &mut Cursor<'_>) -> Result<Value, SqlFault>
+    ensures { Reads result cursor.new (cast_at cursor.old) }
+{
+    cursor.advance();
+    cursor.sign(Sign::Open)?;
+    let text = text(cursor)?;
+    let word = cursor.word("AS");
+    let (text, ()) = both(text, word)?;
+    let kind = kind(cursor);
+    let (text, kind) = both(text, kind)?;
+    let close = cursor.sign(Sign::Close);
+    let ((text, value), ()) = both(text, close)?;
+    Ok(cast_value(cursor, kind, text, value))
+}
 
-    // static = text | number | TRUE | FALSE | $name | CAST(text AS kind)
-    pub(crate) fn constant(&mut self) -> Result<Value, SqlFault>
-        ensures { Reads result self.new (static_at self.old) }
-    {
-        if self.is_word("CAST") {
-            let value = self.cast()?;
-            return Ok(value);
-        }
-        let value = self.literal()?;
-        Ok(value)
+// static = text | number | TRUE | FALSE | $name | CAST(text AS kind)
+pub(crate) fn constant(cursor: &mut Cursor<'_>) -> Result<Value, SqlFault>
+    ensures { Reads result cursor.new (static_at cursor.old) }
+{
+    if cursor.is_word("CAST") {
+        let value = cast(cursor)?;
+        return Ok(value);
     }
+    let value = literal(cursor)?;
+    Ok(value)
 }

@@ -22,6 +22,7 @@ pub(crate) fn add(line: &str, table: &mut DocTable, out: &mut Out) {
         "moved" => letters::add_moved(rest, out),
         "copies" => add_copies(out),
         "memory" => nodes::add(out),
+        "changed" => nodes::add_changed(out),
         "node" => reading::add_node(rest, table, out),
         "children" => reading::add_children(rest, table, out),
         _ => out.put("no row"),

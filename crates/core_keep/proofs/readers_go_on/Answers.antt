@@ -16,7 +16,7 @@ pub returns-clause-ends : goal.returns-clause-ends
 returns-clause-ends c = known_tree
 
 pub returns-clause-finds : goal.returns-clause-finds
-returns-clause-finds c = λ ds k v t p copy asked look j f reads fall held former copied shown way. reads_found ds k v t p copy asked look reads fall held j f former copied shown way
+returns-clause-finds c = λ ds k v t p copy asked look j f reads held former copied shown way. reads_found ds k v t p copy asked look reads held j f former copied shown way
 
 pub returns-clause-shows : goal.returns-clause-shows
 returns-clause-shows c = λ ds k v t p copy f held is followed. shown_copy ds k v t p copy f held is followed

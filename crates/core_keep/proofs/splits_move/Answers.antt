@@ -1,10 +1,11 @@
 use Rattle.core_read.specs.Holds.{the_start}
-use Rattle.core_keep.proofs.Collecting.{split_writes, split_lists}
+use Rattle.core_keep.proofs.Collecting.{split_lists}
+use Rattle.core_keep.proofs.Staying.{missing_unlisted}
 use Rattle.core_keep.proofs.Splits.{split_copies}
 use Rattle.core_keep.proofs.splits_move.Goals as goal
 
-pub returns-clause-write : goal.returns-clause-write
-returns-clause-write c = split_writes
+pub returns-clause-unlisted : goal.returns-clause-unlisted
+returns-clause-unlisted c = λ ds k formers p n are numbered none. missing_unlisted ds k formers are p n numbered none
 
 pub returns-clause-list : goal.returns-clause-list
 returns-clause-list c = split_lists

@@ -1,11 +1,9 @@
 -- By the events of a run.
-use Rattle.std.specs.Prelude.{filter, not}
-use Rattle.jr_rev.specs.Vectors.{sees}
 use Rattle.oak_node.proofs.Places.{insert_sorted, remove_sorted}
 use Rattle.core_nodes.proofs.memories_follow_the_journal.Goals as goal
 use Rattle.core_nodes.proofs.Learning.{learn_run}
 use Rattle.core_nodes.proofs.Recovering.{flying_all, recovery_apart, recovery_run, stop_kept}
-use Rattle.core_nodes.proofs.Events.{apart_run, begun_is, draw_run, end_flies, end_run, moved_run, next_is, notes_kept, pins_kept}
+use Rattle.core_nodes.proofs.Events.{apart_run, begun_is, draw_run, drop_kept, end_flies, end_run, moved_run, next_is, note_kept, pins_kept}
 
 pub returns-clause-begun : goal.returns-clause-begun
 returns-clause-begun g c = λ begin clusters sessions k nodes begins node. begun_is begin clusters sessions nodes begins k node
@@ -35,10 +33,10 @@ pub returns-clause-apart : goal.returns-clause-apart
 returns-clause-apart g c = λ begin clusters sessions past e k s nodes run leaves is. apart_run begin (g.L.Law.may_start c.args.law.now) (g.L.Law.may_say c.args.law.now) clusters sessions nodes e past k s run leaves is
 
 pub returns-clause-noted : goal.returns-clause-noted
-returns-clause-noted g c = λ begin clusters past k s path r is. notes_kept begin clusters past k s _ is
+returns-clause-noted g c = λ begin clusters past k s path r last is. note_kept begin clusters past k s path r last is
 
 pub returns-clause-published : goal.returns-clause-published
-returns-clause-published g c = λ begin clusters past k s is. notes_kept begin clusters past k s (filter (λ note. not (sees s.head note.revision)) s.notes) is
+returns-clause-published g c = drop_kept
 
 pub returns-clause-pinned : goal.returns-clause-pinned
 returns-clause-pinned g c = λ begin clusters past k s owner pin is. pins_kept begin clusters past k s _ is (insert_sorted owner pin s.pins is.memory.owners)

@@ -1,5 +1,5 @@
 -- By what a run keeps.
-use Rattle.std.proofs.Common.{refl, None}
+use Rattle.std.proofs.Common.{refl}
 use Rattle.core_heads.proofs.Runs.{sound_run}
 use Rattle.core_nodes.proofs.waiting_follows_the_journal.Goals as goal
 use Rattle.core_nodes.proofs.Events.{node_of}

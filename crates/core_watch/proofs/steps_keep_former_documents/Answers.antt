@@ -23,7 +23,7 @@ pub returns-clause-pruned : goal.returns-clause-pruned
 returns-clause-pruned c = λ ds now past done p old d formers world is main pruned are. formers_pruned ds now past done world p old d is main pruned formers are
 
 pub returns-clause-moved : goal.returns-clause-moved
-returns-clause-moved c = λ ds now past done p old d e x formers world is there main moved new are. formers_listed ds now past done world p old d e x is there main moved formers new are
+returns-clause-moved c = λ ds now past done p old d e x formers world is there main moved number new are. formers_listed ds now past done world p old d e x is there main moved number formers new are
 
 pub returns-clause-removed : goal.returns-clause-removed
 returns-clause-removed c = λ ds now past done p old formers world is elsewhere gone previous unwanted are. formers_removed ds now past done world p old is elsewhere gone previous unwanted formers are

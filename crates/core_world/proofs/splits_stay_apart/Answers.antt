@@ -3,7 +3,7 @@ use Rattle.core_world.proofs.Numbers.{passed_on}
 use Rattle.core_world.proofs.splits_stay_apart.Goals as goal
 
 pub returns-clause-begins : goal.returns-clause-begins
-returns-clause-begins c = λ t past done p k x kept none early low within. copied_now t past done kept p k x none early low within
+returns-clause-begins c = λ t k formers p n x are numbered none early low within. copied_now t k formers are p n x numbered none early low within
 
 pub returns-clause-apart : goal.returns-clause-apart
 returns-clause-apart c = copied_apart

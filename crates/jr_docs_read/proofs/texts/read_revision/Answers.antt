@@ -1,4 +1,4 @@
-use Rattle.std.proofs.Common.{◌≡◌, List, ℕ, sym, subst, ◌∙◌}
+use Rattle.std.proofs.Common.{List, ℕ, sym, subst, ◌∙◌}
 use Rattle.jr_docs_read.proofs.Answered.{no_fault, read_as}
 use Rattle.jr_rev.specs.Grammar.{IsRevisionText}
 use Rattle.jr_rev.proofs.Hexadecimal.{revision_text_is}

@@ -20,6 +20,7 @@ returns-clause-holds c = λ d h settled proper refers.
       is_kept = refl;
       references = refl;
       tokens = refl;
+      cursor = refl;
     }) (holds_moved_knowing d c.args.self.now c.args.base (applied (Some c.args.by) d.base c.args.edit.now.writes) c.follow.new.self h settled after c.follow.ensures.order
     (λ agrees. c.follow.ensures.follows.agrees d.base tree proper agrees)
     (references_dated c.args.by d.base c.args.edit.now.writes refers))

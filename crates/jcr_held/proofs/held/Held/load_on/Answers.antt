@@ -15,5 +15,6 @@ returns-clause-wanted c = λ d m h.
       is_kept = refl;
       references = refl;
       tokens = refl;
+      cursor = refl;
     }) h c.load_left.result
     (subst (λ (k : Knowledge). IfOk c.load_left.result (λ load. IfSome load (IsMetFirst k c.args.self.now.pending c.args.self.now.is_kept))) c.as_part.ensures c.load_left.ensures)

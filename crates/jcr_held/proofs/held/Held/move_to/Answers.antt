@@ -14,4 +14,5 @@ returns-clause-moved c = λ d t h settled tree.
       is_kept = refl;
       references = refl;
       tokens = refl;
+      cursor = refl;
     }) (holds_moved d c.args.self.now c.args.base t h settled tree)

@@ -2,7 +2,7 @@ use Rattle.std.proofs.Common.{subst, sym, refl, true, false, ◌≡◌}
 use Rattle.jcr_trans.specs.declared.command.Command.{Command}
 use Rattle.jcr_view.specs.Outcomes.{is_viewed}
 use Rattle.jcr_law.specs.Calls.{call_after}
-use Rattle.jcr_held.specs.Accepts.{TokensFit}
+use Rattle.jcr_held.specs.Accepts.{AcceptsAs}
 use Rattle.jcr_held.specs.Holds.{Holds}
 use Rattle.jcr_session.proofs.Nexts.{next_there, none_there, same_next}
 use Rattle.jcr_session.proofs.run.SessionRun.accept.Goals as goal
@@ -17,7 +17,7 @@ returns c = record {
   holds = λ m x next holds fit.
       (let at = same_next c.args.self.now.commands c.args.self.now.index c.in-Some.command.now m (let h = c.in-Some.ensures.lookup in next_there c.args.self.now.commands c.as_slice.result.now c.args.self.now.index c.in-Some.command.now c.as_slice.ensures h.3.0 h.1) next in
       subst (λ (n : Command). Holds (call_after true c.args.drew x n) c.accept.new.self) at
-      (c.accept.ensures x holds (subst (λ (n : Command). TokensFit c.args.self.now.held c.args.tokens x n) (sym at) (fit refl))));
+      (c.accept.ensures x holds (subst (λ (n : Command). AcceptsAs c.args.self.now.held c.args.tokens x n) (sym at) (fit refl))));
 }
 
 pub unreachable-requires : goal.unreachable-requires

@@ -1,11 +1,14 @@
-use Rattle.std.proofs.Common.{refl}
+use Rattle.std.proofs.Common.{ap, refl}
 use Rattle.jcr_session.specs.declared.next.Due.TheVariants as due
 use Rattle.jcr_session.proofs.Calling.{comes_by}
 use Rattle.jcr_session.proofs.Nexts.{commits_there, next_due, next_there, none_there}
+use Rattle.jcr_session.proofs.Readying.{ready_by}
+use Rattle.jcr_session.specs.Standing.{is_events, reads_for}
 use Rattle.jcr_session.proofs.run.SessionRun.come.Goals as goal
 
 pub come-requires-clause-ready : goal.come-requires-clause-ready
-come-requires-clause-ready c = c.requires.ready.ready c.in-Some.command.now (let h = c.in-Some.ensures.lookup in next_there c.args.self.now.commands c.as_slice.result.now c.args.self.now.index c.in-Some.command.now c.as_slice.ensures h.3.0 h.1)
+come-requires-clause-ready c = ready_by c.args.self.now c.in-Some.command.now (let h = c.in-Some.ensures.lookup in next_there c.args.self.now.commands c.as_slice.result.now c.args.self.now.index c.in-Some.command.now c.as_slice.ensures h.3.0 h.1)
+    (ap reads_for c.requires.next) (ap is_events c.requires.next) c.requires.ready.ready
 
 pub come-requires-clause-commits : goal.come-requires-clause-commits
 come-requires-clause-commits c = commits_there c.args.self.now c.in-Some.command.now c.requires.next (let h = c.in-Some.ensures.lookup in next_there c.args.self.now.commands c.as_slice.result.now c.args.self.now.index c.in-Some.command.now c.as_slice.ensures h.3.0 h.1)

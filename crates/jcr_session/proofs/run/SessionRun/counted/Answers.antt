@@ -1,6 +1,6 @@
 use Rattle.std.proofs.Common.{subst, sym, ap}
 use Rattle.jcr_session.specs.declared.run.Phase.{Phase}
-use Rattle.jcr_session.specs.Standing.{HasEnded, is_committing, is_on_errand, is_told}
+use Rattle.jcr_session.specs.Standing.{HasEnded, is_committing, is_detaching, is_on_errand, is_told}
 use Rattle.jcr_session.proofs.Looking.{over_ends}
 use Rattle.jcr_session.proofs.Nearer.{reply_steps, steps_sooner}
 use Rattle.jcr_session.proofs.Undrawn.{reply_undrawn}
@@ -37,8 +37,14 @@ returns-in-Outside-clause-steps g c = steps_sooner _ _ _ c.log_in.result c.log_i
 pub returns-in-Between-clause-steps : goal.returns-in-Between-clause-steps
 returns-in-Between-clause-steps g c = steps_sooner _ _ _ c.rest.result c.rest.ensures.steps
 
-pub returns-in-Refreshed-clause-steps : goal.returns-in-Refreshed-clause-steps
-returns-in-Refreshed-clause-steps g c = reply_steps _ _ _ c.say_vector.result c.say_vector.ensures.said
+pub returns-in-Moved-clause-steps : goal.returns-in-Moved-clause-steps
+returns-in-Moved-clause-steps g c = reply_steps _ _ _ c.say_vector.result c.say_vector.ensures.said
+
+pub detach_on-requires-clause-detaches : goal.detach_on-requires-clause-detaches
+detach_on-requires-clause-detaches g c = ap is_detaching c.in-Detaching.is
+
+pub returns-in-Detaching-clause-steps : goal.returns-in-Detaching-clause-steps
+returns-in-Detaching-clause-steps g c = steps_sooner _ _ _ c.detach_on.result c.detach_on.ensures.steps
 
 pub returns-in-Committed-clause-steps : goal.returns-in-Committed-clause-steps
 returns-in-Committed-clause-steps g c = reply_steps _ _ _ c.say_end.result c.say_end.ensures.said

@@ -1,4 +1,6 @@
-use Rattle.std.proofs.Common.{sym}
+use Rattle.std.proofs.Common.{ap, sym}
+use Rattle.jcr_session.specs.Standing.{is_errand}
+use Rattle.jcr_session.proofs.Readying.{ready_lacks}
 use Rattle.jcr_session.proofs.Nexts.{reads_between}
 use Rattle.jcr_session.proofs.Nearer.{reply_steps}
 use Rattle.jcr_session.proofs.run.SessionRun.go_on.Goals as goal
@@ -8,6 +10,18 @@ refresh-requires-clause-next g c = sym c.in-Refresh.ensures
 
 pub refresh-requires-clause-between : goal.refresh-requires-clause-between
 refresh-requires-clause-between g c = reads_between c.args.self.now c.requires.reads
+
+pub attach-requires-clause-next : goal.attach-requires-clause-next
+attach-requires-clause-next g c = sym c.in-Attach.ensures
+
+pub attach-requires-clause-between : goal.attach-requires-clause-between
+attach-requires-clause-between g c = reads_between c.args.self.now c.requires.reads
+
+pub detach-requires-clause-next : goal.detach-requires-clause-next
+detach-requires-clause-next g c = sym c.in-Detach.ensures
+
+pub detach-requires-clause-between : goal.detach-requires-clause-between
+detach-requires-clause-between g c = reads_between c.args.self.now c.requires.reads
 
 pub query-requires-clause-next : goal.query-requires-clause-next
 query-requires-clause-next g c = sym c.in-Query.ensures
@@ -32,3 +46,12 @@ returns-in-Query-clause-steps g c = reply_steps _ _ _ c.query.result c.query.ens
 
 pub returns-in-See-clause-steps : goal.returns-in-See-clause-steps
 returns-in-See-clause-steps g c = reply_steps _ _ _ c.see.result c.see.ensures.said
+
+pub set_out-requires-clause-next : goal.set_out-requires-clause-next
+set_out-requires-clause-next g c = ap is_errand (sym c.in-Events.ensures)
+
+pub set_out-requires-clause-between : goal.set_out-requires-clause-between
+set_out-requires-clause-between g c = reads_between c.args.self.now c.requires.reads
+
+pub set_out-requires-clause-read : goal.set_out-requires-clause-read
+set_out-requires-clause-read g c = ready_lacks c.args.self.now (sym c.in-Events.ensures) c.requires.ready.ready

@@ -1,27 +1,29 @@
-use Rattle.std.proofs.Common.{refl, sym, false, subst, ◌∙◌, ◌<◌, arith}
+use Rattle.std.proofs.Common.{ap, refl, sym, false, subst, ◌∙◌, ◌<◌, arith}
 use Rattle.oak_port.specs.Ports.{Idle, Steps}
 use Rattle.oak_port.specs.declared.task.StepOut.{StepOut}
 use Rattle.oak_port.specs.declared.task.Task.TheVariants as task
 use Rattle.jcr_law.specs.Lasting.{says_of, starts_of}
 use Rattle.jcr_session.specs.declared.next.Due.TheVariants as due
-use Rattle.jcr_session.proofs.Asking.{refresh_asked}
 use Rattle.jcr_session.proofs.Calling.{busy_by, forgo_behind, steps_law, turned_idle}
 use Rattle.jcr_session.proofs.Coming.{pinned_is, refresh_comes, unpinned_is}
 use Rattle.jcr_session.proofs.Lawful.{at_between, between_forgoes, idle_by}
 use Rattle.jcr_session.proofs.Nexts.{next_due}
-use Rattle.jcr_session.proofs.Starting.{moves_base, refresh_begins, refresh_stops}
+use Rattle.jcr_session.proofs.Moved.{moves_base, refresh_asked, refresh_begins}
+use Rattle.jcr_session.proofs.Starting.{refresh_stops}
 use Rattle.jcr_session.proofs.Saying.{refused_room}
 use Rattle.jcr_session.proofs.Waiting.{by_waits}
 use Rattle.jcr_session.proofs.Nearer.{further, reply_steps}
 use Rattle.oak_machine.specs.declared.event.StepKind.TheVariants as kind
 use Rattle.jcr_session.specs.declared.run.Phase.TheVariants as phase
+use Rattle.jcr_session.proofs.Readying.{ready_by}
+use Rattle.jcr_session.specs.Standing.{is_events, reads_for}
 use Rattle.jcr_session.proofs.run.SessionRun.move_base.Goals as goal
 
 pub start-requires-clause-idle : goal.start-requires-clause-idle
 start-requires-clause-idle g c = idle_by (g.P.Port.law c.args.port.now) (g.P.Port.shown c.args.port.now) c.args.self.now c.requires.stands c.requires.between c.requires.ready.done
 
 pub start-requires-clause-may : goal.start-requires-clause-may
-start-requires-clause-may g c = refresh_begins (g.P.Port.law c.args.port.now) (g.P.Port.shown c.args.port.now) c.args.self.now c.requires.stands c.requires.between
+start-requires-clause-may g c = refresh_begins (g.P.Port.law c.args.port.now) (g.P.Port.shown c.args.port.now) c.args.self.now c.requires.stands c.requires.between c.requires.next
 
 pub start-requires-clause-asked : goal.start-requires-clause-asked
 start-requires-clause-asked g c = refresh_asked (g.P.Port.law c.args.port.now) (g.P.Port.shown c.args.port.now) c.args.self.now c.requires.stands c.requires.next
@@ -60,7 +62,7 @@ returns-in-Some-clause-turned g c =
     let new = g.P.Port.shown c.step.new.self in
     moves_base (g.P.Port.law c.args.port.now) (g.P.Port.shown c.args.port.now) mid new (g.P.Port.shown c.args.port.now).room c.args.self.now c.requires.stands c.requires.between c.requires.ready.done c.in-Some.pin c.requires.next c.requires.place c.in-Ok.ensures.ok
     (subst (λ (a : StepOut). Steps (starts_of (g.P.Port.law c.args.port.now)) (says_of (g.P.Port.law c.args.port.now)) mid new a) (pinned_is c.step.result c.in-Some.pin (sym c.in-Some.ensures)) (steps_law (g.P.Port.law c.args.port.now) (g.P.Port.law c.start.new.self) c.in-Ok.ensures.law mid new c.step.result c.step.ensures.steps))
-    c.move_to.new.self (λ x t holds is. c.move_to.ensures.moved x t holds (c.requires.ready.ready m.0 m.1).settled is) _ _ refl refl
+    c.move_to.new.self (λ x t holds is. c.move_to.ensures.moved x t holds (ready_by c.args.self.now m.0 m.1 (ap reads_for c.requires.next) (ap is_events c.requires.next) c.requires.ready.ready).settled is)
 
 -- memory was refused for the step
 pub forgo-requires-in-None-clause-forgoes : goal.forgo-requires-in-None-clause-forgoes
@@ -90,7 +92,7 @@ returns-in-None-clause-turned g c =
 -- it comes nearer
 pub returns-in-Some-clause-steps : goal.returns-in-Some-clause-steps
 returns-in-Some-clause-steps g c =
-    further c.args.self.now (record c.args.self.now { held = c.move_to.new.self; phase = phase.Refreshed c.in-Some.pin.base }) kind.Pin phase.Between c.requires.between refl refl (let lt : 1 < 3 = omega arith in lt)
+    further c.args.self.now (record c.args.self.now { held = c.move_to.new.self; phase = phase.Moved c.in-Some.pin.base }) kind.Pin phase.Between c.requires.between refl refl (let lt : 1 < 3 = omega arith in lt)
 
 pub returns-in-Err-clause-steps : goal.returns-in-Err-clause-steps
 returns-in-Err-clause-steps g c = reply_steps _ _ _ c.forgo.result c.forgo.ensures.said

@@ -4,27 +4,27 @@ use Rattle.jcr_session.proofs.Loads.{held_looked, read_none, read_made}
 use Rattle.jcr_session.proofs.Looking.{looked_both}
 use Rattle.jcr_session.proofs.Calling.{made_if}
 use Rattle.jcr_session.proofs.Nearing.{holds_called, next_nears}
-use Rattle.jr_part.specs.declared.need.Need.{Need}
+use Rattle.jcr_session.specs.declared.read.Fetch.{Fetch}
 use Rattle.jcr_session.specs.Standing.{IsWantedNext}
 use Rattle.jcr_session.proofs.run.SessionRun.read_next.Goals as goal
 
-pub returns-in_err-need-clause-looked : goal.returns-in_err-need-clause-looked
-returns-in_err-need-clause-looked g c = (held_looked (g.P.Port.law c.args.port.now) (g.P.Port.shown c.args.port.now) c.args.self.now c.requires.stands c.requires.reads c.next_load.new.self c.requires.none c.next_load.ensures.same c.next_load.ensures.holds).0
+pub returns-in_err-fetch-clause-looked : goal.returns-in_err-fetch-clause-looked
+returns-in_err-fetch-clause-looked g c = (held_looked (g.P.Port.law c.args.port.now) (g.P.Port.shown c.args.port.now) c.args.self.now c.requires.stands c.requires.reads c.next_fetch.new.self c.requires.none c.next_fetch.ensures.same c.next_fetch.ensures.holds).0
 
 pub read_first-requires-clause-stands : goal.read_first-requires-clause-stands
-read_first-requires-clause-stands g c = (held_looked (g.P.Port.law c.args.port.now) (g.P.Port.shown c.args.port.now) c.args.self.now c.requires.stands c.requires.reads c.next_load.new.self c.requires.none c.next_load.ensures.same c.next_load.ensures.holds).0.stands
+read_first-requires-clause-stands g c = (held_looked (g.P.Port.law c.args.port.now) (g.P.Port.shown c.args.port.now) c.args.self.now c.requires.stands c.requires.reads c.next_fetch.new.self c.requires.none c.next_fetch.ensures.same c.next_fetch.ensures.holds).0.stands
 
 pub returns-in-None-clause-looked : goal.returns-in-None-clause-looked
-returns-in-None-clause-looked g c = (held_looked (g.P.Port.law c.args.port.now) (g.P.Port.shown c.args.port.now) c.args.self.now c.requires.stands c.requires.reads c.next_load.new.self c.requires.none c.next_load.ensures.same c.next_load.ensures.holds).0
+returns-in-None-clause-looked g c = (held_looked (g.P.Port.law c.args.port.now) (g.P.Port.shown c.args.port.now) c.args.self.now c.requires.stands c.requires.reads c.next_fetch.new.self c.requires.none c.next_fetch.ensures.same c.next_fetch.ensures.holds).0
 
 pub returns-in-None-clause-read : goal.returns-in-None-clause-read
 returns-in-None-clause-read g c =
-    read_none (g.P.Port.shown c.args.port.now) c.args.self.now c.next_load.new.self (held_looked (g.P.Port.law c.args.port.now) (g.P.Port.shown c.args.port.now) c.args.self.now c.requires.stands c.requires.reads c.next_load.new.self c.requires.none c.next_load.ensures.same c.next_load.ensures.holds).1.unread (c.in_ok-need.ensures.ready c.in-None.is)
+    read_none (g.P.Port.shown c.args.port.now) c.args.self.now c.next_fetch.new.self (held_looked (g.P.Port.law c.args.port.now) (g.P.Port.shown c.args.port.now) c.args.self.now c.requires.stands c.requires.reads c.next_fetch.new.self c.requires.none c.next_fetch.ensures.same c.next_fetch.ensures.holds).1.unread (c.in_ok-fetch.ensures.ready c.in-None.is)
 
 pub returns-in-Some-clause-looked : goal.returns-in-Some-clause-looked
 returns-in-Some-clause-looked g c =
-    looked_both (g.P.Port.law c.args.port.now) (g.P.Port.law c.args.port.now) (g.P.Port.shown c.args.port.now) (g.P.Port.shown c.args.port.now) (g.P.Port.shown c.read_first.new.port) c.args.self.now c.next_load.new.self c.read_first.new.self refl c.requires.stands.nodes
-    (held_looked (g.P.Port.law c.args.port.now) (g.P.Port.shown c.args.port.now) c.args.self.now c.requires.stands c.requires.reads c.next_load.new.self c.requires.none c.next_load.ensures.same c.next_load.ensures.holds).0 c.read_first.ensures.looked
+    looked_both (g.P.Port.law c.args.port.now) (g.P.Port.law c.args.port.now) (g.P.Port.shown c.args.port.now) (g.P.Port.shown c.args.port.now) (g.P.Port.shown c.read_first.new.port) c.args.self.now c.next_fetch.new.self c.read_first.new.self refl c.requires.stands.nodes
+    (held_looked (g.P.Port.law c.args.port.now) (g.P.Port.shown c.args.port.now) c.args.self.now c.requires.stands c.requires.reads c.next_fetch.new.self c.requires.none c.next_fetch.ensures.same c.next_fetch.ensures.holds).0 c.read_first.ensures.looked
 
 pub returns-in-Some-clause-read : goal.returns-in-Some-clause-read
 returns-in-Some-clause-read g c = read_made c.read_first.result (g.P.Port.shown c.args.port.now) (g.P.Port.shown c.read_first.new.port) c.args.self.now c.read_first.new.self c.requires.reads c.read_first.ensures.made
@@ -32,15 +32,15 @@ returns-in-Some-clause-read g c = read_made c.read_first.result (g.P.Port.shown 
 -- what is to be read is wanted
 pub read_first-requires-clause-wanted : goal.read_first-requires-clause-wanted
 read_first-requires-clause-wanted g c = λ x called.
-    subst (λ (o : Option Need). IsWantedNext x (record c.next_load.new.self { fetch = o })) c.in-Some.is
-    (c.in_ok-need.ensures.wanted x (holds_called (g.P.Port.law c.args.port.now) (g.P.Port.shown c.args.port.now) c.args.self.now c.requires.stands c.requires.reads x called))
+    subst (λ (o : Option Fetch). IsWantedNext x (record c.next_fetch.new.self { fetch = o })) c.in-Some.is
+    (c.in_ok-fetch.ensures.wanted x (holds_called (g.P.Port.law c.args.port.now) (g.P.Port.shown c.args.port.now) c.args.self.now c.requires.stands c.requires.reads x called))
 
 pub returns-in-Some-clause-nears : goal.returns-in-Some-clause-nears
 returns-in-Some-clause-nears g c =
     let law = g.P.Port.law c.args.port.now in
     let p = g.P.Port.shown c.args.port.now in
-    made_if c.read_first.result _ _ (λ made near is. next_nears law p c.args.self.now c.next_load.new.self c.read_first.new.self c.requires.none (held_looked law p c.args.self.now c.requires.stands c.requires.reads c.next_load.new.self c.requires.none c.next_load.ensures.same c.next_load.ensures.holds).1.unread
-    (λ x called. c.next_load.ensures.fewer x (holds_called law p c.args.self.now c.requires.stands c.requires.reads x called)) near) c.read_first.ensures.nears
+    made_if c.read_first.result _ _ (λ made near is. next_nears law p c.args.self.now c.next_fetch.new.self c.read_first.new.self c.requires.none (held_looked law p c.args.self.now c.requires.stands c.requires.reads c.next_fetch.new.self c.requires.none c.next_fetch.ensures.same c.next_fetch.ensures.holds).1.unread
+    (λ x called. c.next_fetch.ensures.fewer x (holds_called law p c.args.self.now c.requires.stands c.requires.reads x called)) near) c.read_first.ensures.nears
 
 pub returns-in-None-clause-nears : goal.returns-in-None-clause-nears
 returns-in-None-clause-nears g c = λ made. absurd (false≢true made)

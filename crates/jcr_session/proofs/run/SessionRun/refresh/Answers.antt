@@ -1,5 +1,5 @@
 use Rattle.std.proofs.Common.{Some, refl, false, ◌∙◌}
-use Rattle.jcr_session.specs.declared.limits.TheConstants.{VECTOR_REPLY_BYTES}
+use Rattle.jcr_steps.specs.declared.limits.TheConstants.{VECTOR_REPLY_BYTES}
 use Rattle.jcr_session.specs.declared.next.Due.TheVariants as due
 use Rattle.jcr_session.proofs.Calling.{forgo_behind, stands_law, turned_idle}
 use Rattle.jcr_session.proofs.Lawful.{between_forgoes, idle_by}

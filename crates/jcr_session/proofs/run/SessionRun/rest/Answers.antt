@@ -1,4 +1,5 @@
-use Rattle.std.proofs.Common.{sym}
+use Rattle.std.proofs.Common.{ap, sym}
+use Rattle.jcr_session.specs.Standing.{is_errand}
 use Rattle.jcr_session.proofs.Nearer.{reply_steps}
 use Rattle.jcr_session.proofs.run.SessionRun.rest.Goals as goal
 
@@ -12,7 +13,7 @@ pub show_base-requires-clause-next : goal.show_base-requires-clause-next
 show_base-requires-clause-next g c = sym c.in-ShowBase.ensures
 
 pub set_out-requires-clause-next : goal.set_out-requires-clause-next
-set_out-requires-clause-next g c = sym c.in-Errand.ensures
+set_out-requires-clause-next g c = ap is_errand (sym c.in-Errand.ensures)
 
 pub returns-in-Bar-clause-steps : goal.returns-in-Bar-clause-steps
 returns-in-Bar-clause-steps g c = reply_steps _ _ _ c.bar.result c.bar.ensures.said

@@ -1,12 +1,12 @@
 use Rattle.std.proofs.Common.{subst, sym, refl}
 use Rattle.jcr_session.specs.declared.run.Phase.{Phase}
 use Rattle.jcr_session.specs.Standing.{Stands}
-use Rattle.jcr_session.proofs.Begun.{told_eight, told_place, told_settles}
+use Rattle.jcr_session.proofs.Begun.{told_eight, told_place, told_tells}
 use Rattle.jcr_session.proofs.Saying.{replied_like}
 use Rattle.jcr_session.proofs.run.SessionRun.say_told.Goals as goal
 
-pub tell-requires-clause-settles : goal.tell-requires-clause-settles
-tell-requires-clause-settles g c = told_settles (g.P.Port.law c.args.port.now) (g.P.Port.shown c.args.port.now)
+pub tell-requires-clause-tells : goal.tell-requires-clause-tells
+tell-requires-clause-tells g c = told_tells (g.P.Port.law c.args.port.now) (g.P.Port.shown c.args.port.now)
     (record c.args.self.now { phase = c.replace.new.dest }) c.in-Told.told
     (subst (λ (f : Phase). Stands (g.P.Port.law c.args.port.now) (g.P.Port.shown c.args.port.now) (record c.args.self.now { phase = f }))
     (sym c.in-Told.ensures.value) c.requires.stands)

@@ -1,12 +1,17 @@
-use Rattle.jcr_session.proofs.Begun.{errand_next, starts_by}
+use Rattle.std.proofs.Common.{ap, sym, ◌∙◌}
+use Rattle.jcr_session.specs.declared.next.Due.{Due}
+use Rattle.jcr_session.specs.Standing.{lacks_for}
+use Rattle.jcr_session.proofs.Begun.{errand_due, errand_next, starts_by}
 use Rattle.jcr_session.proofs.Nexts.{errand_there, next_there, none_there}
 use Rattle.jcr_session.proofs.run.SessionRun.start.Goals as goal
 
 pub start_of-requires : goal.start_of-requires
 start_of-requires c =
-    (errand_there c.args.self.now c.in-Some.command.now c.requires
-    (let h = c.in-Some.ensures.lookup in next_there c.args.self.now.commands c.as_slice.result.now c.args.self.now.index
-    c.in-Some.command.now c.as_slice.ensures h.3.0 h.1)).1
+    let there = (let h = c.in-Some.ensures.lookup in next_there c.args.self.now.commands c.as_slice.result.now c.args.self.now.index
+    c.in-Some.command.now c.as_slice.ensures h.3.0 h.1) in record {
+      next = (errand_there c.args.self.now c.in-Some.command.now c.requires.next there).1;
+      read = ap (λ (d : Due). lacks_for c.args.self.now d) (sym (errand_due c.args.self.now c.in-Some.command.now c.requires.next there)) ∙ c.requires.read;
+    }
 
 pub returns : goal.returns
 returns c = starts_by c.args.self.now c.in-Some.command.now c.start_of.result
@@ -15,5 +20,5 @@ returns c = starts_by c.args.self.now c.in-Some.command.now c.start_of.result
 
 pub unreachable-requires : goal.unreachable-requires
 unreachable-requires c =
-    (let m = errand_next c.args.self.now c.requires in none_there c.args.self.now.commands c.as_slice.result.now c.args.self.now.index m.0
+    (let m = errand_next c.args.self.now c.requires.next in none_there c.args.self.now.commands c.as_slice.result.now c.args.self.now.index m.0
     c.as_slice.ensures c.in-None.ensures.lookup.0 m.1)

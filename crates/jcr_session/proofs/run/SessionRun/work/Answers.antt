@@ -3,7 +3,7 @@ use Rattle.jcr_law.specs.Lasting.{says_of, starts_of}
 use Rattle.jcr_session.specs.declared.run.Phase.TheVariants as phase
 use Rattle.jcr_session.specs.Nearing.{EndsSooner}
 use Rattle.jcr_session.proofs.Calling.{forgo_law}
-use Rattle.jcr_session.proofs.Errands.{errand_busy, errand_comes, errand_turned, memory_is, refused_forgoes, refused_room, refused_turns}
+use Rattle.jcr_session.proofs.Errands.{errand_busy, errand_comes, errand_may, errand_turned, memory_is, refused_forgoes, refused_room, refused_turns}
 use Rattle.jcr_session.proofs.Nearer.{nears_by, reply_ends, unwaiting}
 use Rattle.jcr_session.proofs.Nearing.{sooner_by}
 use Rattle.jcr_session.proofs.run.SessionRun.work.Goals as goal
@@ -47,6 +47,13 @@ returns-in-Refused-clause-stays g c = reply_ends
     (record c.args.self.now { phase = phase.Working c.args.errand }) c.forgo.new.self c.forgo.result c.forgo.ensures.said
 
 -- it goes on, or has ended
+pub come_on-requires : goal.come_on-requires
+come_on-requires g c = record {
+  comes = errand_may (g.P.Port.law c.args.port.now) (g.P.Port.shown c.args.port.now) (g.P.Port.shown c.step.new.self) c.step.result
+      c.args.self.now c.args.errand c.requires.stands c.step.ensures.steps c.errand_came.result c.errand_came.ensures
+      c.in_default.not-Refused;
+}
+
 pub returns-in_default-clause-turned : goal.returns-in_default-clause-turned
 returns-in_default-clause-turned g c =
     errand_turned (g.P.Port.law c.args.port.now) (g.P.Port.shown c.args.port.now) (g.P.Port.shown c.step.new.self) c.step.result

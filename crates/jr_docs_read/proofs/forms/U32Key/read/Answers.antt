@@ -1,4 +1,4 @@
-use Rattle.std.proofs.Common.{◌≡◌, sym, arith}
+use Rattle.std.proofs.Common.{sym, arith}
 use Rattle.std.proofs.lemmas.Fmt.{parse-decimal}
 use Rattle.jr_docs_read.proofs.Answered.{no_fault, read_as}
 use Rattle.jr_docs_read.proofs.forms.U32Key.read.Goals as goal

@@ -5,9 +5,14 @@ use Rattle.std.proofs.lemmas.Fn.{filter_same}
 use Rattle.jr_path.specs.Names.{path_cmp}
 use Rattle.jr_rev.specs.Vectors.{sees}
 use Rattle.oak_node.specs.declared.pending.Note.{Note}
+use Rattle.jr_rev.specs.Revisions.{is_before}
+use Rattle.oak_node.specs.Changes.{oldest_own}
+use Rattle.oak_node.specs.Fields.{state_of}
 use Rattle.oak_node.specs.Memory.{NodeState}
 use Rattle.oak_node.specs.Notes.{IsPending, without_seen}
 use Rattle.oak_node.specs.Seen.{seen_paths}
+use Rattle.oak_node.proofs.Changes.{dropped_is}
+use Rattle.oak_node.proofs.Kept.{drop_memory}
 use Rattle.oak_node.proofs.memory.NodeMem.take_pending.Goals as goal
 
 pub returns-clause-pending : goal.returns-clause-pending
@@ -23,5 +28,11 @@ returns-clause-pending c =
 
 pub returns-clause-ok : goal.returns-clause-ok
 returns-clause-ok c =
-    let kept = filter_same _ (λ (note : Note). not (sees c.self.inside.head note.revision)) _ (λ x b f' k. search rules) _ _ c.retain.ensures.filtered in
-    ap (λ (ns : List Note). record { cluster = c.self.inside.cluster; head = c.self.inside.head; sweep = c.self.inside.sweep; last_time = c.self.inside.last_time; above = c.self.inside.above.items; pins = c.self.inside.pins.items; notes = ns; stopped = c.self.inside.stopped; recovered = c.self.inside.recovered }) kept ∙ ap without_seen c.self.view_is
+    let noted = filter_same _ (λ (note : Note). not (sees c.self.inside.head note.revision)) _ (λ x b f' k. search rules) _ _ c.retain.ensures.filtered in
+    let now = filter_same _ (λ (note : Note). is_before c.oldest_own-oldest.result note.revision) _ (λ x b f' k. search rules) _ _ c.retain-2.ensures.filtered in
+    dropped_is (state_of c.self.inside) _ _ c.oldest_own-oldest.result noted (c.oldest_own-oldest.ensures ∙ ap oldest_own (sym c.self.view_is)) now ∙ ap without_seen c.self.view_is
+
+pub invariant_of-self : goal.invariant_of-self
+invariant_of-self c =
+    let now = filter_same _ (λ (note : Note). is_before c.oldest_own-oldest.result note.revision) _ (λ x b f' k. search rules) _ _ c.retain-2.ensures.filtered in
+    drop_memory (state_of c.self.inside) _ _ c.oldest_own-oldest.result c.self.invariant (c.oldest_own-oldest.ensures ∙ ap oldest_own (sym c.self.view_is)) now

@@ -16,7 +16,7 @@ index_mut-seat-requires g c =
     omega (arith, within, c.self.inside.actors.ok.0)
 
 pub step_actor-requires-clause-can : goal.step_actor-requires-clause-can
-step_actor-requires-clause-can g c = step_can (g.L.Law.may_start c.self.inside.law.value) (g.L.Law.may_say c.self.inside.law.value) (g.L.Law.proper c.self.inside.law.value) (g.L.Law.starts_last c.self.inside.law.value) c.self.inside.law.value c.self.inside.journal c.self.inside.table c.self.inside.memories.items c.self.inside.actors.items c.self.invariant.0.0 c.self.invariant.0.1 c.args.actor c.node-node.result (on_by _ c.args.self.now c.args.actor c.node-node.result c.self.view_is c.node-node.ensures.node) c.index_mut-seat.result.now c.index_mut-seat.ensures.value c.index_mut-memory.result.now c.index_mut-memory.ensures.value (rw (← c.self.view_is) at c.requires.busy) (subst (λ (es : List Event). length es < 2 ^ 63) c.as_slice.ensures c.are_few.ensures)
+step_actor-requires-clause-can g c = step_can (g.L.Law.may_start c.self.inside.law.value) (g.L.Law.may_say c.self.inside.law.value) (g.L.Law.proper c.self.inside.law.value) (g.L.Law.writes c.self.inside.law.value) (g.L.Law.starts_last c.self.inside.law.value) c.self.inside.law.value c.self.inside.journal c.self.inside.table c.self.inside.memories.items c.self.inside.actors.items c.self.invariant.0.0 c.self.invariant.0.1 c.args.actor c.node-node.result (on_by _ c.args.self.now c.args.actor c.node-node.result c.self.view_is c.node-node.ensures.node) c.index_mut-seat.result.now c.index_mut-seat.ensures.value c.index_mut-memory.result.now c.index_mut-memory.ensures.value (rw (← c.self.view_is) at c.requires.busy) (subst (λ (es : List Event). length es < 2 ^ 63) c.as_slice.ensures c.are_few.ensures)
 
 pub step_actor-requires-clause-table : goal.step_actor-requires-clause-table
 step_actor-requires-clause-table g c = c.self.invariant.0.0.table
@@ -25,21 +25,21 @@ pub step_actor-requires-clause-root : goal.step_actor-requires-clause-root
 step_actor-requires-clause-root g c = ap is_some c.self.invariant.0.0.kept.root.there
 
 pub step_actor-requires-clause-placed : goal.step_actor-requires-clause-placed
-step_actor-requires-clause-placed g c = seat_placed (g.L.Law.may_start c.self.inside.law.value) (g.L.Law.may_say c.self.inside.law.value) (g.L.Law.proper c.self.inside.law.value) (g.L.Law.starts_last c.self.inside.law.value) c.self.inside.law.value c.self.inside.journal c.self.inside.table c.self.inside.memories.items c.self.inside.actors.items c.self.invariant.0.0 c.self.invariant.0.1 c.args.actor c.node-node.result (on_by _ c.args.self.now c.args.actor c.node-node.result c.self.view_is c.node-node.ensures.node) c.index_mut-seat.result.now c.index_mut-seat.ensures.value
+step_actor-requires-clause-placed g c = seat_placed (g.L.Law.may_start c.self.inside.law.value) (g.L.Law.may_say c.self.inside.law.value) (g.L.Law.proper c.self.inside.law.value) (g.L.Law.writes c.self.inside.law.value) (g.L.Law.starts_last c.self.inside.law.value) c.self.inside.law.value c.self.inside.journal c.self.inside.table c.self.inside.memories.items c.self.inside.actors.items c.self.invariant.0.0 c.self.invariant.0.1 c.args.actor c.node-node.result (on_by _ c.args.self.now c.args.actor c.node-node.result c.self.view_is c.node-node.ensures.node) c.index_mut-seat.result.now c.index_mut-seat.ensures.value
 
 pub step_actor-requires-clause-places : goal.step_actor-requires-clause-places
-step_actor-requires-clause-places g c = seat_places (g.L.Law.may_start c.self.inside.law.value) (g.L.Law.may_say c.self.inside.law.value) (g.L.Law.proper c.self.inside.law.value) (g.L.Law.starts_last c.self.inside.law.value) c.self.inside.law.value c.self.inside.journal c.self.inside.table c.self.inside.memories.items c.self.inside.actors.items c.self.invariant.0.0 c.self.invariant.0.1 c.args.actor c.node-node.result (on_by _ c.args.self.now c.args.actor c.node-node.result c.self.view_is c.node-node.ensures.node) c.index_mut-seat.result.now c.index_mut-seat.ensures.value
+step_actor-requires-clause-places g c = seat_places (g.L.Law.may_start c.self.inside.law.value) (g.L.Law.may_say c.self.inside.law.value) (g.L.Law.proper c.self.inside.law.value) (g.L.Law.writes c.self.inside.law.value) (g.L.Law.starts_last c.self.inside.law.value) c.self.inside.law.value c.self.inside.journal c.self.inside.table c.self.inside.memories.items c.self.inside.actors.items c.self.invariant.0.0 c.self.invariant.0.1 c.args.actor c.node-node.result (on_by _ c.args.self.now c.args.actor c.node-node.result c.self.view_is c.node-node.ensures.node) c.index_mut-seat.result.now c.index_mut-seat.ensures.value
 
 pub invariant_of-self : goal.invariant_of-self
 invariant_of-self g c =
-    let stands = step_stands (g.L.Law.may_start c.self.inside.law.value) (g.L.Law.may_say c.self.inside.law.value) (g.L.Law.proper c.self.inside.law.value) (g.L.Law.starts_last c.self.inside.law.value) c.self.inside.law.value c.self.inside.journal c.self.inside.table c.self.inside.memories.items c.self.inside.actors.items c.self.invariant.0.0 c.self.invariant.0.1 c.args.actor c.node-node.result (on_by _ c.args.self.now c.args.actor c.node-node.result c.self.view_is c.node-node.ensures.node) c.index_mut-seat.result.now c.index_mut-seat.ensures.value c.index_mut-memory.result.now c.index_mut-memory.ensures.value c.step_actor.new.table c.step_actor.new.memory c.step_actor.new.events c.step_actor.new.actor c.step_actor.result (rw (← c.self.view_is) at c.requires.busy) c.step_actor.ensures.made c.step_actor.ensures.began c.step_actor.ensures.reply c.step_actor.ensures.reads c.step_actor.ensures.attached (g.L.Law.asks c.self.inside.law.value) c.self.invariant.2 c.step_actor.ensures.order c.step_actor.ensures.placed c.step_actor.ensures.places in
+    let stands = step_stands (g.L.Law.may_start c.self.inside.law.value) (g.L.Law.may_say c.self.inside.law.value) (g.L.Law.proper c.self.inside.law.value) (g.L.Law.writes c.self.inside.law.value) (g.L.Law.starts_last c.self.inside.law.value) c.self.inside.law.value c.self.inside.journal c.self.inside.table c.self.inside.memories.items c.self.inside.actors.items c.self.invariant.0.0 c.self.invariant.0.1 c.args.actor c.node-node.result (on_by _ c.args.self.now c.args.actor c.node-node.result c.self.view_is c.node-node.ensures.node) c.index_mut-seat.result.now c.index_mut-seat.ensures.value c.index_mut-memory.result.now c.index_mut-memory.ensures.value c.step_actor.new.table c.step_actor.new.memory c.step_actor.new.events c.step_actor.new.actor c.step_actor.result (rw (← c.self.view_is) at c.requires.busy) c.step_actor.ensures.made c.step_actor.ensures.began c.step_actor.ensures.reply c.step_actor.ensures.reads c.step_actor.ensures.attached (g.L.Law.asks c.self.inside.law.value) c.self.invariant.2 c.step_actor.ensures.order c.step_actor.ensures.placed c.step_actor.ensures.places in
     (stands.0, c.self.invariant.1, stands.1)
 
 pub returns-clause-made : goal.returns-clause-made
-returns-clause-made g c = rw (← c.self.view_is) (step_made (g.L.Law.may_start c.self.inside.law.value) (g.L.Law.may_say c.self.inside.law.value) (g.L.Law.proper c.self.inside.law.value) (g.L.Law.starts_last c.self.inside.law.value) c.self.inside.law.value c.self.inside.journal c.self.inside.table c.self.inside.memories.items c.self.inside.actors.items c.self.invariant.0.0 c.self.invariant.0.1 c.args.actor c.node-node.result (on_by _ c.args.self.now c.args.actor c.node-node.result c.self.view_is c.node-node.ensures.node) c.index_mut-seat.result.now c.index_mut-seat.ensures.value c.index_mut-memory.result.now c.index_mut-memory.ensures.value c.step_actor.new.table c.step_actor.new.memory c.step_actor.new.events c.step_actor.new.actor c.step_actor.result (rw (← c.self.view_is) at c.requires.busy) c.step_actor.ensures.made c.step_actor.ensures.began c.step_actor.ensures.reply c.step_actor.ensures.reads c.step_actor.ensures.attached)
+returns-clause-made g c = rw (← c.self.view_is) (step_made (g.L.Law.may_start c.self.inside.law.value) (g.L.Law.may_say c.self.inside.law.value) (g.L.Law.proper c.self.inside.law.value) (g.L.Law.writes c.self.inside.law.value) (g.L.Law.starts_last c.self.inside.law.value) c.self.inside.law.value c.self.inside.journal c.self.inside.table c.self.inside.memories.items c.self.inside.actors.items c.self.invariant.0.0 c.self.invariant.0.1 c.args.actor c.node-node.result (on_by _ c.args.self.now c.args.actor c.node-node.result c.self.view_is c.node-node.ensures.node) c.index_mut-seat.result.now c.index_mut-seat.ensures.value c.index_mut-memory.result.now c.index_mut-memory.ensures.value c.step_actor.new.table c.step_actor.new.memory c.step_actor.new.events c.step_actor.new.actor c.step_actor.result (rw (← c.self.view_is) at c.requires.busy) c.step_actor.ensures.made c.step_actor.ensures.began c.step_actor.ensures.reply c.step_actor.ensures.reads c.step_actor.ensures.attached)
 
 pub returns-clause-seen : goal.returns-clause-seen
-returns-clause-seen g c = rw (← c.self.view_is) (step_shown (g.L.Law.may_start c.self.inside.law.value) (g.L.Law.may_say c.self.inside.law.value) (g.L.Law.proper c.self.inside.law.value) (g.L.Law.starts_last c.self.inside.law.value) c.self.inside.law.value c.self.inside.journal c.self.inside.table c.self.inside.memories.items c.self.inside.actors.items c.self.invariant.0.0 c.self.invariant.0.1 c.args.actor c.node-node.result (on_by _ c.args.self.now c.args.actor c.node-node.result c.self.view_is c.node-node.ensures.node) c.index_mut-seat.result.now c.index_mut-seat.ensures.value c.index_mut-memory.result.now c.index_mut-memory.ensures.value c.step_actor.new.table c.step_actor.new.memory c.step_actor.new.events c.step_actor.new.actor c.step_actor.result (rw (← c.self.view_is) at c.requires.busy) c.step_actor.ensures.made c.step_actor.ensures.began c.step_actor.ensures.reply c.step_actor.ensures.reads c.step_actor.ensures.attached)
+returns-clause-seen g c = rw (← c.self.view_is) (step_shown (g.L.Law.may_start c.self.inside.law.value) (g.L.Law.may_say c.self.inside.law.value) (g.L.Law.proper c.self.inside.law.value) (g.L.Law.writes c.self.inside.law.value) (g.L.Law.starts_last c.self.inside.law.value) c.self.inside.law.value c.self.inside.journal c.self.inside.table c.self.inside.memories.items c.self.inside.actors.items c.self.invariant.0.0 c.self.invariant.0.1 c.args.actor c.node-node.result (on_by _ c.args.self.now c.args.actor c.node-node.result c.self.view_is c.node-node.ensures.node) c.index_mut-seat.result.now c.index_mut-seat.ensures.value c.index_mut-memory.result.now c.index_mut-memory.ensures.value c.step_actor.new.table c.step_actor.new.memory c.step_actor.new.events c.step_actor.new.actor c.step_actor.result (rw (← c.self.view_is) at c.requires.busy) c.step_actor.ensures.made c.step_actor.ensures.began c.step_actor.ensures.reply c.step_actor.ensures.reads c.step_actor.ensures.attached)
 
 pub returns-clause-lowers : goal.returns-clause-lowers
 returns-clause-lowers g c =

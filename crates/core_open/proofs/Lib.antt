@@ -1,0 +1,11 @@
+mod Lookups
+mod Filtered
+mod Numbers
+mod Rising
+mod Staying
+mod Nodes
+mod Seen
+mod Placed
+mod Behind
+mod Showing
+mod Beginning
