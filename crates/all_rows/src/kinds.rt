@@ -15,6 +15,7 @@ enum Kind {
     Content,
     Open,
     Repo,
+    Documents,
 }
 
 // The kind of the lines, and what lines before have left.
@@ -48,6 +49,7 @@ impl All {
             Kind::Content => content_rows::add(line, out),
             Kind::Open => open_rows::add(line, out),
             Kind::Repo => self.repo.add(rt, line, out),
+            Kind::Documents => docs_rows::add(line, out),
         }
     }
 }
@@ -59,6 +61,7 @@ fn kind_of(line: &str) -> Option<Kind> {
         "=== content" => Some(Kind::Content),
         "=== open" => Some(Kind::Open),
         "=== repo" => Some(Kind::Repo),
+        "=== documents" => Some(Kind::Documents),
         _ => None,
     }
 }

@@ -1,6 +1,6 @@
-//! Rows: each line of the input is a case, and each line of the output says what came of it. The lines
-//! `=== base`, `=== store`, `=== content`, `=== open` and `=== repo` tell by which crate's rows those
-//! behind them are read.
+//! Rows: each line of the input is a case, and each line of the output says what came of it. The
+//! lines `=== base`, `=== store`, `=== content`, `=== open`, `=== repo` and `=== documents` tell by
+//! which crate's rows those behind them are read.
 #![tactic(auto)]
 
 mod kinds;

@@ -36,7 +36,7 @@ pub tree_since : (start : Start) (past : Past) (v : RevVec) → tree_from start.
 tree_since start past v = tree_onto start.tree (sees v) [] (committed_edits past)
 
 -- what isn't committed has no edit
-no_edit : (past : Past) (r : Revision) → is_committed past r ≡ false → edit_since past r ≡ None
+pub no_edit : (past : Past) (r : Revision) → is_committed past r ≡ false → edit_since past r ≡ None
 no_edit past r not = by (edit_since past r) refl
   where
     by : (o : Option (List Write)) → edit_since past r ≡ o → o ≡ None

@@ -13,16 +13,18 @@ use Rattle.jr_tree.specs.declared.edit.Write.{Write}
 use Rattle.oak_doc.specs.Updates.{of_revision}
 use Rattle.oak_machine.specs.declared.event.Draw.{Draw}
 use Rattle.oak_machine.specs.History.{Past}
-use Rattle.oak_machine.specs.Commits.{draw_of, is_in_base}
+use Rattle.oak_machine.specs.Commits.{committed_edits, draw_of, is_in_base}
 use Rattle.core_heads.proofs.Entries.{entry_at}
 use Rattle.core_keep.proofs.Found.{found_first}
 use Rattle.core_keep.proofs.Item.{and_both, either_true, some_of}
 use Rattle.core_read.specs.Commits.{Commits, Sight}
-use Rattle.core_read.specs.Holds.{edit_of, edits}
-use Rattle.core_read.specs.Told.{IsIn, IsInUse, IsTold}
+use Rattle.core_begun.specs.Told.{edit_since}
+use Rattle.core_read.specs.Told.{IsIn}
+use Rattle.core_begun.specs.Told.{IsInUseSince, IsToldSince}
 use Rattle.core_read.proofs.Latest.{at_most_trans, before_at_most, same_revision}
 use Rattle.core_changes.specs.Between.{IsBetween}
 use Rattle.core_heads.proofs.Orders.{at_most_itself, not_at_most}
+use Rattle.oak_machine.specs.declared.event.Start.{Start}
 
 -- ---- the greatest of two vectors
 
@@ -195,7 +197,7 @@ kept test (f ∷ es) e (inr i) h = by (test f) (kept test es e i h)
 
 -- ---- the cut
 
-module _ (past : Past) (told : IsTold past) (from to : RevVec) (less : IsInUse past from) (more : IsInUse past to) (below : (q : Revision) → sees from q ≡ true → sees to q ≡ true) where
+module _ (start : Start) (past : Past) (told : IsToldSince start past) (from to : RevVec) (less : IsInUseSince start past from) (more : IsInUseSince start past to) (below : (q : Revision) → sees from q ≡ true → sees to q ≡ true) where
   abbrev base_of : Revision → RevVec
   base_of r = option_map_or (λ d. d.base) (draw_of past r) []
 
@@ -225,25 +227,25 @@ module _ (past : Past) (told : IsTold past) (from to : RevVec) (less : IsInUse p
 
   module _ (test : Sight) (down : (q r : Revision) → is_at_most q r ≡ true → test r ≡ true → test q ≡ true) where
     abbrev seen_there : Commits
-    seen_there = filter (λ e. sees to e.0 && test e.0) (edits past)
+    seen_there = filter (λ e. sees to e.0 && test e.0) (committed_edits past)
 
     abbrev pub cut : RevVec
     cut = raised_by learnt from seen_there
 
     -- what it sees, `from` sees, or the base of a commit up to the place, or it is at most that commit
-    cut_from : (q : Revision) → sees cut q ≡ true → (sees from q ≡ true) ⊎ ((e : Revision × List Write) × IsIn e (edits past) × (sees to e.0 ≡ true) × (test e.0 ≡ true) × (sees (learnt e.0) q ≡ true))
+    cut_from : (q : Revision) → sees cut q ≡ true → (sees from q ≡ true) ⊎ ((e : Revision × List Write) × IsIn e (committed_edits past) × (sees to e.0 ≡ true) × (test e.0 ≡ true) × (sees (learnt e.0) q ≡ true))
     cut_from q h = elim (from_raised learnt seen_there from q h) [
       | inl k ↦ inl k
-      | inr k ↦ let f = filtered (λ e. sees to e.0 && test e.0) (edits past) k.0 k.1 in let b = and_both (sees to (k.0).0) (test (k.0).0) f.1 in inr (k.0, f.0, b.0, b.1, k.2)
+      | inr k ↦ let f = filtered (λ e. sees to e.0 && test e.0) (committed_edits past) k.0 k.1 in let b = and_both (sees to (k.0).0) (test (k.0).0) f.1 in inr (k.0, f.0, b.0, b.1, k.2)
     ]
 
     -- a commit that a learnt one's base sees is before it
-    learnt_low : (e : Revision × List Write) → IsIn e (edits past) → sees to e.0 ≡ true → (q : Revision) → sees (learnt e.0) q ≡ true → (sees to q ≡ true) × (is_at_most q e.0 ≡ true)
+    learnt_low : (e : Revision × List Write) → IsIn e (committed_edits past) → sees to e.0 ≡ true → (q : Revision) → sees (learnt e.0) q ≡ true → (sees to q ≡ true) × (is_at_most q e.0 ≡ true)
     learnt_low e i seen q h =
-        let us = some_of (edit_of past e.0) (of_edits (edits past) e i) in
+        let us = some_of (edit_since past e.0) (of_edits (committed_edits past) e i) in
         let k = positive to e.0 seen in
         elim (learnt_sees e.0 q h) [
-          | inl b ↦ (more.closed e.0 us.0 us.1 seen q b, before_at_most q e.0 ((told.sound.sound e.0 us.0 us.1).ready.rises q b))
+          | inl b ↦ (more.closed e.0 us.0 us.1 seen q b, before_at_most q e.0 ((told.sound e.0 us.0 us.1).ready.rises q b))
           | inr o ↦ let l = own_sees e.0 q k.0 k.1 o in (seen_down to q e.0 l.0 l.1 seen, l.1)
         ]
 
@@ -251,11 +253,11 @@ module _ (past : Past) (told : IsTold past) (from to : RevVec) (less : IsInUse p
     cut_low q h = raised_low learnt seen_there from q h
 
     -- of the commits it sees those that `from` sees, and of those that `to` sees those up to the place
-    pub cut_commits : (q : Revision) (us : List Write) → edit_of past q ≡ Some us → sees to q ≡ true → test q ≡ true → sees cut q ≡ true
+    pub cut_commits : (q : Revision) (us : List Write) → edit_since past q ≡ Some us → sees to q ≡ true → test q ≡ true → sees cut q ≡ true
     cut_commits q us is seen low =
         let k = positive to q seen in
         raised_each learnt seen_there from (q, us) q
-        (kept (λ e. sees to e.0 && test e.0) (edits past) (q, us) (in_edits (edits past) q us is) (ap (λ b. b && test q) seen ∙ low))
+        (kept (λ e. sees to e.0 && test e.0) (committed_edits past) (q, us) (in_edits (committed_edits past) q us is) (ap (λ b. b && test q) seen ∙ low))
         (sees_greatest (base_of q) (own q) q ∙ or_second (sees (base_of q) q) _ (own_itself q k.0 k.1))
 
     pub cut_place : (q : Revision) → sees cut q ≡ true → (sees from q ≡ true) ⊎ (test q ≡ true)
@@ -273,7 +275,7 @@ module _ (past : Past) (told : IsTold past) (from to : RevVec) (less : IsInUse p
         | inr place ↦ elim (cut_from o seen) [
           | inl k ↦ cut_low q (less.closed o us is k q base)
           | inr k ↦ raised_each learnt seen_there from (o, us) q
-              (kept (λ e. sees to e.0 && test e.0) (edits past) (o, us) (in_edits (edits past) o us is) (ap (λ b. b && test o) (learnt_low k.0 k.1 k.2 o k.4).0 ∙ place))
+              (kept (λ e. sees to e.0 && test e.0) (committed_edits past) (o, us) (in_edits (committed_edits past) o us is) (ap (λ b. b && test o) (learnt_low k.0 k.1 k.2 o k.4).0 ∙ place))
               (learnt_base o q base)
         ]
       ];

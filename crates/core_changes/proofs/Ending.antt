@@ -30,6 +30,7 @@ use Rattle.core_watch.proofs.Finite.{behind_of, fewer_behind}
 use Rattle.core_watch.specs.Instants.{first_instants, Instant}
 use Rattle.core_watch.specs.Moments.{HasIdsAmong, Moment}
 use Rattle.core_changes.proofs.Instants.{observing_done}
+use Rattle.oak_machine.specs.declared.event.Start.{Start}
 use Rattle.core_changes.specs.Instants.{after_instants, AreObservable, EndsWith}
 
 -- ---- what a step lowers
@@ -239,9 +240,9 @@ done_with (step.Previous left) done = absurd done
 done_with (step.Roots left) done = absurd done
 
 -- with what the commits change
-pub changes_at_end : (ids : List DocId) (a : Global) (from : RevVec) (pin : Pin) (i : Instant) (f : ℕ → Instant) → ((n : ℕ) → AreObservable from pin i (first_instants n f)) → ((n : ℕ) → HasIdsAmong ids (f n).moment)
-    → EndsWith (λ o. o ≡ changes_between None i.moment.past from pin.base) f (changes_reader a from pin)
-changes_at_end ids a from pin i f on are =
+pub changes_at_end : (start : Start) (ids : List DocId) (a : Global) (from : RevVec) (pin : Pin) (i : Instant) (f : ℕ → Instant) → ((n : ℕ) → AreObservable start from pin i (first_instants n f)) → ((n : ℕ) → HasIdsAmong ids (f n).moment)
+    → EndsWith (λ o. o ≡ changes_between (Some start) i.moment.past from pin.base) f (changes_reader a from pin)
+changes_at_end start ids a from pin i f on are =
     let e = ends ids f (changes_reader a from pin) are in
     let o = done_with (after_instants (first_instants e.0 f) (changes_reader a from pin)).step e.1 in
-    (e.0, o.0, o.1, observing_done a from pin i (first_instants e.0 f) o.0 (on e.0) o.1)
+    (e.0, o.0, o.1, observing_done start a from pin i (first_instants e.0 f) o.0 (on e.0) o.1)

@@ -42,12 +42,13 @@ use Rattle.core_read.proofs.Entries.{both, first, same_lists, second, sorted_ins
 use Rattle.core_read.proofs.Falling.{committed_sorted}
 use Rattle.core_read.proofs.Latest.{same_revision}
 use Rattle.core_read.specs.Commits.{Commits}
-use Rattle.core_read.specs.Holds.{edit_of, start_writes, the_start}
-use Rattle.core_read.specs.Told.{IsIn, IsInUse}
+use Rattle.core_begun.specs.Told.{edit_since}
+use Rattle.core_read.specs.Told.{IsIn}
 use Rattle.core_changes.proofs.Item.{filter_at}
 use Rattle.core_changes.specs.Between.{change_of, is_new, IsChange}
 use Rattle.core_changes.specs.Instants.{AreWriting}
 use Rattle.core_changes.specs.Observing.{AreSaid}
+use Rattle.oak_machine.specs.declared.event.Start.{Start}
 
 -- ---- what an edit changes at an item
 
@@ -311,24 +312,16 @@ map_twice : {X Y Z : Type 0} (f : X → Y) (g : Y → Z) (xs : List X) → map g
 map_twice f g [] = refl
 map_twice f g (x ∷ xs) = ap (λ ys. g (f x) ∷ ys) (map_twice f g xs)
 
-module _ (past : Past) (from to : RevVec) (less : IsInUse past from) where
-  -- a new revision isn't the start
-  pub not_start : (r : Revision) → is_new from to r ≡ true → eq_by_cmp revision_cmp r the_start ≡ false
-  not_start r new = not_true _ (λ h. unseen (sees from r) (subst (λ (z : Revision). sees from z ≡ true) (sym (same_revision r the_start h)) less.begun) (and_both (sees to r) (not (sees from r)) new).1)
-    where
-      unseen : (b : Bool) → b ≡ true → not b ≡ true → ⊥
-      unseen true h k = false≢true k
-      unseen false h k = false≢true h
+module _ (start : Start) (past : Past) (from to : RevVec) where
+  pub committed_is : (r : Revision) → is_new from to r ≡ true → edit_since past r ≡ of_revision (committed_edits past) r
+  committed_is r new = refl
 
-  pub committed_is : (r : Revision) → is_new from to r ≡ true → edit_of past r ≡ of_revision (committed_edits past) r
-  committed_is r new = ap (λ b. cond b (Some start_writes) (of_revision (committed_edits past) r)) (not_start r new)
-
-  module _ (writing : AreWriting past from to) (said : List Said) (are : AreSaid past from to (λ p. true) said) where
+  module _ (writing : AreWriting past from to) (said : List Said) (are : AreSaid start past from to (λ p. true) said) where
     abbrev groups : Grouped
     groups = fold with_said [] said
 
     abbrev tree : Revision → Nodes
-    tree r = tree_below None past to r
+    tree r = tree_below (Some start) past to r
 
     abbrev changed : Revision → List Write → List (Item × ItemChange)
     changed r ws = fold (step (tree r)) [] ws
@@ -346,7 +339,7 @@ module _ (past : Past) (from to : RevVec) (less : IsInUse past from) where
     changed_at r = mapped_at changed commits r ∙ ap (option_map (changed r)) (kept_at (is_new from to) (committed_edits past) r)
 
     -- each change of a new commit is found, and nothing else
-    found_all : (r : Revision) (ws : List Write) → edit_of past r ≡ Some ws → is_new from to r ≡ true → (i : Item) → at_item groups r i ≡ change_of (tree r) ws i
+    found_all : (r : Revision) (ws : List Write) → edit_since past r ≡ Some ws → is_new from to r ≡ true → (i : Item) → at_item groups r i ≡ change_of (tree r) ws i
     found_all r ws is new i = by (at_item groups r i) refl
       where
         value : (x y : List Write) → Some x ≡ Some y → x ≡ y
@@ -367,15 +360,15 @@ module _ (past : Past) (from to : RevVec) (less : IsInUse past from) where
           | inr k ↦ h ∙ sym (its k.0 (are.each k.0 k.1).0 k.2 k.3 k.4)
         ]
           where
-            its : (s : Said) → IsChange past from to s → s.revision ≡ r → s.change.item ≡ i → s.change ≡ c → change_of (tree r) ws i ≡ Some c
+            its : (s : Said) → IsChange start past from to s → s.revision ≡ r → s.change.item ≡ i → s.change ≡ c → change_of (tree r) ws i ≡ Some c
             its s change rev item same =
-                let edit : change.edit ≡ ws = value change.edit ws (sym change.is_edit ∙ (ap (edit_of past) rev ∙ is)) in
+                let edit : change.edit ≡ ws = value change.edit ws (sym change.is_edit ∙ (ap (edit_since past) rev ∙ is)) in
                 sym (λ j. change_of (tree (rev j)) (edit j) (item j)) ∙ (change.change ∙ ap Some same)
 
     each_group : (r : Revision) → at_revision groups r ≡ at_revision all_changed r
     each_group r = by (is_new from to r) refl (of_revision (committed_edits past) r) refl ∙ sym (changed_at r)
       where
-        nothing : ((s : Said) → IsChange past from to s → s.revision ≡ r → ⊥) → at_revision groups r ≡ None
+        nothing : ((s : Said) → IsChange start past from to s → s.revision ≡ r → ⊥) → at_revision groups r ≡ None
         nothing never = at (at_revision groups r) refl
           where
             at : (o : Option (List (Item × ItemChange))) → at_revision groups r ≡ o → at_revision groups r ≡ None
@@ -385,7 +378,7 @@ module _ (past : Past) (from to : RevVec) (less : IsInUse past from) where
               | inr k ↦ absurd (never k.0 (are.each k.0 k.1).0 k.2)
             ]
 
-        whole : (ws : List Write) → edit_of past r ≡ Some ws → is_new from to r ≡ true → at_revision groups r ≡ Some (changed r ws)
+        whole : (ws : List Write) → edit_since past r ≡ Some ws → is_new from to r ≡ true → at_revision groups r ≡ Some (changed r ws)
         whole ws is new =
             let first_change = some_change (tree r) ws (writing r ws is new) in
             at first_change.1 first_change.0 (at_revision groups r) refl (found_all r ws is new first_change.0 ∙ first_change.2)
@@ -398,11 +391,11 @@ module _ (past : Past) (from to : RevVec) (less : IsInUse past from) where
 
         by : (b : Bool) → is_new from to r ≡ b → (o : Option (List Write)) → of_revision (committed_edits past) r ≡ o → at_revision groups r ≡ option_map (changed r) (cond b o None)
         by true new (Some ws) e = whole ws (committed_is r new ∙ e) new
-        by true new None e = nothing (λ s c same. false≢true (sym (ap is_some (committed_is r new ∙ e)) ∙ ap is_some (ap (edit_of past) (sym same) ∙ c.is_edit)))
+        by true new None e = nothing (λ s c same. false≢true (sym (ap is_some (committed_is r new ∙ e)) ∙ ap is_some (ap (edit_since past) (sym same) ∙ c.is_edit)))
         by false new o e = nothing (λ s c same. false≢true (sym new ∙ (ap (is_new from to) (sym same) ∙ c.new)))
 
     groups_are : groups ≡ all_changed
     groups_are = same_lists revision_cmp revision_total (λ x y h. same_revision x y (ap is_eq h)) groups all_changed in_order.rising (sorted_mapped changed commits (sorted_kept (is_new from to) (committed_edits past) (committed_sorted past))) each_group
 
-    pub grouped_is : grouped said ≡ changes_between None past from to
+    pub grouped_is : grouped said ≡ changes_between (Some start) past from to
     grouped_is = ap (map (λ e. record { revision = e.0; changes = values_of e.1 })) groups_are ∙ map_twice (λ e. (e.0, changed e.0 e.1)) (λ e. record { revision = e.0; changes = values_of e.1 }) commits

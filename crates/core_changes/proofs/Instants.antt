@@ -21,29 +21,15 @@ use Rattle.oak_read.specs.Reading.{answer, IsTable}
 use Rattle.oak_read.specs.Wanted.{left_of, previous_wanted, roots_wanted}
 use Rattle.oak_read.specs.declared.wanted.Left.{Left}
 use Rattle.core_keep.specs.Formers.{AreFormers, Formers, Grows}
-use Rattle.core_keep.specs.Journal.{course_of, IsKeptWorld}
+use Rattle.core_keep.specs.From.{course_from}
+use Rattle.core_begun.specs.Kept.{IsKeptSince}
 use Rattle.core_read.specs.World.{Progress}
 use Rattle.core_watch.specs.Instants.{documents_at, Instant}
 use Rattle.core_changes.proofs.Lasting.{changes_same, stands_last}
 use Rattle.core_changes.proofs.Walk.{feed_step}
 use Rattle.core_changes.specs.Instants.{after_instants, AreHeld, AreObservable, AreWriting}
 use Rattle.core_changes.specs.Observing.{IsObserving, ObservesOn, Stands}
-
-pub observing_begins : (ds : Documents) (past : Past) (formers : Formers) (a : Global) (from : RevVec) (pin : Pin) → IsObserving ds past formers (changes_reader a from pin)
-observing_begins ds past formers a from pin = refl
-
-pub observing_feeds : (table : List (DocId × Document)) (past : Past) (formers : Formers) (done : Progress) (r : ChangesReader) → IsTable table → IsKeptWorld (documents_in table) past done → AreHeld past r.from r.pin → AreFormers (documents_in table) (course_of past) formers → AreWriting past r.from r.pin.base
-    → IsObserving (documents_in table) past formers r → IsObserving (documents_in table) past formers (fed r (answer table (due r)))
-observing_feeds table past formers done r is world held lists writing reads = feed_step table is past formers done r.alloc r.from r.pin world held lists writing r.at r.known r.said r.step reads
-
-pub observing_lasts : (formers more : Formers) (ds now : Documents) (past later : Past) (done : Progress) (r : ChangesReader) → IsKeptWorld now later done → AreHeld later r.from r.pin → ObservesOn r.from r.pin ds now past later → Grows formers more → IsObserving ds past formers r → IsObserving now later more r
-observing_lasts formers more ds now past later done r world held on grows reads = stands_last formers more ds now past later done world r.from r.pin held on grows r.at r.known r.said r.step reads
-
-pub observing_gives : (ds : Documents) (past : Past) (formers : Formers) (r : ChangesReader) (o : List CommitChanges) → IsObserving ds past formers r → r.step ≡ step.Done o → o ≡ changes_between None past r.from r.pin.base
-observing_gives ds past formers r o reads done = by r.step done reads
-  where
-    by : (s : Step) → s ≡ step.Done o → Stands ds past formers r.from r.pin.base r.pin.sweep r.at r.known r.said s → o ≡ changes_between None past r.from r.pin.base
-    by s e stands = subst (λ (s : Step). Stands ds past formers r.from r.pin.base r.pin.sweep r.at r.known r.said s) e stands
+use Rattle.oak_machine.specs.declared.event.Start.{Start}
 
 -- ---- what a reader reads between stays
 
@@ -101,22 +87,39 @@ reply_keeps r (reply.Pins h s ps) = (refl, refl)
 reply_keeps r reply.Gone = (refl, refl)
 reply_keeps r reply.Recovered = (refl, refl)
 
--- ---- over any instants
+module _ (start : Start) where
+  pub observing_begins : (ds : Documents) (past : Past) (formers : Formers) (a : Global) (from : RevVec) (pin : Pin) → IsObserving start ds past formers (changes_reader a from pin)
+  observing_begins ds past formers a from pin = refl
 
-module _ (from : RevVec) (pin : Pin) where
-  walk : (i : Instant) (is : List Instant) (r : ChangesReader) (o : List CommitChanges) → r.from ≡ from → r.pin ≡ pin → AreObservable from pin i is → IsObserving (documents_at i) i.moment.past i.formers r
-      → (after_instants is r).step ≡ step.Done o → o ≡ changes_between None i.moment.past from pin.base
-  walk i [] r o f p on reads done = observing_gives (documents_at i) i.moment.past i.formers r o reads done ∙ λ j. changes_between None i.moment.past (f j) (p j).base
-  walk i (n ∷ ns) r o f p on reads done =
-      let k = reply_keeps r (answer n.moment.table (due r)) in
-      let held : AreHeld n.moment.past r.from r.pin = subst (λ (v : RevVec). AreHeld n.moment.past v r.pin) (sym f) (subst (λ (q : Pin). AreHeld n.moment.past from q) (sym p) on.2.held) in
-      let going : ObservesOn r.from r.pin (documents_at i) (documents_at n) i.moment.past n.moment.past =
-      subst (λ (v : RevVec). ObservesOn v r.pin (documents_at i) (documents_at n) i.moment.past n.moment.past) (sym f) (subst (λ (q : Pin). ObservesOn from q (documents_at i) (documents_at n) i.moment.past n.moment.past) (sym p) on.0) in
-      let writing : AreWriting n.moment.past r.from r.pin.base = subst (λ (v : RevVec). AreWriting n.moment.past v r.pin.base) (sym f) (subst (λ (q : Pin). AreWriting n.moment.past from q.base) (sym p) on.2.writing) in
-      let now = observing_lasts i.formers n.formers (documents_at i) (documents_at n) i.moment.past n.moment.past on.2.done r on.2.kept held going on.1 reads in
-      let next = observing_feeds n.moment.table n.moment.past n.formers on.2.done r on.2.ordered on.2.kept held on.2.listed writing now in
-      walk n ns (fed r (answer n.moment.table (due r))) o (k.0 ∙ f) (k.1 ∙ p) on.3 next done ∙ changes_same i.moment.past n.moment.past on.0.told on.2.kept.told pin.base on.0.edits from
+  pub observing_feeds : (table : List (DocId × Document)) (past : Past) (formers : Formers) (done : Progress) (r : ChangesReader) → IsTable table → IsKeptSince start (documents_in table) past done → AreHeld start past r.from r.pin → AreFormers (documents_in table) (course_from start past) formers → AreWriting past r.from r.pin.base
+      → IsObserving start (documents_in table) past formers r → IsObserving start (documents_in table) past formers (fed r (answer table (due r)))
+  observing_feeds table past formers done r is world held lists writing reads = feed_step start table is past formers done r.alloc r.from r.pin world held lists writing r.at r.known r.said r.step reads
 
--- whatever comes between its steps, a reader of changes that is done gives what the commits change
-pub observing_done : (a : Global) (from : RevVec) (pin : Pin) (i : Instant) (is : List Instant) (o : List CommitChanges) → AreObservable from pin i is → (after_instants is (changes_reader a from pin)).step ≡ step.Done o → o ≡ changes_between None i.moment.past from pin.base
-observing_done a from pin i is o on done = walk from pin i is (changes_reader a from pin) o refl refl on (observing_begins (documents_at i) i.moment.past i.formers a from pin) done
+  pub observing_lasts : (formers more : Formers) (ds now : Documents) (past later : Past) (done : Progress) (r : ChangesReader) → IsKeptSince start now later done → AreHeld start later r.from r.pin → ObservesOn start r.from r.pin ds now past later → Grows formers more → IsObserving start ds past formers r → IsObserving start now later more r
+  observing_lasts formers more ds now past later done r world held on grows reads = stands_last start formers more ds now past later done world r.from r.pin held on grows r.at r.known r.said r.step reads
+
+  pub observing_gives : (ds : Documents) (past : Past) (formers : Formers) (r : ChangesReader) (o : List CommitChanges) → IsObserving start ds past formers r → r.step ≡ step.Done o → o ≡ changes_between (Some start) past r.from r.pin.base
+  observing_gives ds past formers r o reads done = by r.step done reads
+    where
+      by : (s : Step) → s ≡ step.Done o → Stands start ds past formers r.from r.pin.base r.pin.sweep r.at r.known r.said s → o ≡ changes_between (Some start) past r.from r.pin.base
+      by s e stands = subst (λ (s : Step). Stands start ds past formers r.from r.pin.base r.pin.sweep r.at r.known r.said s) e stands
+
+  -- ---- over any instants
+
+  module _ (from : RevVec) (pin : Pin) where
+    walk : (i : Instant) (is : List Instant) (r : ChangesReader) (o : List CommitChanges) → r.from ≡ from → r.pin ≡ pin → AreObservable start from pin i is → IsObserving start (documents_at i) i.moment.past i.formers r
+        → (after_instants is r).step ≡ step.Done o → o ≡ changes_between (Some start) i.moment.past from pin.base
+    walk i [] r o f p on reads done = observing_gives (documents_at i) i.moment.past i.formers r o reads done ∙ λ j. changes_between (Some start) i.moment.past (f j) (p j).base
+    walk i (n ∷ ns) r o f p on reads done =
+        let k = reply_keeps r (answer n.moment.table (due r)) in
+        let held : AreHeld start n.moment.past r.from r.pin = subst (λ (v : RevVec). AreHeld start n.moment.past v r.pin) (sym f) (subst (λ (q : Pin). AreHeld start n.moment.past from q) (sym p) on.2.held) in
+        let going : ObservesOn start r.from r.pin (documents_at i) (documents_at n) i.moment.past n.moment.past =
+        subst (λ (v : RevVec). ObservesOn start v r.pin (documents_at i) (documents_at n) i.moment.past n.moment.past) (sym f) (subst (λ (q : Pin). ObservesOn start from q (documents_at i) (documents_at n) i.moment.past n.moment.past) (sym p) on.0) in
+        let writing : AreWriting n.moment.past r.from r.pin.base = subst (λ (v : RevVec). AreWriting n.moment.past v r.pin.base) (sym f) (subst (λ (q : Pin). AreWriting n.moment.past from q.base) (sym p) on.2.writing) in
+        let now = observing_lasts i.formers n.formers (documents_at i) (documents_at n) i.moment.past n.moment.past on.2.done r on.2.kept held going on.1 reads in
+        let next = observing_feeds n.moment.table n.moment.past n.formers on.2.done r on.2.ordered on.2.kept held on.2.listed writing now in
+        walk n ns (fed r (answer n.moment.table (due r))) o (k.0 ∙ f) (k.1 ∙ p) on.3 next done ∙ changes_same start i.moment.past n.moment.past pin.base on.0.edits from
+
+  -- whatever comes between its steps, a reader of changes that is done gives what the commits change
+  pub observing_done : (a : Global) (from : RevVec) (pin : Pin) (i : Instant) (is : List Instant) (o : List CommitChanges) → AreObservable start from pin i is → (after_instants is (changes_reader a from pin)).step ≡ step.Done o → o ≡ changes_between (Some start) i.moment.past from pin.base
+  observing_done a from pin i is o on done = walk from pin i is (changes_reader a from pin) o refl refl on (observing_begins (documents_at i) i.moment.past i.formers a from pin) done

@@ -10,22 +10,17 @@ use Rattle.jr_rev.specs.Revisions.{is_same, revision_cmp}
 use Rattle.jr_tree.specs.declared.edit.Write.{Write}
 use Rattle.oak_machine.specs.declared.event.Draw.{Draw}
 use Rattle.oak_machine.specs.declared.event.Event.TheVariants as event
-use Rattle.oak_machine.specs.History.{Past}
+use Rattle.oak_machine.specs.History.{Begin, Past}
 use Rattle.oak_machine.specs.Commits.{draw_of}
 use Rattle.oak_machine.specs.Laws.{Says, Starts, StartsProper, StartsWrite}
 use Rattle.oak_machine.specs.Runs.{AreNodes, IsRunOf}
-use Rattle.core_read.specs.Holds.{edit_of, the_start}
-use Rattle.core_heads.proofs.Runs.{told_past}
+use Rattle.core_begun.specs.Told.{edit_since}
+use Rattle.core_begun.proofs.Runs.{told_run}
 use Rattle.core_changes.specs.Instants.{AreWriting}
 
--- whether there is something
-abbrev any_of : {X : Type 0} → List X → Bool
-any_of [] = false
-any_of (x ∷ xs) = true
-
-module _ (starts : Starts) (says : Says) (clusters : ℕ) (sessions : List ℕ) (writes : StartsWrite starts) where
+module _ (starts : Starts) (says : Says) (clusters : ℕ) (sessions : List ℕ) (begin : Begin) (writes : StartsWrite starts) where
   -- each draw of a run writes something
-  pub draw_writes : (past : Past) → IsRunOf starts says clusters sessions None past → (r : Revision) (d : Draw) → draw_of past r ≡ Some d → d.edit.writes ≢ []
+  pub draw_writes : (past : Past) → IsRunOf starts says clusters sessions begin past → (r : Revision) (d : Draw) → draw_of past r ≡ Some d → d.edit.writes ≢ []
   draw_writes [] run r d h = absurd (false≢true (ap is_some h))
   draw_writes (event.Draw f ∷ past) run r d h = by (λ k. draw_writes past run.1 r d k) (is_same r f.revision) h
     where
@@ -35,17 +30,11 @@ module _ (starts : Starts) (says : Says) (clusters : ℕ) (sessions : List ℕ) 
   draw_writes (e ∷ past) run r d h = draw_writes past run.1 r d h
 
   -- and so does each edit that is committed
-  pub edit_writes : AreNodes clusters sessions → StartsProper starts → (past : Past) → IsRunOf starts says clusters sessions None past → (r : Revision) (ws : List Write) → edit_of past r ≡ Some ws → ws ≢ []
-  edit_writes nodes proper past run r ws h = by (eq_by_cmp revision_cmp r the_start) refl
-    where
-      by : (b : Bool) → eq_by_cmp revision_cmp r the_start ≡ b → ws ≢ []
-      by true e = λ none. false≢true (sym (ap any_of none)
-          ∙ (sym (ap (λ o. option_map_or any_of o false) h)
-          ∙ ap (λ c. option_map_or any_of (cond c (Some Rattle.core_read.specs.Holds.start_writes) (Rattle.oak_doc.specs.Updates.of_revision (Rattle.oak_machine.specs.Commits.committed_edits past) r)) false) e))
-      by false e = λ none.
-          let d = (told_past clusters sessions nodes starts says proper past run).edits r ws h e in
-          draw_writes past run r d.0 d.1 (d.2 ∙ none)
+  pub edit_writes : AreNodes clusters sessions → StartsProper starts → (past : Past) → IsRunOf starts says clusters sessions begin past → (r : Revision) (ws : List Write) → edit_since past r ≡ Some ws → ws ≢ []
+  edit_writes nodes proper past run r ws h = λ none.
+      let d = (told_run starts says proper clusters sessions nodes begin past run).edits r ws h in
+      draw_writes past run r d.0 d.1 (d.2 ∙ none)
 
   -- so there is something to tell of each commit between two vectors
-  pub are_writing : AreNodes clusters sessions → StartsProper starts → (past : Past) → IsRunOf starts says clusters sessions None past → (from to : RevVec) → AreWriting past from to
+  pub are_writing : AreNodes clusters sessions → StartsProper starts → (past : Past) → IsRunOf starts says clusters sessions begin past → (from to : RevVec) → AreWriting past from to
   are_writing nodes proper past run from to r ws h new = edit_writes nodes proper past run r ws h

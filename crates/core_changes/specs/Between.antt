@@ -14,7 +14,8 @@ use Rattle.jr_tree.specs.Trees.{Nodes, node_at, property_at}
 use Rattle.oak_machine.specs.Changed.{tree_below}
 use Rattle.oak_machine.specs.History.{Past}
 use Rattle.oak_changes.specs.declared.said.Said.{Said}
-use Rattle.core_read.specs.Holds.{edit_of, IsClosedSight}
+use Rattle.core_begun.specs.Told.{edit_since, IsClosedSince}
+use Rattle.oak_machine.specs.declared.event.Start.{Start}
 
 -- `to` sees the revision, and `from` doesn't
 abbrev pub is_new : RevVec → RevVec → Revision → Bool
@@ -25,7 +26,7 @@ is_new from to r = sees to r && not (sees from r)
 pub record IsBetween (past : Past) (from to v : RevVec) : Type 0 where
   pub low : (q : Revision) → IsTrue (sees from q) → IsTrue (sees v q)
   pub high : (q : Revision) → IsTrue (sees v q) → IsTrue (sees to q)
-  pub closed : IsClosedSight past (sees v)
+  pub closed : IsClosedSince past (sees v)
 
 -- what an edit changes at an item of a tree, where it writes it
 abbrev pub change_of : Nodes → List Write → Item → Option ItemChange
@@ -45,8 +46,9 @@ change_of t ws item = by item.name
 
 -- what is said is a change by a commit that `to` sees and `from` doesn't, on the tree of the
 -- commits below it that `to` sees
-pub record IsChange (past : Past) (from to : RevVec) (s : Said) : Type 0 where
+pub record IsChange (start : Start) (past : Past) (from to : RevVec) (s : Said) : Type 0 where
   pub edit : List Write
-  pub is_edit : edit_of past s.revision ≡ Some edit
+  pub is_edit : edit_since past s.revision ≡ Some edit
   pub new : IsTrue (is_new from to s.revision)
-  pub change : change_of (tree_below None past to s.revision) edit s.change.item ≡ Some s.change
+  pub change : change_of (tree_below (Some start) past to s.revision) edit s.change.item
+      ≡ Some s.change

@@ -13,46 +13,47 @@ use Rattle.oak_changes.specs.declared.changes.ChangesReader.{ChangesReader}
 use Rattle.oak_changes.specs.declared.changes.Step.TheVariants as step
 use Rattle.oak_machine.specs.History.{Past}
 use Rattle.oak_read.specs.Reading.{IsTable, answer}
-use Rattle.core_read.specs.Holds.{edit_of}
-use Rattle.core_read.specs.Told.{IsInUse}
+use Rattle.core_begun.specs.Told.{edit_since, IsInUseSince}
 use Rattle.core_read.specs.World.{Progress}
 use Rattle.core_keep.specs.Formers.{AreFormers, Grows}
-use Rattle.core_keep.specs.Journal.{course_of, is_bounded, IsHeld, IsKeptWorld}
+use Rattle.core_begun.specs.Kept.{bounded_since, IsHeldSince, IsKeptSince}
+use Rattle.core_keep.specs.From.{course_from}
 use Rattle.core_watch.specs.Instants.{first_instants, Instant, documents_at}
 use Rattle.core_changes.specs.Between.{is_new}
 use Rattle.core_changes.specs.Observing.{ObservesOn}
+use Rattle.oak_machine.specs.declared.event.Start.{Start}
 
 -- the vectors can be read between: the pin is held; the lesser vector is in use, sees all that
 -- bounds so far see, and nothing that the pin's base doesn't
-pub record AreHeld (past : Past) (from : RevVec) (pin : Pin) : Type 0 where
-  pub to : IsHeld past pin.base pin.sweep
-  pub used : IsInUse past from
-  pub above : (r : Revision) → IsTrue (is_bounded past r) → IsTrue (sees from r)
+pub record AreHeld (start : Start) (past : Past) (from : RevVec) (pin : Pin) : Type 0 where
+  pub to : IsHeldSince start past pin.base pin.sweep
+  pub used : IsInUseSince start past from
+  pub above : (r : Revision) → IsTrue (bounded_since start past r) → IsTrue (sees from r)
   pub below : (r : Revision) → IsTrue (sees from r) → IsTrue (sees pin.base r)
 
 -- each new commit writes something
 abbrev pub AreWriting : Past → RevVec → RevVec → Type 0
 AreWriting past from to =
-    (r : Revision) (ws : List Write) → edit_of past r ≡ Some ws → IsTrue (is_new from to r)
+    (r : Revision) (ws : List Write) → edit_since past r ≡ Some ws → IsTrue (is_new from to r)
     → ws ≢ []
 
 -- changes can be read: the documents keep what the journal tells, the vectors are held, and former
 -- documents are followed
-pub record CanObserve (from : RevVec) (pin : Pin) (i : Instant) : Type 0 where
+pub record CanObserve (start : Start) (from : RevVec) (pin : Pin) (i : Instant) : Type 0 where
   pub ordered : IsTable i.moment.table
   pub done : Progress
-  pub kept : IsKeptWorld (documents_at i) i.moment.past done
-  pub held : AreHeld i.moment.past from pin
-  pub listed : AreFormers (documents_at i) (course_of i.moment.past) i.formers
+  pub kept : IsKeptSince start (documents_at i) i.moment.past done
+  pub held : AreHeld start i.moment.past from pin
+  pub listed : AreFormers (documents_at i) (course_from start i.moment.past) i.formers
   pub writing : AreWriting i.moment.past from pin.base
 
 -- at each of some instants changes can be read, and from one to the next others let the reader go
 -- on
-abbrev pub AreObservable : RevVec → Pin → Instant → List Instant → Type 0
-AreObservable from pin i [] = Unit {0}
-AreObservable from pin i (n ∷ ns) =
-    ObservesOn from pin (documents_at i) (documents_at n) i.moment.past n.moment.past
-    × Grows i.formers n.formers × CanObserve from pin n × AreObservable from pin n ns
+abbrev pub AreObservable : Start → RevVec → Pin → Instant → List Instant → Type 0
+AreObservable start from pin i [] = Unit {0}
+AreObservable start from pin i (n ∷ ns) =
+    ObservesOn start from pin (documents_at i) (documents_at n) i.moment.past n.moment.past
+    × Grows i.formers n.formers × CanObserve start from pin n × AreObservable start from pin n ns
 
 -- a reader after the documents of each of some instants have answered it, one after another
 abbrev pub after_instants : List Instant → ChangesReader → ChangesReader

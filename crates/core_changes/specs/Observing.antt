@@ -25,29 +25,33 @@ use Rattle.oak_machine.specs.Commits.{is_in_base}
 use Rattle.oak_machine.specs.History.{Past}
 use Rattle.oak_read.specs.Meaning.{Documents, commit_root_of, documents_in}
 use Rattle.oak_read.specs.Wanted.{Ids, Known}
-use Rattle.core_read.specs.Holds.{edit_of, has_revision}
-use Rattle.core_read.specs.Told.{IsIn, IsTold}
+use Rattle.core_read.specs.Holds.{has_revision}
+use Rattle.core_read.specs.Told.{IsIn}
+use Rattle.core_begun.specs.Told.{edit_since, IsToldSince}
 use Rattle.core_keep.specs.Formers.{Former, Formers, IsShownIn}
-use Rattle.core_keep.specs.Journal.{course_of}
+use Rattle.core_keep.specs.From.{course_from}
 use Rattle.core_keep.specs.Readers.{gone_by, Reads}
 use Rattle.core_keep.specs.Standing.{gone_in, gone_of, values_in}
 use Rattle.core_watch.specs.Reading.{AreLeft, is_asked, is_left, ReadsOn}
 use Rattle.core_watch.specs.Standing.{HasEntry, is_known_or_left}
 use Rattle.core_changes.specs.Between.{IsBetween, IsChange, is_new}
+use Rattle.oak_machine.specs.declared.event.Start.{Start}
 
 -- what a reader goes by at a node tells the changes there: at each vector between the two it reads
 -- the tree; of each new commit it has just what its edit writes; and an entry of a property in its
 -- copy is a write
-pub record TellsChanges (ds : Documents) (past : Past) (from to t : RevVec) (p : Path)
+pub record TellsChanges (start : Start) (ds : Documents) (past : Past) (from to t : RevVec)
+    (p : Path)
     (copy : Document) (asked : ℕ → Bool) (look : ℕ → Option Document) : Type 0 where
   pub reads : (v : RevVec) → IsBetween past from to v
-      → Reads ds (course_of past) (sees v) (sees t) p copy asked look
-  pub node : (r : Revision) (ws : List Write) → edit_of past r ≡ Some ws → IsTrue (is_new from to r)
+      → Reads ds (course_from start past) (sees v) (sees t) p copy asked look
+  pub node : (r : Revision) (ws : List Write) → edit_since past r ≡ Some ws
+      → IsTrue (is_new from to r)
       → of_revision (gone_in (gone_by copy look)) r ≡ written (gone_of p) ws
-  pub prop : (n : Name) (r : Revision) (ws : List Write) → edit_of past r ≡ Some ws
+  pub prop : (n : Name) (r : Revision) (ws : List Write) → edit_since past r ≡ Some ws
       → IsTrue (is_new from to r)
       → of_revision (values_in n (gone_by copy look)) r ≡ written (put_of p n) ws
-  pub genuine : (n : Name) (q : Revision) (us : List Write) → edit_of past q ≡ Some us
+  pub genuine : (n : Name) (q : Revision) (us : List Write) → edit_since past q ≡ Some us
       → IsTrue (sees to q) → IsTrue (is_some (of_revision (values_of_property copy.props n) q))
       → IsTrue (is_some (written (put_of p n) us))
 
@@ -62,12 +66,13 @@ pub record AreSaying (ds : Documents) (to t : RevVec) (known : Known) : Type 0 w
 -- the node's document is known; of the previous documents that it lists just those are left that
 -- weren't asked for; of the others what was found is known; and each former document is shown at
 -- each vector between the two
-pub record IsAsking (ds : Documents) (past : Past) (formers : Formers) (from to t : RevVec)
+pub record IsAsking (start : Start) (ds : Documents) (past : Past) (formers : Formers)
+    (from to t : RevVec)
     (known : Known) (left : Ids) (p : Path) : Type 0 where
   pub document : Document
   pub there : documents_in known (id.Node p) ≡ Some document
   pub look : ℕ → Option Document
-  pub tells : TellsChanges ds past from to t p document (is_asked left p) look
+  pub tells : TellsChanges start ds past from to t p document (is_asked left p) look
   pub found : (e : PrevEntry) → IsIn e document.prev → IsTrue (is_asked left p e.number)
       → documents_in known (id.Prev e.number p) ≡ look e.number
   pub waiting : AreLeft known left
@@ -79,12 +84,13 @@ pub record IsAsking (ds : Documents) (past : Past) (formers : Formers) (from to 
 
 -- all of these were asked for; and of the entries that `to` sees and t doesn't each commit root is
 -- known or left
-pub record IsRooted (ds : Documents) (past : Past) (from to t : RevVec) (known : Known) (left : Ids)
+pub record IsRooted (start : Start) (ds : Documents) (past : Past) (from to t : RevVec)
+    (known : Known) (left : Ids)
     (p : Path) : Type 0 where
   pub document : Document
   pub there : documents_in known (id.Node p) ≡ Some document
   pub look : ℕ → Option Document
-  pub tells : TellsChanges ds past from to t p document (λ k. true) look
+  pub tells : TellsChanges start ds past from to t p document (λ k. true) look
   pub found : (e : PrevEntry) → IsIn e document.prev
       → documents_in known (id.Prev e.number p) ≡ look e.number
   pub roots : (x : Document) → IsIn x (gone_by document look) → (q : Revision) → IsTrue (sees to q)
@@ -94,10 +100,13 @@ pub record IsRooted (ds : Documents) (past : Past) (from to t : RevVec) (known :
   pub nodes : (x : DocId) → IsTrue (is_left left x) → (q : Path) × (x ≡ id.Node q)
 
 -- the changes so far are just those at the nodes of these paths
-pub record AreSaid (past : Past) (from to : RevVec) (passed : Path → Bool) (said : List Said)
+pub record AreSaid (start : Start) (past : Past) (from to : RevVec) (passed : Path
+    → Bool) (said : List Said)
     : Type 0 where
-  pub each : (s : Said) → IsIn s said → IsChange past from to s × IsTrue (passed s.change.item.path)
-  pub all : (s : Said) → IsChange past from to s → IsTrue (passed s.change.item.path) → IsIn s said
+  pub each : (s : Said) → IsIn s said → IsChange start past from to s
+      × IsTrue (passed s.change.item.path)
+  pub all : (s : Said) → IsChange start past from to s → IsTrue (passed s.change.item.path)
+      → IsIn s said
 
 -- the node's document stands before that of the node at a path, or is it
 abbrev pub is_before_node : Path → Path → Bool
@@ -107,33 +116,36 @@ is_before_node at p = is_lt (id_cmp (id.Node p) (id.Node at))
 abbrev pub is_up_to_node : Path → Path → Bool
 is_up_to_node at p = is_le (id_cmp (id.Node p) (id.Node at))
 
-module _ (ds : Documents) (past : Past) (formers : Formers) (from to t : RevVec) (at : Path)
+module _ (start : Start) (ds : Documents) (past : Past) (formers : Formers) (from to t : RevVec)
+    (at : Path)
     (known : Known) (said : List Said) where
   -- what is so at a step
   abbrev pub Stands : Step → Type 0
   Stands step.First = said ≡ []
-  Stands step.Next = AreSaid past from to (is_up_to_node at) said
+  Stands step.Next = AreSaid start past from to (is_up_to_node at) said
   Stands (step.Previous left) =
-      IsAsking ds past formers from to t known ((left.first, tt) ∷ left.rest) at
-      × AreSaying ds to t known × AreSaid past from to (is_before_node at) said
+      IsAsking start ds past formers from to t known ((left.first, tt) ∷ left.rest) at
+      × AreSaying ds to t known × AreSaid start past from to (is_before_node at) said
   Stands (step.Roots left) =
-      IsRooted ds past from to t known ((left.first, tt) ∷ left.rest) at × AreSaying ds to t known
-      × AreSaid past from to (is_before_node at) said
-  Stands (step.Done o) = o ≡ changes_between None past from to
+      IsRooted start ds past from to t known ((left.first, tt) ∷ left.rest) at
+      × AreSaying ds to t known
+      × AreSaid start past from to (is_before_node at) said
+  Stands (step.Done o) = o ≡ changes_between (Some start) past from to
 
 -- a reader of changes stands where its step says
-abbrev pub IsObserving : Documents → Past → Formers → ChangesReader → Type 0
-IsObserving ds past formers r =
-    Stands ds past formers r.from r.pin.base r.pin.sweep r.at r.known r.said r.step
+abbrev pub IsObserving : Start → Documents → Past → Formers → ChangesReader → Type 0
+IsObserving start ds past formers r =
+    Stands start ds past formers r.from r.pin.base r.pin.sweep r.at r.known r.said r.step
 
 -- between two moments, at the first of which committed edits are those of their draws, nothing
 -- changed that `to` sees: its commits, their bases, and what each reader at a vector between the
 -- two reads
-pub record ObservesOn (from : RevVec) (pin : Pin) (ds now : Documents) (past later : Past)
+pub record ObservesOn (start : Start) (from : RevVec) (pin : Pin) (ds now : Documents)
+    (past later : Past)
     : Type 0 where
-  pub told : IsTold past
-  pub edits : (r : Revision) → IsTrue (sees pin.base r) → edit_of later r ≡ edit_of past r
-  pub bases : (r : Revision) (ws : List Write) → edit_of past r ≡ Some ws → (q : Revision)
+  pub told : IsToldSince start past
+  pub edits : (r : Revision) → IsTrue (sees pin.base r) → edit_since later r ≡ edit_since past r
+  pub bases : (r : Revision) (ws : List Write) → edit_since past r ≡ Some ws → (q : Revision)
       → is_in_base later r q ≡ is_in_base past r q
   pub reads : (v : RevVec) → IsBetween past from pin.base v
-      → ReadsOn (record { base = v; sweep = pin.sweep }) ds now past later
+      → ReadsOn start (record { base = v; sweep = pin.sweep }) ds now past later

@@ -20,12 +20,14 @@ ghost use Rattle.oak_machine.specs.declared.event.Event.TheVariants as event;
 ghost use Rattle.oak_machine.specs.Changed.{changes_between};
 ghost use Rattle.oak_machine.specs.Commits.{draw_of, is_commit_of};
 ghost use Rattle.oak_machine.specs.Runs.{AreNodes, IsRunOf, MayCommit};
-ghost use Rattle.oak_machine.specs.History.{Past};
+ghost use Rattle.oak_machine.specs.History.{Begin, Past};
 ghost use Rattle.oak_read.specs.Meaning.{Documents, documents_in};
 ghost use Rattle.oak_read.specs.Reading.{IsTable, answer};
 ghost use Rattle.core_keep.specs.Formers.{AreFormers, Formers, Grows};
-ghost use Rattle.core_keep.specs.Journal.{course_of, IsHeld, IsKeptWorld};
-ghost use Rattle.core_read.specs.Holds.{edit_of};
+ghost use Rattle.core_keep.specs.From.{course_from};
+ghost use Rattle.core_begun.specs.Kept.{IsHeldSince, IsKeptSince};
+ghost use Rattle.oak_machine.specs.declared.event.Start.{Start};
+ghost use Rattle.core_begun.specs.Told.{edit_since};
 ghost use Rattle.core_read.specs.World.{Progress};
 ghost use Rattle.core_watch.specs.Instants.{first_instants, Instant};
 ghost use Rattle.core_watch.specs.Moments.{HasIdsAmong};
@@ -43,35 +45,38 @@ use oak_machine::Law;
 /// needs that the documents that come have finitely many ids; what it gives where it is done
 /// doesn't.
 pub fn observers_read_what_commits_change()
-    ensures ends { (ids : List DocId) (a : Global) (from : RevVec) (pin : Pin) (i : Instant)
-        (f : ℕ → Instant) → ((n : ℕ) → AreObservable from pin i (first_instants n f))
+    ensures ends { (start : Start) (ids : List DocId) (a : Global) (from : RevVec) (pin : Pin)
+        (i : Instant) (f : ℕ → Instant)
+        → ((n : ℕ) → AreObservable start from pin i (first_instants n f))
         → ((n : ℕ) → HasIdsAmong ids (f n).moment)
-        → EndsWith (λ o. o ≡ changes_between None i.moment.past from pin.base) f
+        → EndsWith (λ o. o ≡ changes_between (Some start) i.moment.past from pin.base) f
         (changes_reader a from pin) }
-    ensures done { (a : Global) (from : RevVec) (pin : Pin) (i : Instant) (is : List Instant)
-        (o : List CommitChanges) → AreObservable from pin i is
+    ensures done { (start : Start) (a : Global) (from : RevVec) (pin : Pin) (i : Instant)
+        (is : List Instant) (o : List CommitChanges) → AreObservable start from pin i is
         → (after_instants is (changes_reader a from pin)).step ≡ step.Done o
-        → o ≡ changes_between None i.moment.past from pin.base }
+        → o ≡ changes_between (Some start) i.moment.past from pin.base }
 {}
 
-/// A step at a time, a reader of changes begins, reads on over each answer of the documents and over
-/// all that others do, and gives what the commits change. It keeps its vectors.
+/// A step at a time, a reader of changes begins, reads on over each answer of the documents and
+/// over all that others do, and gives what the commits change. It keeps its vectors.
 pub fn observers_read_on()
-    ensures begins { (ds : Documents) (past : Past) (formers : Formers) (a : Global) (from : RevVec)
-        (pin : Pin) → IsObserving ds past formers (changes_reader a from pin) }
-    ensures feeds { (table : List (DocId × Document)) (past : Past) (formers : Formers)
-        (done : Progress) (r : ChangesReader) → IsTable table
-        → IsKeptWorld (documents_in table) past done → AreHeld past r.from r.pin
-        → AreFormers (documents_in table) (course_of past) formers
-        → AreWriting past r.from r.pin.base → IsObserving (documents_in table) past formers r
-        → IsObserving (documents_in table) past formers (fed r (answer table (due r))) }
-    ensures lasts { (formers more : Formers) (ds now : Documents) (past later : Past)
-        (done : Progress) (r : ChangesReader) → IsKeptWorld now later done
-        → AreHeld later r.from r.pin → ObservesOn r.from r.pin ds now past later
-        → Grows formers more → IsObserving ds past formers r → IsObserving now later more r }
-    ensures gives { (ds : Documents) (past : Past) (formers : Formers) (r : ChangesReader)
-        (o : List CommitChanges) → IsObserving ds past formers r → r.step ≡ step.Done o
-        → o ≡ changes_between None past r.from r.pin.base }
+    ensures begins { (start : Start) (ds : Documents) (past : Past) (formers : Formers) (a : Global)
+        (from : RevVec) (pin : Pin)
+        → IsObserving start ds past formers (changes_reader a from pin) }
+    ensures feeds { (start : Start) (table : List (DocId × Document)) (past : Past)
+        (formers : Formers) (done : Progress) (r : ChangesReader) → IsTable table
+        → IsKeptSince start (documents_in table) past done → AreHeld start past r.from r.pin
+        → AreFormers (documents_in table) (course_from start past) formers
+        → AreWriting past r.from r.pin.base → IsObserving start (documents_in table) past formers r
+        → IsObserving start (documents_in table) past formers (fed r (answer table (due r))) }
+    ensures lasts { (start : Start) (formers more : Formers) (ds now : Documents)
+        (past later : Past) (done : Progress) (r : ChangesReader) → IsKeptSince start now later done
+        → AreHeld start later r.from r.pin → ObservesOn start r.from r.pin ds now past later
+        → Grows formers more → IsObserving start ds past formers r
+        → IsObserving start now later more r }
+    ensures gives { (start : Start) (ds : Documents) (past : Past) (formers : Formers)
+        (r : ChangesReader) (o : List CommitChanges) → IsObserving start ds past formers r
+        → r.step ≡ step.Done o → o ≡ changes_between (Some start) past r.from r.pin.base }
     ensures keeps { (r : ChangesReader) (x : Reply)
         → ((fed r x).from ≡ r.from) × ((fed r x).pin ≡ r.pin) }
 {}
@@ -80,28 +85,30 @@ pub fn observers_read_on()
 /// while the journal stays, a Commit, and each other event, where a Draw is of a revision that
 /// isn't committed.
 pub fn steps_let_observers_read_on()
-    ensures event { (from : RevVec) (pin : Pin) (ds : Documents) (past : Past) (done : Progress)
-        (e : Event) → IsKeptWorld ds past done → ((r : Revision) → IsFalse (is_commit_of r e))
-        → ((d : Draw) → e ≡ event.Draw d → edit_of past d.revision ≡ None)
-        → ObservesOn from pin ds ds past (e ∷ past) }
-    ensures documents { (from : RevVec) (pin : Pin) (ds now : Documents) (past : Past)
-        (done : Progress) → IsKeptWorld ds past done → AreHeld past from pin
-        → ((v : RevVec) → IsHeld past v pin.sweep
-        → ReadsOn (record { base = v; sweep = pin.sweep }) ds now past past)
-        → ObservesOn from pin ds now past past }
-    ensures commit { (from : RevVec) (pin : Pin) (ds now : Documents) (past : Past)
-        (done : Progress) (r : Revision) (drawn : Draw) → IsKeptWorld ds past done
-        → AreHeld past from pin → draw_of past r ≡ Some drawn → MayCommit past r
-        → ((v : RevVec) → IsHeld past v pin.sweep
-        → ReadsOn (record { base = v; sweep = pin.sweep }) ds now past (event.Commit r ∷ past))
-        → ObservesOn from pin ds now past (event.Commit r ∷ past) }
+    ensures event { (start : Start) (from : RevVec) (pin : Pin) (ds : Documents) (past : Past)
+        (done : Progress) (e : Event) → IsKeptSince start ds past done
+        → ((r : Revision) → IsFalse (is_commit_of r e))
+        → ((d : Draw) → e ≡ event.Draw d → edit_since past d.revision ≡ None)
+        → ObservesOn start from pin ds ds past (e ∷ past) }
+    ensures documents { (start : Start) (from : RevVec) (pin : Pin) (ds now : Documents)
+        (past : Past) (done : Progress) → IsKeptSince start ds past done
+        → AreHeld start past from pin
+        → ((v : RevVec) → IsHeldSince start past v pin.sweep
+        → ReadsOn start (record { base = v; sweep = pin.sweep }) ds now past past)
+        → ObservesOn start from pin ds now past past }
+    ensures commit { (start : Start) (from : RevVec) (pin : Pin) (ds now : Documents) (past : Past)
+        (done : Progress) (r : Revision) (drawn : Draw) → IsKeptSince start ds past done
+        → AreHeld start past from pin → draw_of past r ≡ Some drawn → MayCommit past r
+        → ((v : RevVec) → IsHeldSince start past v pin.sweep
+        → ReadsOn start (record { base = v; sweep = pin.sweep }) ds now past (event.Commit r
+        ∷ past)) → ObservesOn start from pin ds now past (event.Commit r ∷ past) }
 {}
 
 /// In a run by a law each commit writes something, between whichever vectors: nothing may start
 /// that writes nothing.
 pub fn commits_write_something<L: Law>(law: &L)
-    ensures { (clusters : ℕ) (sessions : List ℕ) (past : Past) (from to : RevVec)
+    ensures { (clusters : ℕ) (sessions : List ℕ) (begin : Begin) (past : Past) (from to : RevVec)
         → AreNodes clusters sessions
-        → IsRunOf (L.may_start law.now) (L.may_say law.now) clusters sessions None past
+        → IsRunOf (L.may_start law.now) (L.may_say law.now) clusters sessions begin past
         → AreWriting past from to }
 {}

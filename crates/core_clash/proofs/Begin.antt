@@ -1,5 +1,6 @@
 -- A draw that may follow a run may begin.
-use Rattle.std.proofs.Common.{◌≡◌, ◌⊎◌, inl, inr, ℕ, true, false, List, [], ◌∷◌, ◌++◌, refl, sym, ap, subst, ◌∙◌, fold, None}
+use Rattle.std.proofs.Common.{◌≡◌, ◌⊎◌, inl, inr, ℕ, Bool, true, false, cond, Option, Some, List, [], ◌∷◌, ◌++◌, refl, sym, ap, subst, ◌∙◌, fold, None}
+use Rattle.std.specs.Option.{option_map_or}
 use Rattle.std.specs.List.{flat_map}
 use Rattle.std.specs.Map.{keys_of}
 use Rattle.std.specs.BTreeMap.{insert_entry}
@@ -19,14 +20,20 @@ use Rattle.oak_clash.specs.declared.mark.Mark.TheVariants.{Exists, Guard, Touch,
 use Rattle.oak_clash.specs.declared.mark.MarkAt.{MarkAt}
 use Rattle.oak_machine.specs.declared.event.Draw.{Draw}
 use Rattle.oak_machine.specs.declared.event.Event.TheVariants as event
-use Rattle.oak_machine.specs.Commits.{tree_at}
+use Rattle.oak_machine.specs.Commits.{draw_of, tree_at}
+use Rattle.oak_machine.specs.History.{Begin, begin_at}
+use Rattle.jr_rev.specs.declared.revision.Revision.{Revision}
+use Rattle.jr_rev.specs.Vectors.{sees}
+use Rattle.core_read.proofs.Latest.{before_itself}
+use Rattle.core_begun.specs.Told.{start_in, IsGoodSince}
+use Rattle.core_begun.proofs.Runs.{told_run}
 use Rattle.oak_machine.specs.Laws.{Starts, Says, StartsProper, AreOfWrites, is_of_item}
 use Rattle.oak_machine.specs.Marks.{Marked, mark_cmp, mark_at_cmp, marks_of_write, marks_for, with_marks}
 use Rattle.oak_machine.specs.Runs.{IsRunOf, AreNodes}
 use Rattle.core_heads.proofs.Begins.{begins_run}
 use Rattle.core_clash.specs.Views.{In, Once, mark_at, NamesItems}
 use Rattle.core_clash.specs.Core.{Core, MayBegin}
-use Rattle.core_clash.proofs.Basics.{In-left, In-right, In-append}
+use Rattle.core_clash.proofs.Basics.{In-left, In-right, In-append, is_same_self}
 use Rattle.core_clash.proofs.Firsts.{In-filter, In-from_filter}
 use Rattle.core_clash.proofs.Meetings.{In-insert, In-from_insert}
 
@@ -118,10 +125,22 @@ names_items t edit ms are k item = (to, from)
     from : In k (flat_map marks_of_write edit.writes) → In k ms
     from h = (In-from_filter is_of_item k ms (subst (λ (xs : List MarkAt). In k xs) (sym are) (In-filter is_of_item k (marks_for t edit.writes) (writes_to k edit.writes [] (inl h)) item))).0
 
-pub may_begin : (clusters : ℕ) (sessions : List ℕ) → AreNodes clusters sessions → (starts : Starts) (says : Says) → StartsProper starts → (s : Core) (d : Draw) (left : List Path) → IsRunOf starts says clusters sessions None (event.Draw d ∷ s.past) → ((p : Path) (m : Mark) → In (mark_at p m) d.marks → In p left) → Once left → MayBegin s d left
-may_begin clusters sessions nodes starts says proper s d left run covers once = record {
-  begins = begins_run clusters sessions nodes None starts says d s.past run;
+pub may_begin : (clusters : ℕ) (sessions : List ℕ) → AreNodes clusters sessions → (starts : Starts) (says : Says) → StartsProper starts → (s : Core) (begin : Begin) (d : Draw) (left : List Path) → ((o : Revision) → s.old o ≡ true → sees (begin_at clusters begin) o ≡ true) → IsRunOf starts says clusters sessions begin (event.Draw d ∷ s.past) → ((p : Path) (m : Mark) → In (mark_at p m) d.marks → In p left) → Once left → MayBegin s d left
+may_begin clusters sessions nodes starts says proper s begin d left known run covers once = record {
+  begins = begins_run clusters sessions nodes begin starts says d s.past run;
+  sees_old = λ o old. sym (ap (λ (x : Option Draw). option_map_or (λ (e : Draw). sees e.base o) x false) here) ∙ good.begins o (known o old);
+  new = by (s.old d.revision) refl;
   covers = covers;
   once = once;
-  entries = names_items (tree_at None s.past d.base) d.edit d.marks (proper _ d.session d.edit d.marks d.base run.0.base run.0.lawful).1;
+  entries = names_items (tree_at begin s.past d.base) d.edit d.marks (proper _ d.session d.edit d.marks d.base run.0.base run.0.lawful).1;
 }
+  where
+    here : draw_of (event.Draw d ∷ s.past) d.revision ≡ Some d
+    here = ap (λ b. cond b (Some d) (draw_of s.past d.revision)) (is_same_self d.revision)
+
+    good : IsGoodSince (start_in clusters begin) (event.Draw d ∷ s.past) d.revision d
+    good = (told_run starts says proper clusters sessions nodes begin (event.Draw d ∷ s.past) run).draws d.revision d here
+
+    by : (b : Bool) → s.old d.revision ≡ b → b ≡ false
+    by true old = absurd (false≢true (sym (before_itself d.revision) ∙ good.after d.revision (known d.revision old)))
+    by false old = refl

@@ -4,7 +4,6 @@ use Rattle.jr_path.specs.declared.path.Path.{Path}
 use Rattle.jr_path.specs.declared.path.Item.{Item}
 use Rattle.jr_rev.specs.declared.revision.Revision.{Revision}
 use Rattle.jr_rev.specs.Revisions.{is_same}
-use Rattle.jr_rev.specs.Vectors.{start_of}
 use Rattle.oak_clash.specs.declared.mark.Mark.{Mark}
 use Rattle.oak_machine.specs.declared.event.Draw.{Draw}
 use Rattle.oak_machine.specs.declared.event.Event.TheVariants as event
@@ -23,7 +22,7 @@ module _ (s : Core) (d : Draw) (number : ℕ) (docs : Docs) where
   r = d.revision
 
   abbrev pub t : Core
-  t = record { number = number; docs = docs; moved = s.moved; past = event.Commit r ∷ s.past; writers = s.writers }
+  t = record { number = number; docs = docs; moved = s.moved; old = s.old; past = event.Commit r ∷ s.past; writers = s.writers }
 
   -- what holds of r and of the committed before holds of the committed
   of_committed : (P : Revision → Type 0) → P r → ((o : Revision) → is_committed s.past o ≡ true → P o) → (o : Revision) → is_committed t.past o ≡ true → P o
@@ -41,14 +40,14 @@ module _ (s : Core) (d : Draw) (number : ℕ) (docs : Docs) where
     ended o (inl c) = inl (or_right (is_same o r) _ c)
     ended o (inr u) = inr u
 
-    only_committed : (o : Revision) → (o ≡ start_of 1) ⊎ (is_committed s.past o ≡ true) → (o ≡ start_of 1) ⊎ (is_committed t.past o ≡ true)
+    only_committed : (o : Revision) → (s.old o ≡ true) ⊎ (is_committed s.past o ≡ true) → (s.old o ≡ true) ⊎ (is_committed t.past o ≡ true)
     only_committed o (inl e) = inl e
     only_committed o (inr c) = inr (or_right (is_same o r) _ c)
 
     same_marks : (q : Path) (o : Revision) (m : Mark) → marked_in (docs q) (s.moved q) o m ≡ marked_in (s.docs q) (s.moved q) o m
     same_marks q o m = ap (λ b. b || list_any (has_moved o m) (s.moved q)) (notes.marks q o m)
 
-    noted_by : (q : Path) (o : Revision) → (noted (s.docs q) o ≡ true) ⊎ (o ≡ r) → (o ≡ start_of 1) ⊎ (is_committed t.past o ≡ true)
+    noted_by : (q : Path) (o : Revision) → (noted (s.docs q) o ≡ true) ⊎ (o ≡ r) → (s.old o ≡ true) ⊎ (is_committed t.past o ≡ true)
     noted_by q o (inl h) = only_committed o (sound.only_committed q o h)
     noted_by q o (inr e) = inr (or_left (is_same o r) _ (rw e (is_same_self r)))
 
@@ -75,6 +74,7 @@ module _ (s : Core) (d : Draw) (number : ℕ) (docs : Docs) where
       ended_drawn = sound.ended_drawn;
       settled = sound.settled;
       start = sound.start;
+      new = sound.new;
       bounds = record { settled = sound.bounds.settled; below = sound.bounds.below; swept = sound.bounds.swept };
       moved = λ o q m h. only_committed o (sound.moved o q m h);
       entries = λ o q m free h k. same_marks q o m ∙ sound.entries o q m free h k;

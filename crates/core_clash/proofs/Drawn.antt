@@ -5,7 +5,6 @@ use Rattle.jr_path.specs.declared.path.Path.{Path}
 use Rattle.jr_path.specs.declared.path.Item.{Item}
 use Rattle.jr_rev.specs.declared.revision.Revision.{Revision}
 use Rattle.jr_rev.specs.Revisions.{is_same}
-use Rattle.jr_rev.specs.Vectors.{start_of}
 use Rattle.oak_clash.specs.declared.mark.Mark.{Mark}
 use Rattle.oak_clash.specs.Clashes.{clash}
 use Rattle.oak_machine.specs.declared.event.Draw.{Draw}
@@ -70,12 +69,19 @@ module _ (s : Core) (d : Draw) (left : List Path) where
         by (inr f) (inl k) = base_stays a o f ∙ (rw k (may.begins.later a))
         by (inr f) (inr k) = base_stays a o f ∙ sound.settled a o (rw (stays o k) at h)
 
-    start : (o : Revision) → is_drawn t.past o ≡ true → is_in_base t.past o (start_of 1) ≡ true
-    start o h = by (decide o r)
+    start : (o : Revision) → is_drawn t.past o ≡ true → (q : Revision) → s.old q ≡ true → is_in_base t.past o q ≡ true
+    start o h q old = by (decide o r)
       where
-        by : (o ≡ r) ⊎ (is_same o r ≡ false) → is_in_base t.past o (start_of 1) ≡ true
-        by (inl e) = rw e may.begins.start
-        by (inr f) = base_stays o (start_of 1) f ∙ sound.start o (rw (stays o f) at h)
+        by : (o ≡ r) ⊎ (is_same o r ≡ false) → is_in_base t.past o q ≡ true
+        by (inl e) = rw (e, draw_here) (may.sees_old q old)
+        by (inr f) = base_stays o q f ∙ sound.start o (rw (stays o f) at h) q old
+
+    new : (o : Revision) → is_drawn t.past o ≡ true → s.old o ≡ false
+    new o h = by (decide o r)
+      where
+        by : (o ≡ r) ⊎ (is_same o r ≡ false) → s.old o ≡ false
+        by (inl e) = rw e may.new
+        by (inr f) = sound.new o (rw (stays o f) at h)
 
     -- bounds see nothing new, and the new base sees what they see
     bounds : AreBelow t.past
@@ -111,11 +117,11 @@ module _ (s : Core) (d : Draw) (left : List Path) where
         by (inl k) = subst (λ (x : Draw). NamesItems x.marks x.edit.writes) (sym (some_is (sym (subst (λ (x : Revision). draw_of t.past x ≡ Some d) (sym k) draw_here) ∙ h))) may.entries
         by (inr f) = sound.edits o e (sym (stays o f) ∙ h)
 
-    rooted : (o : Revision) (q : Path) (m : Mark) → is_swept s.past o ≡ false → (o ≡ start_of 1 → ⊥) → marked_in (s.docs q) (s.moved q) o m ≡ true → IsRooted (s.docs q) o (root_of t.past o)
+    rooted : (o : Revision) (q : Path) (m : Mark) → is_swept s.past o ≡ false → s.old o ≡ false → marked_in (s.docs q) (s.moved q) o m ≡ true → IsRooted (s.docs q) o (root_of t.past o)
     rooted o q m fresh other h = subst (λ (x : Path). IsRooted (s.docs q) o x) (sym (root_stays o (by (sound.origin o q m h)))) (sound.rooted o q m fresh other h)
       where
         by : IsOf s q o m → is_same o r ≡ false
-        by (inl e) = absurd (other e)
+        by (inl e) = not_both (s.old o) e other
         by (inr k) = old o (marks_drawn s.past o (mark_at q m) k.1)
 
     unrooted : (o : Revision) (q : Path) → IsWriterOf s q o → IsWriterOf t q o
@@ -187,6 +193,7 @@ module _ (s : Core) (d : Draw) (left : List Path) where
       ended_drawn = λ o h. still o (sound.ended_drawn o h);
       settled = settled;
       start = start;
+      new = new;
       bounds = bounds;
       moved = sound.moved;
       entries = entries;

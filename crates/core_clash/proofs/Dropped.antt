@@ -10,7 +10,7 @@ use Rattle.jr_value.specs.declared.value.Property.{Property}
 use Rattle.jr_rev.specs.declared.revision.Revision.{Revision}
 use Rattle.jr_rev.specs.declared.vector.Pin.{Pin}
 use Rattle.jr_rev.specs.declared.vector.RevVec.{RevVec}
-use Rattle.jr_rev.specs.Vectors.{sees, start_of}
+use Rattle.jr_rev.specs.Vectors.{sees}
 use Rattle.oak_clash.specs.declared.mark.Mark.{Mark}
 use Rattle.oak_clash.specs.declared.mark.Mark.TheVariants.{Exists, Guard, Touch, Prop}
 use Rattle.oak_doc.specs.declared.document.Document.{Document}
@@ -39,6 +39,14 @@ use Rattle.core_clash.proofs.Basics.{and_true, not_both, or_left, or_right, or_c
 use Rattle.core_clash.proofs.Pasts.{cause_later, due_later, marks_drawn}
 use Rattle.core_clash.proofs.Updates.{root_moved}
 
+neither : (a b : Bool) → a ≡ false → b ≡ false → (a || b) ≡ false
+neither true b h k = absurd (false≢true (sym h))
+neither false b h k = k
+
+right : (a b : Bool) → (a || b) ≡ false → b ≡ false
+right true b h = absurd (false≢true (sym h))
+right false b h = h
+
 -- what collections and splits do: of what no bound sees each mark and collision stays, in the document or in what moved from it; of what no bound has swept each status and commit root; and nothing comes
 pub record Drops (a b : Docs) (am bm : Moved) (bound swept : Revision → Bool) : Type 0 where
   pub ordered : (q : Path) → AreOrdered q (a q) → AreOrdered q (b q)
@@ -51,7 +59,11 @@ pub record Drops (a b : Docs) (am bm : Moved) (bound swept : Revision → Bool) 
   pub keeps_roots : (q : Path) (o : Revision) (m : Mark) (root : Path) → swept o ≡ false → marked_in (b q) (bm q) o m ≡ true → IsRooted (a q) o root → IsRooted (b q) o root
   pub only_roots : (q : Path) (o : Revision) → is_some (root_entry (b q) o) ≡ true → is_some (root_entry (a q) o) ≡ true
 
-module _ (s : Core) (number : ℕ) (docs : Docs) (moved : Moved) (sound : Sound s) (drops : Drops s.docs docs s.moved moved (is_bounded s.past) (is_swept s.past)) (done : (r : Revision) (p : Path) (m : Mark) → list_any (has_moved r m) (moved p) ≡ true → (r ≡ start_of 1) ⊎ (is_committed s.past r ≡ true)) where
+-- what there was from the beginning, and what a bound sees
+abbrev may_go : Core → Revision → Bool
+may_go s o = s.old o || is_bounded s.past o
+
+module _ (s : Core) (number : ℕ) (docs : Docs) (moved : Moved) (sound : Sound s) (drops : Drops s.docs docs s.moved moved (may_go s) (is_swept s.past)) (done : (r : Revision) (p : Path) (m : Mark) → list_any (has_moved r m) (moved p) ≡ true → (s.old r ≡ true) ⊎ (is_committed s.past r ≡ true)) where
   abbrev dropped : Core
   dropped = record s { number = number; docs = docs; moved = moved }
 
@@ -77,7 +89,7 @@ module _ (s : Core) (number : ℕ) (docs : Docs) (moved : Moved) (sound : Sound 
     where
       by : (is_bounded s.past b ≡ true) ⊎ (is_bounded s.past b ≡ false) → is_some (collision (docs (root_of s.past b)) b) ≡ true
       by (inl h) = not_both _ c (sound.unmarked b (ended_done b (marks_drawn s.past b _ so.mark) h so.going))
-      by (inr f) = ap (λ (x : Option (Revision × Item)). is_some x) (drops.keeps_collisions (root_of s.past b) b f) ∙ c
+      by (inr f) = ap (λ (x : Option (Revision × Item)). is_some x) (drops.keeps_collisions (root_of s.past b) b (neither (s.old b) _ (sound.new b (marks_drawn s.past b _ so.mark)) f)) ∙ c
 
   less : {X : Type 0} (x y : Option X) → ((e : X) → x ≡ Some e → y ≡ Some e) → is_some y ≡ false → is_some x ≡ false
   less None y h n = refl
@@ -92,8 +104,9 @@ module _ (s : Core) (number : ℕ) (docs : Docs) (moved : Moved) (sound : Sound 
     ended_drawn = sound.ended_drawn;
     settled = sound.settled;
     start = sound.start;
+    new = sound.new;
     bounds = sound.bounds;
-    entries = λ o q m free h k. drops.keeps q o m free (sound.entries o q m free h k);
+    entries = λ o q m free h k. drops.keeps q o m (neither (s.old o) _ (sound.new o (marks_drawn s.past o _ k)) free) (sound.entries o q m free h k);
     origin = λ o q m h. sound.origin o q m (drops.only q o m h);
     moved = done;
     rooted = λ o q m fresh other h. drops.keeps_roots q o m (root_of s.past o) fresh h (sound.rooted o q m fresh other (drops.only q o m h));
@@ -129,6 +142,7 @@ bound_keeps s m t sound may = record {
   ended_drawn = sound.ended_drawn;
   settled = sound.settled;
   start = sound.start;
+  new = sound.new;
   bounds = record {
     settled = λ o h. neither (sees m o) _ (may.settled o h) (sound.bounds.settled o h);
     below = λ r o h k. below r o h (or_cases (sees m o) _ k);
@@ -155,14 +169,6 @@ bound_keeps s m t sound may = record {
   noticed = λ a o p m n apart sa so c. sound.noticed a o p m n apart (record { written = sa.written; going = sa.going; mark = sa.mark }) (record { written = so.written; going = so.going; mark = so.mark }) c;
 }
   where
-    neither : (a b : Bool) → a ≡ false → b ≡ false → (a || b) ≡ false
-    neither true b h k = absurd (false≢true (sym h))
-    neither false b h k = k
-
-    right : (a b : Bool) → (a || b) ≡ false → b ≡ false
-    right true b h = absurd (false≢true (sym h))
-    right false b h = h
-
     below : (r o : Revision) → is_in_flight s.past r ≡ true → (sees m o ≡ true) ⊎ (is_bounded s.past o ≡ true) → is_in_base s.past r o ≡ true
     below r o h (inl k) = may.below r o h k
     below r o h (inr k) = sound.bounds.below r o h k
@@ -279,14 +285,14 @@ module _ (s : Core) (m t : RevVec) (p : Path) (old : Document) (op : UpdateOp) (
   moved_seen o Guard x g free = refl
   moved_seen o Touch x g free = refl
 
-  here : DropsHere p (Some old) (Some pruned) (s.moved p) (filter keep (s.moved p)) (is_bounded s.past) (is_swept s.past)
+  here : DropsHere p (Some old) (Some pruned) (s.moved p) (filter keep (s.moved p)) (may_go s) (is_swept s.past)
   here = record {
     ordered = λ h. (within.named ∙ h.0, record { names = within.names });
-    keeps = λ o k free h. keeps o k free (or_cases (has_mark old o k) _ h);
+    keeps = λ o k free h. keeps o k (right (s.old o) _ free) (or_cases (has_mark old o k) _ h);
     only = λ o k h. only o k (or_cases (has_mark pruned o k) _ h);
     keeps_notes = λ o fresh h. ap (λ (x : Option (Unit {0})). is_some x) (still o fresh).revisions ∙ h;
     only_notes = λ o h. within.revisions o h;
-    keeps_collisions = λ o free. (alone o free).collisions;
+    keeps_collisions = λ o free. (alone o (right (s.old o) _ free)).collisions;
     only_collisions = λ o e h. within.collisions o e h;
     keeps_roots = λ o k root fresh h is. ap (λ x. Some x) (root_moved old pruned o within.named (still o fresh).roots) ∙ is;
     only_roots = λ o h. within.roots o h;
@@ -300,11 +306,11 @@ module _ (s : Core) (m t : RevVec) (p : Path) (old : Document) (op : UpdateOp) (
       only o k (inl h) = or_left (has_mark old o k) _ (mark_was o k h)
       only o k (inr h) = or_right (has_mark old o k) _ (filtered (has_moved o k) keep (s.moved p) h)
 
-  done : (r : Revision) (q : Path) (k : Mark) → list_any (has_moved r k) (with_moved s.moved p (filter keep (s.moved p)) q) ≡ true → (r ≡ start_of 1) ⊎ (is_committed s.past r ≡ true)
-  done r q k = at_place (λ y doc ys. list_any (has_moved r k) ys ≡ true → (r ≡ start_of 1) ⊎ (is_committed s.past r ≡ true)) s.docs s.moved p None (filter keep (s.moved p)) q (λ h. sound.moved r p k (filtered (has_moved r k) keep (s.moved p) h)) (λ h. sound.moved r q k h)
+  done : (r : Revision) (q : Path) (k : Mark) → list_any (has_moved r k) (with_moved s.moved p (filter keep (s.moved p)) q) ≡ true → (s.old r ≡ true) ⊎ (is_committed s.past r ≡ true)
+  done r q k = at_place (λ y doc ys. list_any (has_moved r k) ys ≡ true → (s.old r ≡ true) ⊎ (is_committed s.past r ≡ true)) s.docs s.moved p None (filter keep (s.moved p)) q (λ h. sound.moved r p k (filtered (has_moved r k) keep (s.moved p) h)) (λ h. sound.moved r q k h)
 
   pub prune_drops : Sound (record s { number = number; docs = with_document s.docs p pruned; moved = with_moved s.moved p (filter keep (s.moved p)) })
-  prune_drops = drop_keeps s number _ _ sound (drops_at s.docs s.moved p (Some pruned) (filter keep (s.moved p)) _ _ (subst (λ (doc : Option Document). DropsHere p doc (Some pruned) (s.moved p) (filter keep (s.moved p)) (is_bounded s.past) (is_swept s.past)) (sym may.there) here)) done
+  prune_drops = drop_keeps s number _ _ sound (drops_at s.docs s.moved p (Some pruned) (filter keep (s.moved p)) _ _ (subst (λ (doc : Option Document). DropsHere p doc (Some pruned) (s.moved p) (filter keep (s.moved p)) (may_go s) (is_swept s.past)) (sym may.there) here)) done
 
 -- ---- a document that goes
 
@@ -324,28 +330,28 @@ module _ (s : Core) (m t : RevVec) (p : Path) (old : Document) (sound : Sound s)
       said_swept : (o : Revision) → has old.revisions o ≡ true → sees t o ≡ true
       said_swept o h = Rattle.core_keep.proofs.Garbage.all_of (sees t) (keys_of old.revisions) (Rattle.core_keep.proofs.Item.and_both (is_absent m t old && list_all (sees m) (revisions_in old)) (list_all (sees t) (keys_of old.revisions)) may.garbage).1 o (Rattle.core_keep.proofs.Garbage.key_in old.revisions o h)
 
-  gone : DropsHere p (Some old) None (s.moved p) [] (is_bounded s.past) (is_swept s.past)
+  gone : DropsHere p (Some old) None (s.moved p) [] (may_go s) (is_swept s.past)
   gone = record {
     ordered = λ h. tt;
     keeps = λ o k free h. keeps o k free (or_cases (has_mark old o k) _ h);
     only = λ o k h. absurd (false≢true h);
     keeps_notes = λ o fresh h. not_both (has old.revisions o) h (unsaid o fresh);
     only_notes = λ o h. absurd (false≢true h);
-    keeps_collisions = λ o free. sym (without o free).collisions;
+    keeps_collisions = λ o free. sym (without o (right (s.old o) _ free)).collisions;
     only_collisions = λ o e h. absurd (false≢true (ap (λ (x : Option (Revision × Item)). is_some x) h));
     keeps_roots = λ o k root fresh h is. absurd (false≢true h);
     only_roots = λ o h. absurd (false≢true h);
   }
     where
-      keeps : (o : Revision) (k : Mark) → is_bounded s.past o ≡ false → (has_mark old o k ≡ true) ⊎ (list_any (has_moved o k) (s.moved p) ≡ true) → marked_in None [] o k ≡ true
-      keeps o k free (inl h) = not_both (has_mark old o k) h (no_mark o k free)
-      keeps o k free (inr h) = not_both (is_bounded s.past o) (may.moved o k h) free
+      keeps : (o : Revision) (k : Mark) → may_go s o ≡ false → (has_mark old o k ≡ true) ⊎ (list_any (has_moved o k) (s.moved p) ≡ true) → marked_in None [] o k ≡ true
+      keeps o k free (inl h) = not_both (has_mark old o k) h (no_mark o k (right (s.old o) _ free))
+      keeps o k free (inr h) = not_both (may_go s o) (may.moved o k h) free
 
-  none_left : (r : Revision) (q : Path) (k : Mark) → list_any (has_moved r k) (with_moved s.moved p [] q) ≡ true → (r ≡ start_of 1) ⊎ (is_committed s.past r ≡ true)
-  none_left r q k = at_place (λ y doc ys. list_any (has_moved r k) ys ≡ true → (r ≡ start_of 1) ⊎ (is_committed s.past r ≡ true)) s.docs s.moved p None [] q (λ h. absurd (false≢true h)) (λ h. sound.moved r q k h)
+  none_left : (r : Revision) (q : Path) (k : Mark) → list_any (has_moved r k) (with_moved s.moved p [] q) ≡ true → (s.old r ≡ true) ⊎ (is_committed s.past r ≡ true)
+  none_left r q k = at_place (λ y doc ys. list_any (has_moved r k) ys ≡ true → (s.old r ≡ true) ⊎ (is_committed s.past r ≡ true)) s.docs s.moved p None [] q (λ h. absurd (false≢true h)) (λ h. sound.moved r q k h)
 
   pub remove_drops : Sound (record s { number = number; docs = λ q. cond (is_path q p) None (s.docs q); moved = with_moved s.moved p [] })
-  remove_drops = drop_keeps s number _ _ sound (drops_at s.docs s.moved p None [] _ _ (subst (λ (doc : Option Document). DropsHere p doc None (s.moved p) [] (is_bounded s.past) (is_swept s.past)) (sym may.there) gone)) none_left
+  remove_drops = drop_keeps s number _ _ sound (drops_at s.docs s.moved p None [] _ _ (subst (λ (doc : Option Document). DropsHere p doc None (s.moved p) [] (may_go s) (is_swept s.past)) (sym may.there) gone)) none_left
 
 -- ---- what a split moves
 
@@ -389,7 +395,7 @@ module _ (s : Core) (read : Documents) (pin : Pin) (p : Path) (old : Document) (
   same_marks : (o : Revision) (k : Mark) → marked_in (Some left) (fresh ∷ s.moved p) o k ≡ marked_in (Some old) (s.moved p) o k
   same_marks o k = or_all (has_mark left o k) (has_moved o k fresh) _ ∙ ap (λ b. b || list_any (has_moved o k) (s.moved p)) (same_mark o k)
 
-  moves : DropsHere p (Some old) (Some left) (s.moved p) (fresh ∷ s.moved p) (is_bounded s.past) (is_swept s.past)
+  moves : DropsHere p (Some old) (Some left) (s.moved p) (fresh ∷ s.moved p) (may_go s) (is_swept s.past)
   moves = record {
     ordered = λ h. (parts.named ∙ h.0, sorted);
     keeps = λ o k free h. same_marks o k ∙ h;
@@ -402,18 +408,18 @@ module _ (s : Core) (read : Documents) (pin : Pin) (p : Path) (old : Document) (
     only_roots = λ o h. ap (λ (es : List (Revision × ℕ)). has es o) (sym parts.roots) ∙ h;
   }
 
-  moved_done : (r : Revision) (k : Mark) → has_moved r k fresh ≡ true → (r ≡ start_of 1) ⊎ (is_committed s.past r ≡ true)
+  moved_done : (r : Revision) (k : Mark) → has_moved r k fresh ≡ true → (s.old r ≡ true) ⊎ (is_committed s.past r ≡ true)
   moved_done r (Prop n) h = let c = parted_counts read pin old entry first number may.order n r h in may.counted n r c.0 c.1
   moved_done r Exists h = absurd (false≢true h)
   moved_done r Guard h = absurd (false≢true h)
   moved_done r Touch h = absurd (false≢true h)
 
-  all_done : (r : Revision) (q : Path) (k : Mark) → list_any (has_moved r k) (with_moved s.moved p (fresh ∷ s.moved p) q) ≡ true → (r ≡ start_of 1) ⊎ (is_committed s.past r ≡ true)
-  all_done r q k = at_place (λ y doc ys. list_any (has_moved r k) ys ≡ true → (r ≡ start_of 1) ⊎ (is_committed s.past r ≡ true)) s.docs s.moved p None (fresh ∷ s.moved p) q (λ h. by (or_cases (has_moved r k fresh) _ h)) (λ h. sound.moved r q k h)
+  all_done : (r : Revision) (q : Path) (k : Mark) → list_any (has_moved r k) (with_moved s.moved p (fresh ∷ s.moved p) q) ≡ true → (s.old r ≡ true) ⊎ (is_committed s.past r ≡ true)
+  all_done r q k = at_place (λ y doc ys. list_any (has_moved r k) ys ≡ true → (s.old r ≡ true) ⊎ (is_committed s.past r ≡ true)) s.docs s.moved p None (fresh ∷ s.moved p) q (λ h. by (or_cases (has_moved r k fresh) _ h)) (λ h. sound.moved r q k h)
     where
-      by : (has_moved r k fresh ≡ true) ⊎ (list_any (has_moved r k) (s.moved p) ≡ true) → (r ≡ start_of 1) ⊎ (is_committed s.past r ≡ true)
+      by : (has_moved r k fresh ≡ true) ⊎ (list_any (has_moved r k) (s.moved p) ≡ true) → (s.old r ≡ true) ⊎ (is_committed s.past r ≡ true)
       by (inl h) = moved_done r k h
       by (inr h) = sound.moved r p k h
 
   pub split_drops : Sound (record s { number = number; docs = with_document s.docs p left; moved = with_moved s.moved p (fresh ∷ s.moved p) })
-  split_drops = drop_keeps s number _ _ sound (drops_at s.docs s.moved p (Some left) (fresh ∷ s.moved p) _ _ (subst (λ (doc : Option Document). DropsHere p doc (Some left) (s.moved p) (fresh ∷ s.moved p) (is_bounded s.past) (is_swept s.past)) (sym may.there) moves)) all_done
+  split_drops = drop_keeps s number _ _ sound (drops_at s.docs s.moved p (Some left) (fresh ∷ s.moved p) _ _ (subst (λ (doc : Option Document). DropsHere p doc (Some left) (s.moved p) (fresh ∷ s.moved p) (may_go s) (is_swept s.past)) (sym may.there) moves)) all_done

@@ -42,6 +42,7 @@ module _ (s : Core) (d : Draw) where
       ended_drawn = of_ended (λ o. is_drawn s.past o ≡ true) (rw may.draw refl) sound.ended_drawn;
       settled = λ a o h. sound.settled a o (flew (is_drawn s.past o) (is_same o r) (is_ended s.past o) h);
       start = sound.start;
+      new = sound.new;
       bounds = record { settled = λ o h. sound.bounds.settled o (flew (is_drawn s.past o) (is_same o r) (is_ended s.past o) h); below = λ a o h. sound.bounds.below a o (flew (is_drawn s.past a) (is_same a r) (is_ended s.past a) h); swept = sound.bounds.swept };
       moved = sound.moved;
       entries = sound.entries;
@@ -79,6 +80,7 @@ event_keeps s (event.Stop k) q sound = record {
   ended_drawn = sound.ended_drawn;
   settled = sound.settled;
   start = sound.start;
+  new = sound.new;
   bounds = record { settled = sound.bounds.settled; below = sound.bounds.below; swept = sound.bounds.swept };
   moved = sound.moved;
   entries = sound.entries;
@@ -117,6 +119,7 @@ event_keeps s e q sound = record {
   ended_drawn = sound.ended_drawn;
   settled = sound.settled;
   start = sound.start;
+  new = sound.new;
   bounds = record { settled = sound.bounds.settled; below = sound.bounds.below; swept = sound.bounds.swept };
   moved = sound.moved;
   entries = sound.entries;

@@ -27,7 +27,7 @@ module _ (s : Core) (d : Draw) (f : Met) (rest : List Met) (number : ℕ) (docs 
   w = record (s.writers r) { due = rest }
 
   abbrev pub t : Core
-  t = record { number = number; docs = docs; moved = s.moved; past = event.Went d.session kind.Mark ∷ s.past; writers = with_writer s.writers r w }
+  t = record { number = number; docs = docs; moved = s.moved; old = s.old; past = event.Went d.session kind.Mark ∷ s.past; writers = with_writer s.writers r w }
 
   module _ (sound : Sound s) (may : MayMark s d f rest) (marks : Marks s.docs docs (root_of s.past f.other) f.other (r, f.theirs)) where
     same_written : (o : Revision) → (t.writers o).written ≡ (s.writers o).written
@@ -132,6 +132,7 @@ module _ (s : Core) (d : Draw) (f : Met) (rest : List Met) (number : ℕ) (docs 
       ended_drawn = sound.ended_drawn;
       settled = sound.settled;
       start = sound.start;
+      new = sound.new;
       bounds = record { settled = sound.bounds.settled; below = sound.bounds.below; swept = sound.bounds.swept };
       moved = sound.moved;
       entries = λ o q m free h k. same_marks q o m ∙ sound.entries o q m free (rw same_written at h) k;

@@ -2,6 +2,7 @@
 use Rattle.std.proofs.Common.{◌≡◌, ℕ, ◌+◌, Bool, true, false, ◌||◌, ◌⊎◌, inl, inr, Some, Option, Ok, Err, Result, List, [], refl, sym, ap, subst, ◌∙◌, is_some}
 use mathlib.Core.Bool.{false≢true}
 use Rattle.jr_path.specs.declared.path.Item.{Item}
+use Rattle.jr_path.specs.declared.path.Path.{Path}
 use Rattle.jr_rev.specs.declared.revision.Revision.{Revision}
 use Rattle.oak_doc.specs.declared.document.Document.{Document}
 use Rattle.oak_doc.specs.declared.update.OpFault.{OpFault}
@@ -15,8 +16,11 @@ use Rattle.oak_machine.specs.declared.event.Event.TheVariants as event
 use Rattle.oak_commit.specs.Writing.{last_op}
 use Rattle.oak_commit.specs.Clashing.{Met, marked, noted, collision, mark_op}
 use Rattle.oak_machine.specs.Commits.{marks_of}
-use Rattle.core_clash.specs.Core.{Core, Docs, root_of, MayMark, MayLast, after_mark, after_last, marked_by, lasted_by, after_event, is_quiet}
-use Rattle.core_clash.specs.Sound.{Sound}
+use Rattle.oak_clash.specs.declared.mark.Mark.{Mark}
+use Rattle.core_clash.proofs.Basics.{or_cases}
+use Rattle.core_read.specs.Commits.{Sight}
+use Rattle.core_clash.specs.Core.{Core, Docs, Moved, root_of, MayMark, MayLast, after_mark, after_last, marked_by, lasted_by, after_event, is_quiet}
+use Rattle.core_clash.specs.Sound.{Sound, marked_in}
 use Rattle.core_clash.specs.Steps.{Step, draw, write, mark, last, want, undo, finish, bound, prune, remove, split, clear, dropped, other, IsStart, at_start, Reached, begun, more, EndsWell}
 use Rattle.core_clash.proofs.Pasts.{in_flight}
 use Rattle.core_clash.proofs.Updates.{mark_is, last_is}
@@ -31,20 +35,21 @@ use Rattle.core_clash.proofs.Steps.{write_step, mark_step, last_step, may_commit
 never : {A : Type 0} → false ≡ true → A
 never h = absurd (false≢true h)
 
-start_sound : (number : ℕ) (docs : Docs) → IsStart docs → Sound (at_start number docs)
-start_sound number docs is = record {
+start_sound : (old : Sight) (number : ℕ) (docs : Docs) (moved : Moved) → IsStart old docs moved → Sound (at_start old number docs moved)
+start_sound old number docs moved is = record {
   ordered = is.ordered;
   committed_drawn = λ r h. never h;
   refused_drawn = λ r h. never h;
   ended_drawn = λ r h. never h;
   settled = λ r o h. never h;
   start = λ r h. never h;
+  new = λ r h. never h;
   bounds = record { settled = λ o h. never h; below = λ r o h k. never h; swept = λ o h. never h };
-  moved = λ r p m h. never h;
+  moved = λ r p m h. inl (is.listed p r m h);
   entries = λ r p m free h k. absurd h;
-  origin = λ r p m h. inl (is.marks p r m (only (marked (docs p) r m) h));
+  origin = λ r p m h. inl (there p r m h);
   edits = λ r d h. never (ap (λ (x : Option Draw). is_some x) h);
-  rooted = λ r p m fresh other h. absurd (other (is.marks p r m (only (marked (docs p) r m) h)));
+  rooted = λ r p m fresh other h. never (sym other ∙ there p r m h);
   unrooted = λ r p h. inl (is.roots p r h);
   once = λ r. tt;
   listed = λ r on. record { gone = []; all = refl; none = λ h. refl };
@@ -62,6 +67,9 @@ start_sound number docs is = record {
   noticed = λ r o p m n apart sr so c. absurd sr.written;
 }
   where
+    there : (p : Path) (r : Revision) (m : Mark) → marked_in (docs p) (moved p) r m ≡ true → old r ≡ true
+    there p r m h = elim (or_cases (marked (docs p) r m) _ h) [ inl k ↦ is.marks p r m k | inr k ↦ is.listed p r m k ]
+
     only : (b : Bool) → (b || false) ≡ true → b ≡ true
     only true h = refl
     only false h = never h
@@ -83,7 +91,7 @@ step_sound {s} (dropped d may) sound = drop_keeps s d sound may
 step_sound {s} (other e quiet) sound = event_keeps s e quiet sound
 
 pub reached_sound : (s : Core) → Reached s → Sound s
-reached_sound s (begun number docs is) = start_sound number docs is
+reached_sound s (begun old number docs moved is) = start_sound old number docs moved is
 reached_sound t (more {s} reached one) = step_sound one (reached_sound s reached)
 
 mark_ends : (s : Core) (d : Draw) (f : Met) (rest : List Met) → Sound s → MayMark s d f rest → EndsWell s.past → EndsWell (after_mark s d f rest).past
@@ -126,5 +134,5 @@ step_ends {s} (other e quiet) sound well = event_ends s e quiet well
 
 -- each commit and each refusal of what can be reached may follow the events before it
 pub reached_ends : (s : Core) → Reached s → EndsWell s.past
-reached_ends s (begun number docs is) = tt
+reached_ends s (begun old number docs moved is) = tt
 reached_ends t (more {s} reached one) = step_ends one (reached_sound s reached) (reached_ends s reached)

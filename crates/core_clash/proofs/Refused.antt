@@ -128,6 +128,7 @@ module _ (s : Core) (d : Draw) (item : Item) (other : Revision) where
       ended_drawn = sound.ended_drawn;
       settled = sound.settled;
       start = sound.start;
+      new = sound.new;
       bounds = record { settled = sound.bounds.settled; below = sound.bounds.below; swept = sound.bounds.swept };
       moved = sound.moved;
       entries = λ o q m free h k. sound.entries o q m free (rw same_written at h) k;

@@ -1,12 +1,13 @@
 -- Two sessions write /a/p and /b/p, one from each end: each meets the other. Then one after the other.
-use Rattle.std.proofs.Common.{◌≡◌, ℕ, true, false, inl, inr, Some, None, List, [], ◌∷◌, refl, sym, ap, pos}
+use Rattle.std.proofs.Common.{◌≡◌, ℕ, true, false, inl, inr, Some, None, List, [], ◌∷◌, refl, sym, ap, pos, subst}
 use mathlib.Core.Bool.{false≢true}
 use Rattle.std.specs.Prelude.{codes}
 use Rattle.jr_value.specs.declared.value.Property.TheVariants.{Single}
 use Rattle.jr_value.specs.declared.value.Value.TheVariants.{Long}
 use Rattle.jr_rev.specs.declared.revision.Revision.{Revision}
 use Rattle.jr_rev.specs.Revisions.{is_same}
-use Rattle.jr_rev.specs.Vectors.{start, start_of, with_entry}
+use Rattle.core_clash.proofs.Basics.{same_revision}
+use Rattle.jr_rev.specs.Vectors.{sees, start, start_of, with_entry}
 use Rattle.jr_tree.specs.declared.edit.Write.TheVariants.{Put}
 use Rattle.jr_path.specs.declared.path.DocId.TheVariants as id
 use Rattle.oak_clash.specs.declared.mark.Mark.{Mark}
@@ -53,7 +54,7 @@ both t s = record {
 }
 
 abbrev s0 : Core
-s0 = at_start 1 docs
+s0 = at_start (λ r. is_same r (start_of 1)) 1 docs (λ p. [])
 
 -- both draw; the first writes /a, the second /a and /b, the first /b
 abbrev s1 : Core
@@ -117,10 +118,10 @@ undone = refl
 
 -- a commit that is reached whole, over documents that aren't there yet
 abbrev z0 : Core
-z0 = at_start 1 (λ q. None)
+z0 = at_start (λ r. is_same r (start_of 1)) 1 (λ q. None) (λ p. [])
 
 begun_there : Reached z0
-begun_there = begun 1 (λ q. None) (record { ordered = λ q. tt; marks = λ q r m h. absurd (false≢true h); notes = λ q r h. absurd (false≢true h); roots = λ q r h. absurd (false≢true h); collisions = λ q r. refl })
+begun_there = begun (λ r. is_same r (start_of 1)) 1 (λ q. None) (λ p. []) (record { listed = λ q r m h. absurd (false≢true h); ordered = λ q. tt; marks = λ q r m h. absurd (false≢true h); notes = λ q r h. absurd (false≢true h); roots = λ q r h. absurd (false≢true h); collisions = λ q r. refl })
 
 not_start : at 2 ≡ start_of 1 → ⊥
 not_start e = false≢true (ap (λ (x : Revision). is_same x (start_of 1)) e)
@@ -150,7 +151,7 @@ abbrev z5 : Core
 z5 = after_finish z4 (both 2 0)
 
 reached_1 : Reached z1
-reached_1 = more begun_there (draw (both 2 0) (a ∷ b ∷ []) (record { begins = record { fresh = refl; later = λ r. refl; itself = refl; settled = λ o h. absurd (false≢true h); start = refl; started = not_start }; covers = covers; once = (apart, (λ h. h, tt)); entries = λ m item. (λ h. h, λ h. h) }) (λ o h. absurd (false≢true h)))
+reached_1 = more begun_there (draw (both 2 0) (a ∷ b ∷ []) (record { begins = record { fresh = refl; later = λ r. refl; itself = refl; settled = λ o h. absurd (false≢true h); start = refl; started = not_start }; sees_old = λ o h. subst (λ (x : Revision). sees (both 2 0).base x ≡ true) (sym (same_revision o (start_of 1) h)) refl; new = refl; covers = covers; once = (apart, (λ h. h, tt)); entries = λ m item. (λ h. h, λ h. h) }) (λ o h. absurd (false≢true h)))
 
 reached_2 : Reached z2
 reached_2 = more reached_1 (write (both 2 0) a (b ∷ []) (record { going = record { running = refl; draw = refl; unended = refl; uncommitted = refl; going = refl }; unmet = refl; next = refl }))

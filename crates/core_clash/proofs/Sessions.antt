@@ -41,7 +41,7 @@ module _ (k : Kept) (s : ℕ) (x : Running) (carried : IsCarried k) (here : k.ru
   r = x.draw.revision
 
   abbrev pub after : Kept
-  after = record { number = number; docs = docs; moved = moved; past = past; running = with_running k.running s (Some (record { draw = x.draw; writer = w; committed = committed })) }
+  after = record { number = number; docs = docs; moved = moved; old = k.old; past = past; running = with_running k.running s (Some (record { draw = x.draw; writer = w; committed = committed })) }
 
   -- a step that changes the writer of one draw
   pub carried_step : ((q : Revision) → draw_of past q ≡ draw_of k.past q) → ((q : Revision) → is_ended past q ≡ is_ended k.past q) → ((q : Revision) → is_same q r ≡ false → is_committed past q ≡ is_committed k.past q) → is_committed past r ≡ committed → Sound (core_of after (with_writer carried.writers r w)) → IsCarried after
@@ -91,14 +91,14 @@ module _ (k : Kept) (s : ℕ) (carried : IsCarried k) (number : ℕ) (docs : Doc
   abbrev pub KeepsOthers : (Revision → Writer) → Type 0
   KeepsOthers writers = (q : ℕ) (y : Running) → (q == s) ≡ false → k.running q ≡ Some y → IsTheirs past writers q y
 
-  pub carried_draw : (x : Running) (writers : Revision → Writer) → KeepsOthers writers → IsTheirs past writers s x → Sound (record { number = number; docs = docs; moved = moved; past = past; writers = writers }) → IsCarried (record { number = number; docs = docs; moved = moved; past = past; running = with_running k.running s (Some x) })
+  pub carried_draw : (x : Running) (writers : Revision → Writer) → KeepsOthers writers → IsTheirs past writers s x → Sound (record { number = number; docs = docs; moved = moved; old = k.old; past = past; writers = writers }) → IsCarried (record { number = number; docs = docs; moved = moved; old = k.old; past = past; running = with_running k.running s (Some x) })
   carried_draw x writers others mine sound = record { writers = writers; sound = sound; theirs = λ q y. by q y (q == s) refl }
     where
       by : (q : ℕ) (y : Running) (b : Bool) → (q == s) ≡ b → cond b (Some x) (k.running q) ≡ Some y → IsTheirs past writers q y
       by q y true t h = subst (λ (z : Running). IsTheirs past writers q z) (sym (some_is h)) (subst (λ (n : ℕ). IsTheirs past writers n x) (sym (same_number q s t)) mine)
       by q y false f h = others q y f h
 
-  pub carried_finish : (writers : Revision → Writer) → KeepsOthers writers → Sound (record { number = number; docs = docs; moved = moved; past = past; writers = writers }) → IsCarried (record { number = number; docs = docs; moved = moved; past = past; running = with_running k.running s None })
+  pub carried_finish : (writers : Revision → Writer) → KeepsOthers writers → Sound (record { number = number; docs = docs; moved = moved; old = k.old; past = past; writers = writers }) → IsCarried (record { number = number; docs = docs; moved = moved; old = k.old; past = past; running = with_running k.running s None })
   carried_finish writers others sound = record { writers = writers; sound = sound; theirs = λ q y. by q y (q == s) refl }
     where
       by : (q : ℕ) (y : Running) (b : Bool) → (q == s) ≡ b → cond b None (k.running q) ≡ Some y → IsTheirs past writers q y

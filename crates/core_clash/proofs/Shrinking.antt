@@ -2,7 +2,6 @@
 use Rattle.std.proofs.Common.{◌≡◌, ◌+◌, Bool, true, false, cond, ◌||◌, ◌⊎◌, inl, inr, Some, None, Option, Ok, Err, Result, List, [], ◌∷◌, ◌++◌, refl, sym, ap, subst, ◌∙◌, is_some}
 use Rattle.jr_path.specs.declared.path.Path.{Path}
 use Rattle.jr_rev.specs.declared.revision.Revision.{Revision}
-use Rattle.jr_rev.specs.Vectors.{start_of}
 use Rattle.jr_rev.specs.Revisions.{is_same}
 use Rattle.oak_clash.specs.declared.mark.Mark.{Mark}
 use Rattle.oak_doc.specs.declared.document.Document.{Document}
@@ -79,7 +78,7 @@ pub record IsKeptDead (past : Past) (d : Draw) (e : Event) : Type 0 where
   pub stays : is_stopped past d.revision.cluster ≡ true → is_stopped (e ∷ past) d.revision.cluster ≡ true
 
 with_event : (past : Past) (d : Draw) (e : Event) → IsKeptDead past d e → IsDead past d → IsDead (e ∷ past) d
-with_event past d e keeps dead = record { stopped = keeps.stays dead.stopped; draw = keeps.draw ∙ dead.draw; uncommitted = keeps.commits ∙ dead.uncommitted; other = dead.other }
+with_event past d e keeps dead = record { stopped = keeps.stays dead.stopped; draw = keeps.draw ∙ dead.draw; uncommitted = keeps.commits ∙ dead.uncommitted }
 
 -- one of another revision
 kept_by : (past : Past) (d : Draw) (e : Event) → is_quiet e ≡ true → IsKeptDead past d e
@@ -157,12 +156,16 @@ pub undone_stays : {s t : Core} → Step s t → (r : Revision) (p : Path) → i
 undone_stays one r p stopped free h = free (shrinks one r stopped p h)
 
 module _ (s : Core) (sound : Sound s) (d : Draw) (dead : IsDead s.past d) (p : Path) (free : IsUndoneAt s d.revision p) where
+  -- what was drawn wasn't there from the beginning
+  not_old : s.old d.revision ≡ true → ⊥
+  not_old e = not_both (s.old d.revision) e (sound.new d.revision (rw dead.draw refl))
+
   none_of : (m : Mark) → IsOf s p d.revision m → ⊥
-  none_of m (inl e) = dead.other e
+  none_of m (inl e) = not_old e
   none_of m (inr h) = free h.0
 
   no_writer : IsWriterOf s p d.revision → ⊥
-  no_writer (inl e) = dead.other e
+  no_writer (inl e) = not_old e
   no_writer (inr h) = free h.0
 
   pub undone_marks : (m : Mark) → marked (s.docs p) d.revision m ≡ false
@@ -181,9 +184,9 @@ module _ (s : Core) (sound : Sound s) (d : Draw) (dead : IsDead s.past d) (p : P
 
 -- ---- statuses
 
-module _ (s : Core) (sound : Sound s) (r : Revision) (unswept : is_swept s.past r ≡ false) (later : r ≡ start_of 1 → ⊥) where
-  committed : (r ≡ start_of 1) ⊎ (is_committed s.past r ≡ true) → is_committed s.past r ≡ true
-  committed (inl e) = absurd (later e)
+module _ (s : Core) (sound : Sound s) (r : Revision) (unswept : is_swept s.past r ≡ false) (later : s.old r ≡ false) where
+  committed : (s.old r ≡ true) ⊎ (is_committed s.past r ≡ true) → is_committed s.past r ≡ true
+  committed (inl e) = not_both (s.old r) e later
   committed (inr h) = h
 
   pub status_is : noted (s.docs (root_of s.past r)) r ≡ is_committed s.past r

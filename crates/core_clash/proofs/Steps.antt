@@ -3,7 +3,7 @@ use Rattle.std.proofs.Common.{◌≡◌, ◌+◌, Bool, true, false, ◌||◌, �
 use Rattle.jr_path.specs.declared.path.Path.{Path}
 use Rattle.jr_path.specs.declared.path.Item.{Item}
 use Rattle.jr_rev.specs.declared.revision.Revision.{Revision}
-use Rattle.jr_rev.specs.Vectors.{sees, start_of}
+use Rattle.jr_rev.specs.Vectors.{sees}
 use Rattle.oak_clash.specs.declared.mark.Mark.{Mark}
 use Rattle.oak_doc.specs.declared.document.Document.{Document}
 use Rattle.oak_doc.specs.declared.update.OpFault.{OpFault}
@@ -41,6 +41,7 @@ write_step s d p rest sound may = subst
       number = s.number + 1;
       docs = docs_after s.docs p x;
       moved = s.moved;
+      old = s.old;
       past = event.Went d.session kind.Write ∷ s.past;
       writers = with_writer s.writers d.revision (record (s.writers d.revision) { left = rest; written = (s.writers d.revision).written ++ p ∷ []; due = found d.base d.revision p d.marks (whole p (s.docs p) (s.moved p)) });
     }))
@@ -109,12 +110,12 @@ no_unseen_clash s r o sound apart cr co clashes =
     by (inr h) = inr (seen o r co cr h)
 
 -- what ended without a commit has left no mark
-pub undone_whole : (s : Core) (r : Revision) (p : Path) (m : Mark) → Sound s → (r ≡ start_of 1 → ⊥) → is_ended s.past r ≡ true → is_committed s.past r ≡ false → marked_in (s.docs p) (s.moved p) r m ≡ false
+pub undone_whole : (s : Core) (r : Revision) (p : Path) (m : Mark) → Sound s → s.old r ≡ false → is_ended s.past r ≡ true → is_committed s.past r ≡ false → marked_in (s.docs p) (s.moved p) r m ≡ false
 undone_whole s r p m sound drawn ended uncommitted = by (test (marked_in (s.docs p) (s.moved p) r m))
   where
     none : IsDone s r → IsOf s p r m → ⊥
     none (inl c) h = not_both (is_committed s.past r) c uncommitted
-    none (inr u) (inl e) = drawn e
+    none (inr u) (inl e) = not_both (s.old r) e drawn
     none (inr u) (inr h) = none_in p _ u.1 h.0
 
     by : (marked_in (s.docs p) (s.moved p) r m ≡ true) ⊎ (marked_in (s.docs p) (s.moved p) r m ≡ false) → marked_in (s.docs p) (s.moved p) r m ≡ false
@@ -130,21 +131,21 @@ right_false : (a b : Bool) → (a || b) ≡ false → b ≡ false
 right_false true b h = not_both true refl h
 right_false false b h = h
 
-pub undone_here : (s : Core) (r : Revision) (p : Path) (m : Mark) → Sound s → (r ≡ start_of 1 → ⊥) → is_ended s.past r ≡ true → is_committed s.past r ≡ false → marked (s.docs p) r m ≡ false
+pub undone_here : (s : Core) (r : Revision) (p : Path) (m : Mark) → Sound s → s.old r ≡ false → is_ended s.past r ≡ true → is_committed s.past r ≡ false → marked (s.docs p) r m ≡ false
 undone_here s r p m sound drawn ended uncommitted = left_false (marked (s.docs p) r m) _ (undone_whole s r p m sound drawn ended uncommitted)
 
-pub undone_moved : (s : Core) (r : Revision) (p : Path) (m : Mark) → Sound s → (r ≡ start_of 1 → ⊥) → is_ended s.past r ≡ true → is_committed s.past r ≡ false → list_any (has_moved r m) (s.moved p) ≡ false
+pub undone_moved : (s : Core) (r : Revision) (p : Path) (m : Mark) → Sound s → s.old r ≡ false → is_ended s.past r ≡ true → is_committed s.past r ≡ false → list_any (has_moved r m) (s.moved p) ≡ false
 undone_moved s r p m sound drawn ended uncommitted = right_false (marked (s.docs p) r m) _ (undone_whole s r p m sound drawn ended uncommitted)
 
 -- a document that has a mark of a revision tells its commit root
-pub told_root : (s : Core) (r : Revision) (p : Path) (m : Mark) → Sound s → is_swept s.past r ≡ false → (r ≡ start_of 1 → ⊥) → marked_in (s.docs p) (s.moved p) r m ≡ true → IsRooted (s.docs p) r (root_of s.past r)
+pub told_root : (s : Core) (r : Revision) (p : Path) (m : Mark) → Sound s → is_swept s.past r ≡ false → s.old r ≡ false → marked_in (s.docs p) (s.moved p) r m ≡ true → IsRooted (s.docs p) r (root_of s.past r)
 told_root s r p m sound fresh other h = sound.rooted r p m fresh other h
 
 -- the document that a committer writes next tells the commit root of each whom it meets there
 pub found_root : (s : Core) (d : Draw) (p : Path) (rest : List Path) (f : Met) → Sound s → MayWrite s d p rest → In f (found d.base d.revision p d.marks (whole p (s.docs p) (s.moved p))) → IsRooted (s.docs p) f.other (root_of s.past f.other)
 found_root s d p rest f sound may h =
     let met = (meeting d.base d.revision p d.marks (whole p (s.docs p) (s.moved p))).each f h in
-    told_root s f.other p met.mark.0 sound (fresh met.outside (test (is_swept s.past f.other))) (λ e. not_both (sees d.base (start_of 1)) seen (subst (λ (x : Revision). sees d.base x ≡ false) e met.outside)) (whole_from p f.other (s.docs p) (s.moved p) met.mark.0 met.mark.1)
+    told_root s f.other p met.mark.0 sound (fresh met.outside (test (is_swept s.past f.other))) (other (test (s.old f.other))) (whole_from p f.other (s.docs p) (s.moved p) met.mark.0 met.mark.1)
   where
     drawn : is_drawn s.past d.revision ≡ true
     drawn = rw may.going.draw refl
@@ -156,8 +157,7 @@ found_root s d p rest f sound may h =
     fresh outside (inl h) = not_both (sees d.base f.other) (sym (its f.other) ∙ sound.bounds.below d.revision f.other (in_flight s.past d.revision d may.going.draw may.going.unended) (sound.bounds.swept f.other h)) outside
     fresh outside (inr k) = k
 
-    base_is : is_in_base s.past d.revision (start_of 1) ≡ sees d.base (start_of 1)
-    base_is = rw may.going.draw refl
-
-    seen : sees d.base (start_of 1) ≡ true
-    seen = sym base_is ∙ sound.start d.revision drawn
+    -- its base sees all that there was from the beginning
+    other : (s.old f.other ≡ true) ⊎ (s.old f.other ≡ false) → s.old f.other ≡ false
+    other (inl e) = not_both (sees d.base f.other) (sym (its f.other) ∙ sound.start d.revision drawn f.other e) ((meeting d.base d.revision p d.marks (whole p (s.docs p) (s.moved p))).each f h).outside
+    other (inr k) = k

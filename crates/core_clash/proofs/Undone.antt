@@ -5,7 +5,6 @@ use Rattle.jr_path.specs.declared.path.Path.{Path}
 use Rattle.jr_path.specs.declared.path.Item.{Item}
 use Rattle.jr_rev.specs.declared.revision.Revision.{Revision}
 use Rattle.jr_rev.specs.Revisions.{is_same}
-use Rattle.jr_rev.specs.Vectors.{start_of}
 use Rattle.oak_clash.specs.declared.mark.Mark.{Mark}
 use Rattle.oak_clash.specs.Clashes.{clash}
 use Rattle.oak_machine.specs.declared.event.Draw.{Draw}
@@ -33,7 +32,7 @@ IsFreeAt docs r q = ((m : Mark) → marked (docs q) r m ≡ true → ⊥) × (is
 pub record LeavesOut (s : Core) (docs : Docs) (r : Revision) (p : Path) (w : Writer) : Type 0 where
   pub drawn : is_drawn s.past r ≡ true
   pub uncommitted : is_committed s.past r ≡ false
-  pub other : r ≡ start_of 1 → ⊥
+  pub other : s.old r ≡ false
   pub undoing : w.undoing ≡ true
   pub due : (f : Met) → In f w.due → In f (s.writers r).due
   pub fewer : (q : Path) → In q w.written → In q (s.writers r).written
@@ -46,7 +45,7 @@ pub record LeavesOut (s : Core) (docs : Docs) (r : Revision) (p : Path) (w : Wri
 
 module _ (s : Core) (r : Revision) (p : Path) (w : Writer) (number : ℕ) (docs : Docs) where
   abbrev pub left_out : Core
-  left_out = record { number = number; docs = docs; moved = s.moved; past = s.past; writers = with_writer s.writers r w }
+  left_out = record { number = number; docs = docs; moved = s.moved; old = s.old; past = s.past; writers = with_writer s.writers r w }
 
   abbrev t : Core
   t = left_out
@@ -76,8 +75,8 @@ module _ (s : Core) (r : Revision) (p : Path) (w : Writer) (number : ℕ) (docs 
     gone : (q : Path) (m : Mark) → (marked (docs q) r m ≡ true → ⊥) → marked_in (docs q) (s.moved q) r m ≡ true → ⊥
     gone q m free h = by (or_cases (marked (docs q) r m) _ h)
       where
-        moved : (r ≡ start_of 1) ⊎ (is_committed s.past r ≡ true) → ⊥
-        moved (inl e) = leaves.other e
+        moved : (s.old r ≡ true) ⊎ (is_committed s.past r ≡ true) → ⊥
+        moved (inl e) = not_both (s.old r) e leaves.other
         moved (inr c) = never c
 
         by : (marked (docs q) r m ≡ true) ⊎ (list_any (has_moved r m) (s.moved q) ≡ true) → ⊥
@@ -105,7 +104,7 @@ module _ (s : Core) (r : Revision) (p : Path) (w : Writer) (number : ℕ) (docs 
     kept_root q o elsewhere (inl h) = absurd (elsewhere h.0 h.1)
     kept_root q o elsewhere (inr h) = h
 
-    rooted : (o : Revision) (q : Path) (m : Mark) → is_swept s.past o ≡ false → (o ≡ start_of 1 → ⊥) → marked_in (docs q) (s.moved q) o m ≡ true → IsRooted (docs q) o (root_of s.past o)
+    rooted : (o : Revision) (q : Path) (m : Mark) → is_swept s.past o ≡ false → s.old o ≡ false → marked_in (docs q) (s.moved q) o m ≡ true → IsRooted (docs q) o (root_of s.past o)
     rooted o q m fresh other h = kept_root q o
         (λ e same. gone p m (undoes.gone m) (subst (λ (x : Path). marked_in (docs x) (s.moved x) r m ≡ true) e (subst (λ (x : Revision). marked_in (docs q) (s.moved q) x m ≡ true) same h)))
         (undoes.keeps_roots q o (root_of s.past o) (sound.rooted o q m fresh other (only q o m h)))
@@ -162,6 +161,7 @@ module _ (s : Core) (r : Revision) (p : Path) (w : Writer) (number : ℕ) (docs 
       ended_drawn = sound.ended_drawn;
       settled = sound.settled;
       start = sound.start;
+      new = sound.new;
       bounds = sound.bounds;
       moved = sound.moved;
       entries = entries;
@@ -217,7 +217,7 @@ module _ (s : Core) (d : Draw) (p : Path) (rest : List Path) (number : ℕ) (doc
     leaves = record {
       drawn = drawn;
       uncommitted = uncommitted;
-      other = λ e. not_both (is_in_base s.past r r) (subst (λ (x : Revision). is_in_base s.past r x ≡ true) (sym e) (sound.start r drawn)) (sound.settled r r (in_flight s.past r d may.draw may.unended));
+      other = sound.new r drawn;
       undoing = may.undoing;
       due = λ f h. h;
       fewer = λ q h. subst (λ (xs : List Path). In q xs) (sym may.next) (inr h);
@@ -233,7 +233,7 @@ module _ (s : Core) (d : Draw) (p : Path) (rest : List Path) (number : ℕ) (doc
       ended = λ h. not_both (is_ended s.past r) h may.unended;
     }
 
-    pub undo_keeps : Sound (record { number = number; docs = docs; moved = s.moved; past = event.Went d.session kind.Undo ∷ s.past; writers = with_writer s.writers r w })
+    pub undo_keeps : Sound (record { number = number; docs = docs; moved = s.moved; old = s.old; past = event.Went d.session kind.Undo ∷ s.past; writers = with_writer s.writers r w })
     undo_keeps = event_keeps (left_out s r p w number docs) (event.Went d.session kind.Undo) refl (leaves_keeps s r p w number docs sound leaves undoes)
 
 -- ---- by a recovery
@@ -305,7 +305,7 @@ module _ (s : Core) (d : Draw) (sound : Sound s) (dead : IsDead s.past d) where
     cleared_out = record {
       drawn = dead_drawn;
       uncommitted = dead.uncommitted;
-      other = dead.other;
+      other = sound.new d.revision (rw dead.draw refl);
       undoing = refl;
       due = λ f h. absurd h;
       fewer = λ x h. (without_in p x (s.writers q).written h).0;
@@ -322,7 +322,7 @@ module _ (s : Core) (d : Draw) (sound : Sound s) (dead : IsDead s.past d) where
         by x (inr h) = inr h
 
     -- a dead revision is undone in the document of p
-    pub clear_keeps : Sound (record { number = number; docs = docs; moved = s.moved; past = s.past; writers = with_writer s.writers q (cleared (s.writers q) p) })
+    pub clear_keeps : Sound (record { number = number; docs = docs; moved = s.moved; old = s.old; past = s.past; writers = with_writer s.writers q (cleared (s.writers q) p) })
     clear_keeps = leaves_keeps s q p (cleared (s.writers q) p) number docs sound cleared_out undoes
 
 -- what has nothing left in the documents ends
@@ -359,7 +359,7 @@ module _ (s : Core) (d : Draw) (sound : Sound s) (may : MayDrop s d) where
   dropped_out = record {
     drawn = rw may.dead.draw refl;
     uncommitted = may.dead.uncommitted;
-    other = may.dead.other;
+    other = sound.new d.revision (rw may.dead.draw refl);
     undoing = refl;
     due = λ f h. absurd h;
     fewer = λ x h. absurd h;

@@ -93,6 +93,7 @@ module _ (s : Core) (d : Draw) where
       ended_drawn = sound.ended_drawn;
       settled = sound.settled;
       start = sound.start;
+      new = sound.new;
       bounds = sound.bounds;
       moved = sound.moved;
       entries = λ o q m free h k. sound.entries o q m free (rw same_written at h) k;

@@ -4,7 +4,7 @@ use Rattle.jr_path.specs.declared.path.Path.{Path}
 use Rattle.jr_path.specs.declared.path.Item.{Item}
 use Rattle.jr_rev.specs.declared.revision.Revision.{Revision}
 use Rattle.jr_rev.specs.Revisions.{is_same}
-use Rattle.jr_rev.specs.Vectors.{sees, start_of}
+use Rattle.jr_rev.specs.Vectors.{sees}
 use Rattle.oak_clash.specs.declared.mark.Mark.{Mark}
 use Rattle.oak_clash.specs.declared.mark.Mark.TheVariants.{Exists, Guard, Touch, Prop}
 use Rattle.oak_clash.specs.Clashes.{clash, commit_root}
@@ -58,7 +58,7 @@ module _ (s : Core) (d : Draw) (p : Path) (rest : List Path) (number : ℕ) (doc
   w = record (s.writers r) { left = rest; written = (s.writers r).written ++ p ∷ []; due = due }
 
   abbrev pub t : Core
-  t = record { number = number; docs = docs; moved = s.moved; past = event.Went d.session kind.Write ∷ s.past; writers = with_writer s.writers r w }
+  t = record { number = number; docs = docs; moved = s.moved; old = s.old; past = event.Went d.session kind.Write ∷ s.past; writers = with_writer s.writers r w }
 
   module _ (sound : Sound s) (may : MayWrite s d p rest) (writes : Writes s.docs docs r p d.marks) (meets : Meeting d.base r p d.marks (whole p (s.docs p) (s.moved p)) due) where
     marks_are : marks_of s.past r ≡ d.marks
@@ -121,9 +121,9 @@ module _ (s : Core) (d : Draw) (p : Path) (rest : List Path) (number : ℕ) (doc
     unwritten : In p (s.writers r).written → ⊥
     unwritten h = once_apart p (s.writers r).written rest (subst (λ (xs : List Path). Once ((s.writers r).written ++ xs)) may.next (sound.once r)) h
 
-    -- the start was never drawn
-    not_start : r ≡ start_of 1 → ⊥
-    not_start e = not_both (is_in_base s.past r r) (subst (λ (x : Revision). is_in_base s.past r x ≡ true) (sym e) (sound.start r drawn)) (sound.settled r r (in_flight s.past r d may.going.draw may.going.unended))
+    -- it wasn't there from the beginning
+    not_start : s.old r ≡ true → ⊥
+    not_start e = not_both (s.old r) e (sound.new r drawn)
 
     no_root : is_some (root_entry (s.docs p) r) ≡ false
     no_root = by (test (is_some (root_entry (s.docs p) r)))
@@ -140,14 +140,14 @@ module _ (s : Core) (d : Draw) (p : Path) (rest : List Path) (number : ℕ) (doc
     kept_root q o elsewhere (inl h) = absurd (elsewhere h.0 h.1)
     kept_root q o elsewhere (inr h) = h
 
-    rooted : (o : Revision) (q : Path) (m : Mark) → is_swept s.past o ≡ false → (o ≡ start_of 1 → ⊥) → marked_in (docs q) (s.moved q) o m ≡ true → IsRooted (docs q) o (root_of s.past o)
+    rooted : (o : Revision) (q : Path) (m : Mark) → is_swept s.past o ≡ false → s.old o ≡ false → marked_in (docs q) (s.moved q) o m ≡ true → IsRooted (docs q) o (root_of s.past o)
     rooted o q m fresh other h = by (only q o m h)
       where
         here : In (mark_at p m) d.marks → IsRooted (docs p) r (root_of s.past r)
         here k = subst (λ (ms : List MarkAt). IsRooted (docs p) r (commit_root ms)) (sym marks_are) (writes.adds_root m k no_root)
 
         away : IsOf s q o m → q ≡ p → o ≡ r → ⊥
-        away (inl e) here same = other e
+        away (inl e) here same = not_both (s.old o) e other
         away (inr k) here same = unwritten (subst (λ (x : Path). In x (s.writers r).written) here (subst (λ (x : Revision). In q (s.writers x).written) same k.0))
 
         by : (marked_in (s.docs q) (s.moved q) o m ≡ true) ⊎ ((q ≡ p) × (o ≡ r) × In (mark_at p m) d.marks) → IsRooted (docs q) o (root_of s.past o)
@@ -217,8 +217,8 @@ module _ (s : Core) (d : Draw) (p : Path) (rest : List Path) (number : ℕ) (doc
     is_due : (f : Met) → IsMet d.base r p d.marks (whole p (s.docs p) (s.moved p)) f → IsDue t.past r f
     is_due f m = by (sound.origin f.other p m.mark.0 (whole_from p f.other (s.docs p) (s.moved p) m.mark.0 m.mark.1))
       where
-        not_start : {A : Type 0} → f.other ≡ start_of 1 → A
-        not_start e = not_both (sees d.base (start_of 1)) (sym (base_is (start_of 1)) ∙ sound.start r drawn) (subst (λ (x : Revision). sees d.base x ≡ false) e m.outside)
+        not_start : {A : Type 0} → s.old f.other ≡ true → A
+        not_start e = not_both (sees d.base f.other) (sym (base_is f.other) ∙ sound.start r drawn f.other e) m.outside
 
         its : (n : Mark) → IsOf s p f.other n → In (mark_at p n) (marks_of s.past f.other)
         its n (inl e) = not_start e
@@ -294,6 +294,7 @@ module _ (s : Core) (d : Draw) (p : Path) (rest : List Path) (number : ℕ) (doc
       ended_drawn = sound.ended_drawn;
       settled = sound.settled;
       start = sound.start;
+      new = sound.new;
       bounds = record { settled = sound.bounds.settled; below = sound.bounds.below; swept = sound.bounds.swept };
       moved = sound.moved;
       entries = entries;

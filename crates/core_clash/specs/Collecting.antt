@@ -1,13 +1,13 @@
 -- What comes between the steps of committers where documents are split and collected: bounds,
 -- updates that drop garbage, documents that go, and what a split moves.
-use Rattle.std.specs.Prelude.{◌≡◌, ◌+◌, ◌⊎◌, ℕ, Bool, true, false, ◌&&◌, cond, List, [], ◌∷◌, None, Some, is_some}
+use Rattle.std.specs.Prelude.{◌≡◌, ◌+◌, ◌⊎◌, ℕ, Bool, true, false, ◌&&◌, ◌||◌, cond, List, [], ◌∷◌, None, Some, is_some}
 use Rattle.std.specs.List.{filter, list_any}
 use Rattle.jr_path.specs.declared.path.Path.{Path}
 use Rattle.jr_path.specs.declared.name.Name.{Name}
 use Rattle.jr_rev.specs.declared.revision.Revision.{Revision}
 use Rattle.jr_rev.specs.declared.vector.Pin.{Pin}
 use Rattle.jr_rev.specs.declared.vector.RevVec.{RevVec}
-use Rattle.jr_rev.specs.Vectors.{sees, start_of}
+use Rattle.jr_rev.specs.Vectors.{sees}
 use Rattle.oak_clash.specs.declared.mark.Mark.{Mark}
 use Rattle.oak_doc.specs.declared.document.Document.{Document}
 use Rattle.oak_doc.specs.declared.document.PrevEntry.{PrevEntry}
@@ -73,13 +73,14 @@ after_prune s e p old op keep = record s {
   past = e ∷ s.past;
 }
 
--- a document is garbage of a bound, and bounds see what moved from it
+-- a document is garbage of a bound, and what moved from it bounds see, or it was there from the
+-- beginning
 pub record MayRemove (s : Core) (m t : RevVec) (p : Path) (old : Document) : Type 0 where
   pub bound : IsBoundOf s.past m t
   pub there : s.docs p ≡ Some old
   pub garbage : is_garbage_document m t old ≡ true
   pub moved : (r : Revision) (k : Mark) → list_any (has_moved r k) (s.moved p) ≡ true
-      → is_bounded s.past r ≡ true
+      → (s.old r || is_bounded s.past r) ≡ true
 
 -- a collection takes a document away, with the previous ones of its node
 abbrev pub after_remove : Core → Event → Path → Core
@@ -97,7 +98,7 @@ pub record MaySplit (s : Core) (read : Documents) (pin : Pin) (p : Path)
   pub there : s.docs p ≡ Some old
   pub order : IsInOrder old
   pub counted : (n : Name) (r : Revision) → is_some (of_revision (values_of_property old.props n) r)
-      ≡ true → (sees pin.base r && is_said read pin.sweep old r) ≡ true → (r ≡ start_of 1)
+      ≡ true → (sees pin.base r && is_said read pin.sweep old r) ≡ true → (s.old r ≡ true)
       ⊎ (is_committed s.past r ≡ true)
 
 -- the main update of a split: what it wrote to a previous document goes from the document, which

@@ -16,7 +16,8 @@ use Rattle.oak_commit.specs.Looking.{whole}
 use Rattle.oak_commit.specs.Writing.{write_op, last_op}
 use Rattle.oak_commit.specs.Clashing.{Met, found, mark_op, marked, undo_op, Writer}
 use Rattle.core_read.specs.Holds.{root_entry}
-use Rattle.jr_rev.specs.Vectors.{start_of}
+use Rattle.jr_rev.specs.Vectors.{sees}
+use Rattle.core_read.specs.Commits.{Sight}
 use Rattle.std.specs.List.{filter}
 use Rattle.oak_machine.specs.declared.event.Draw.{Draw}
 use Rattle.oak_machine.specs.declared.event.Event.{Event}
@@ -36,12 +37,14 @@ Docs = Path → Option Document
 abbrev pub Moved : Type 0
 Moved = Path → List Document
 
--- the number of the last update, the documents, the previous documents that they list, the events
--- so far, and the committer of each drawn revision
+-- the number of the last update, the documents, the previous documents that they list, what there
+-- was from the beginning,
+-- the events so far, and the committer of each drawn revision
 pub record Core : Type 0 where
   pub number : ℕ
   pub docs : Docs
   pub moved : Moved
+  pub old : Sight
   pub past : Past
   pub writers : Revision → Writer
 
@@ -74,10 +77,14 @@ pub record IsGoing (s : Core) (d : Draw) : Type 0 where
   pub uncommitted : is_committed s.past d.revision ≡ false
   pub going : (s.writers d.revision).undoing ≡ false
 
--- a new revision that no base sees, at a base that sees the start and nothing in flight; a list of
--- all its marked documents, each once; and marks of items that are those of the edit
+-- a new revision that no base sees, at a base that sees all that there was from the beginning,
+-- which is other, and nothing
+-- in flight; a list of all its marked documents, each once; and marks of items that are those of
+-- the edit
 pub record MayBegin (s : Core) (d : Draw) (left : List Path) : Type 0 where
   pub begins : Begins s.past d
+  pub sees_old : (o : Revision) → s.old o ≡ true → sees d.base o ≡ true
+  pub new : s.old d.revision ≡ false
   pub covers : (p : Path) (m : Mark) → In (mark_at p m) d.marks → In p left
   pub once : Once left
   pub entries : NamesItems d.marks d.edit.writes
@@ -112,6 +119,7 @@ after_write s d p rest = record {
       docs_after s.docs p (updated (s.docs p) (write_op d.revision d.edit.writes d.marks p)
       (s.number + 1));
   moved = s.moved;
+  old = s.old;
   past = event.Went d.session kind.Write ∷ s.past;
   writers =
       with_writer s.writers d.revision (record (s.writers d.revision) {
@@ -145,6 +153,7 @@ marked_by s d f rest (Ok doc) = record {
   number = s.number + 1;
   docs = with_document s.docs (root_of s.past f.other) doc;
   moved = s.moved;
+  old = s.old;
   past = event.Went d.session kind.Mark ∷ s.past;
   writers = with_writer s.writers d.revision (record (s.writers d.revision) { due = rest });
 }
@@ -168,6 +177,7 @@ lasted_by s d (Ok doc) = record {
   number = s.number + 1;
   docs = with_document s.docs (root_of s.past d.revision) doc;
   moved = s.moved;
+  old = s.old;
   past = event.Commit d.revision ∷ s.past;
   writers = s.writers;
 }
@@ -204,6 +214,7 @@ after_undo s d p rest = record {
   number = s.number + 1;
   docs = docs_after s.docs p (updated (s.docs p) (undo_op d.revision p) (s.number + 1));
   moved = s.moved;
+  old = s.old;
   past = event.Went d.session kind.Undo ∷ s.past;
   writers = with_writer s.writers d.revision (record (s.writers d.revision) { written = rest });
 }
@@ -225,12 +236,11 @@ after_finish s d = record s { past = event.End d.revision ∷ s.past }
 
 -- ---- a recovery of a stopped cluster node
 
--- a draw of a stopped cluster node that isn't committed, and isn't the start
+-- a draw of a stopped cluster node that isn't committed
 pub record IsDead (past : Past) (d : Draw) : Type 0 where
   pub stopped : is_stopped past d.revision.cluster ≡ true
   pub draw : draw_of past d.revision ≡ Some d
   pub uncommitted : is_committed past d.revision ≡ false
-  pub other : d.revision ≡ start_of 1 → ⊥
 
 -- the paths without this one
 abbrev pub without_path : Path → List Path → List Path
@@ -246,6 +256,7 @@ after_clear s e d p = record {
   number = s.number + 1;
   docs = docs_after s.docs p (updated (s.docs p) (undo_op d.revision p) (s.number + 1));
   moved = s.moved;
+  old = s.old;
   past = e ∷ s.past;
   writers = with_writer s.writers d.revision (cleared (s.writers d.revision) p);
 }

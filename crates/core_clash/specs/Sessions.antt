@@ -6,6 +6,7 @@ use Rattle.oak_machine.specs.declared.event.Draw.{Draw}
 use Rattle.oak_machine.specs.History.{Past}
 use Rattle.oak_machine.specs.Commits.{draw_of, is_committed, is_ended}
 use Rattle.oak_commit.specs.Clashing.{Writer}
+use Rattle.core_read.specs.Commits.{Sight}
 use Rattle.core_clash.specs.Core.{Core, Docs, Moved}
 use Rattle.core_clash.specs.Sound.{Sound}
 
@@ -20,13 +21,21 @@ pub record Kept : Type 0 where
   pub number : ℕ
   pub docs : Docs
   pub moved : Moved
+  pub old : Sight
   pub past : Past
   pub running : ℕ → Option Running
 
 -- the core that is kept, with the writers of all draws, also of those that have ended
 abbrev pub core_of : Kept → (Revision → Writer) → Core
 core_of k writers =
-    record { number = k.number; docs = k.docs; moved = k.moved; past = k.past; writers = writers }
+    record {
+      number = k.number;
+      docs = k.docs;
+      moved = k.moved;
+      old = k.old;
+      past = k.past;
+      writers = writers;
+    }
 
 -- the committer of session s is the writer of its draw
 pub record IsTheirs (past : Past) (writers : Revision → Writer) (s : ℕ) (x : Running) : Type 0 where

@@ -6,7 +6,6 @@ use Rattle.jr_path.specs.declared.path.Path.{Path}
 use Rattle.jr_path.specs.declared.path.Item.{Item}
 use Rattle.jr_path.specs.declared.path.DocId.TheVariants as id
 use Rattle.jr_rev.specs.declared.revision.Revision.{Revision}
-use Rattle.jr_rev.specs.Vectors.{start_of}
 use Rattle.oak_clash.specs.declared.mark.Mark.{Mark}
 use Rattle.oak_clash.specs.declared.mark.Mark.TheVariants.{Prop}
 use Rattle.oak_clash.specs.Clashes.{clash, Meets}
@@ -54,11 +53,11 @@ pub record AreBelow (past : Past) : Type 0 where
       → is_in_base past r o ≡ true
   pub swept : (o : Revision) → is_swept past o ≡ true → is_bounded past o ≡ true
 
--- a mark in the document of p is one of the start, or one that its committer wrote there and hasn't
--- undone
+-- a mark in the document of p was there from the beginning, or its committer wrote it there and
+-- hasn't undone it
 abbrev pub IsOf : Core → Path → Revision → Mark → Type 0
 IsOf s p r m =
-    (r ≡ start_of 1) ⊎ (In p (s.writers r).written × In (mark_at p m) (marks_of s.past r))
+    (s.old r ≡ true) ⊎ (In p (s.writers r).written × In (mark_at p m) (marks_of s.past r))
 
 -- the base of r sees o, or r is to mark o, or somebody has marked o
 abbrev pub Noticed : Core → Revision → Revision → Type 0
@@ -66,9 +65,9 @@ Noticed s r o =
     (is_in_base s.past r o ≡ true) ⊎ ((f : Met) × In f (s.writers r).due × (f.other ≡ o))
     ⊎ (is_some (collision (s.docs (root_of s.past o)) o) ≡ true)
 
--- r is the start, or was drawn, wrote the document of p and hasn't undone it
+-- r was there from the beginning, or was drawn, wrote the document of p and hasn't undone it
 abbrev pub IsWriterOf : Core → Path → Revision → Type 0
-IsWriterOf s p r = (r ≡ start_of 1) ⊎ (In p (s.writers r).written × (is_drawn s.past r ≡ true))
+IsWriterOf s p r = (s.old r ≡ true) ⊎ (In p (s.writers r).written × (is_drawn s.past r ≡ true))
 
 -- a document is there, and tells the commit root of r
 abbrev pub IsRooted : Option Document → Revision → Path → Type 0
@@ -109,9 +108,12 @@ pub record Sound (s : Core) : Type 0 where
   pub committed_drawn : (r : Revision) → is_committed s.past r ≡ true → is_drawn s.past r ≡ true
   pub refused_drawn : (r : Revision) → is_refused s.past r ≡ true → is_drawn s.past r ≡ true
   pub ended_drawn : (r : Revision) → is_ended s.past r ≡ true → is_drawn s.past r ≡ true
-  -- no base sees what is in flight, and each sees the start
+  -- no base sees what is in flight, and each sees all that there was from the beginning, which
+  -- nothing drawn is
   pub settled : (r o : Revision) → is_in_flight s.past o ≡ true → is_in_base s.past r o ≡ false
-  pub start : (r : Revision) → is_drawn s.past r ≡ true → is_in_base s.past r (start_of 1) ≡ true
+  pub start : (r : Revision) → is_drawn s.past r ≡ true → (o : Revision) → s.old o ≡ true
+      → is_in_base s.past r o ≡ true
+  pub new : (r : Revision) → is_drawn s.past r ≡ true → s.old r ≡ false
   -- bounds are below what is in flight
   pub bounds : AreBelow s.past
   -- each document that a committer wrote and hasn't undone has its marks, or a previous one that it
@@ -123,12 +125,11 @@ pub record Sound (s : Core) : Type 0 where
       → IsOf s p r m
   -- what moved to previous documents is committed
   pub moved : (r : Revision) (p : Path) (m : Mark) → list_any (has_moved r m) (s.moved p) ≡ true
-      → (r ≡ start_of 1) ⊎ (is_committed s.past r ≡ true)
+      → (s.old r ≡ true) ⊎ (is_committed s.past r ≡ true)
   -- each document with a mark tells its commit root, until a bound has swept it, and no other
   -- document has a note of it
-  pub rooted : (r : Revision) (p : Path) (m : Mark) → is_swept s.past r ≡ false
-      → (r ≡ start_of 1 → ⊥) → marked_in (s.docs p) (s.moved p) r m ≡ true
-      → IsRooted (s.docs p) r (root_of s.past r)
+  pub rooted : (r : Revision) (p : Path) (m : Mark) → is_swept s.past r ≡ false → s.old r ≡ false
+      → marked_in (s.docs p) (s.moved p) r m ≡ true → IsRooted (s.docs p) r (root_of s.past r)
   pub unrooted : (r : Revision) (p : Path) → is_some (root_entry (s.docs p) r) ≡ true
       → IsWriterOf s p r
   -- each committer of a node that isn't stopped has written exactly the first documents of its
@@ -154,7 +155,7 @@ pub record Sound (s : Core) : Type 0 where
   -- it is whole, and nobody marked it
   pub status : (r : Revision) → is_swept s.past r ≡ false → is_committed s.past r ≡ true
       → noted (s.docs (root_of s.past r)) r ≡ true
-  pub only_committed : (p : Path) (r : Revision) → noted (s.docs p) r ≡ true → (r ≡ start_of 1)
+  pub only_committed : (p : Path) (r : Revision) → noted (s.docs p) r ≡ true → (s.old r ≡ true)
       ⊎ (is_committed s.past r ≡ true)
   pub whole : (r : Revision) → is_committed s.past r ≡ true → IsWhole (s.writers r)
   pub unmarked : (r : Revision) → is_committed s.past r ≡ true

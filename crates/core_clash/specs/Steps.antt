@@ -3,7 +3,6 @@
 use Rattle.std.specs.Prelude.{◌≡◌, ℕ, Bool, true, false, List, [], ◌∷◌, None, is_some}
 use Rattle.jr_path.specs.declared.path.Path.{Path}
 use Rattle.jr_rev.specs.declared.revision.Revision.{Revision}
-use Rattle.jr_rev.specs.Vectors.{start_of}
 use Rattle.oak_clash.specs.declared.mark.Mark.{Mark}
 use Rattle.jr_rev.specs.declared.vector.Pin.{Pin}
 use Rattle.jr_rev.specs.declared.vector.RevVec.{RevVec}
@@ -21,7 +20,10 @@ use Rattle.oak_commit.specs.Clashing.{Met, marked, noted, collision}
 use Rattle.core_read.specs.Holds.{root_entry}
 use Rattle.core_clash.specs.Views.{AreOrdered, In}
 use Rattle.core_clash.specs.Collecting.{SeesBounded, MayBound, MayPrune, MayRemove, MaySplit, after_prune, after_remove, after_split}
-use Rattle.core_clash.specs.Core.{Core, Docs, IsGoing, MayBegin, MayWrite, MayMark, MayLast, MayUndo, MayFinish, IsDead, MayDrop, after_clear, after_drop, after_draw, after_write, after_mark, after_last, after_want, after_undo, after_finish, after_event, is_quiet}
+use Rattle.core_read.specs.Commits.{Sight}
+use Rattle.std.specs.List.{list_any}
+use Rattle.core_clash.specs.Sound.{has_moved}
+use Rattle.core_clash.specs.Core.{Core, Docs, Moved, IsGoing, MayBegin, MayWrite, MayMark, MayLast, MayUndo, MayFinish, IsDead, MayDrop, after_clear, after_drop, after_draw, after_write, after_mark, after_last, after_want, after_undo, after_finish, after_event, is_quiet}
 
 -- one step of one committer, or what comes between: bounds, what collections drop, what splits
 -- move, what a recovery undoes and ends, and events of something else, a stop and the end of a
@@ -54,35 +56,35 @@ pub data Step : Core → Core → Type 0 where
   dropped : {s : Core} (d : Draw) → MayDrop s d → Step s (after_drop s d)
   other : {s : Core} (e : Event) → is_quiet e ≡ true → Step s (after_event s e)
 
--- documents in order, with marks, a status and commit roots of the start alone, and no collision
-pub record IsStart (docs : Docs) : Type 0 where
+-- documents in order, with marks, statuses and commit roots of what there was from the beginning
+-- alone, and no collision; and
+-- previous documents with such marks
+pub record IsStart (old : Sight) (docs : Docs) (moved : Moved) : Type 0 where
   pub ordered : (p : Path) → AreOrdered p (docs p)
-  pub marks : (p : Path) (r : Revision) (m : Mark) → marked (docs p) r m ≡ true → r ≡ start_of 1
-  pub notes : (p : Path) (r : Revision) → noted (docs p) r ≡ true → r ≡ start_of 1
-  pub roots : (p : Path) (r : Revision) → is_some (root_entry (docs p) r) ≡ true → r ≡ start_of 1
+  pub marks : (p : Path) (r : Revision) (m : Mark) → marked (docs p) r m ≡ true → old r ≡ true
+  pub notes : (p : Path) (r : Revision) → noted (docs p) r ≡ true → old r ≡ true
+  pub roots : (p : Path) (r : Revision) → is_some (root_entry (docs p) r) ≡ true → old r ≡ true
   pub collisions : (p : Path) (r : Revision) → collision (docs p) r ≡ None
+  pub listed : (p : Path) (r : Revision) (m : Mark) → list_any (has_moved r m) (moved p) ≡ true
+      → old r ≡ true
 
 -- nothing has happened
-abbrev pub at_start : ℕ → Docs → Core
-at_start number docs =
+abbrev pub at_start : Sight → ℕ → Docs → Moved → Core
+at_start old number docs moved =
     record {
       number = number;
       docs = docs;
-      moved = λ p. [];
+      moved = moved;
+      old = old;
       past = [];
-      writers = λ r. record {
-        paths = [];
-        left = [];
-        written = [];
-        due = [];
-        undoing = false;
-        wants = false;
-      };
+      writers = λ r.
+          record { paths = []; left = []; written = []; due = []; undoing = false; wants = false };
     }
 
 -- what can be reached by steps, in every interleaving
 pub data Reached : Core → Type 0 where
-  begun : (number : ℕ) (docs : Docs) → IsStart docs → Reached (at_start number docs)
+  begun : (old : Sight) (number : ℕ) (docs : Docs) (moved : Moved) → IsStart old docs moved
+      → Reached (at_start old number docs moved)
   more : {s t : Core} → Reached s → Step s t → Reached t
 
 -- a commit, a refusal or an end may follow

@@ -4,7 +4,7 @@
 #![tactic(auto)]
 
 ghost use Rattle.std.specs.Prelude.{◌≡◌, ◌⊎◌, ℕ, List, ◌∷◌, true, false, None, is_some, ◌||◌, Bool, not, Option, Some, IsFalse};
-ghost use Rattle.jr_rev.specs.Vectors.{start_of, sees};
+ghost use Rattle.jr_rev.specs.Vectors.{sees};
 ghost use Rattle.jr_path.specs.declared.path.Path.{Path};
 ghost use Rattle.jr_rev.specs.declared.revision.Revision.{Revision};
 ghost use Rattle.jr_rev.specs.declared.vector.RevVec.{RevVec};
@@ -19,6 +19,7 @@ ghost use Rattle.oak_machine.specs.declared.event.Draw.{Draw};
 ghost use Rattle.oak_machine.specs.declared.event.Event.{Event};
 ghost use Rattle.oak_machine.specs.declared.event.Event.TheVariants as event;
 ghost use Rattle.oak_machine.specs.Commits.{is_drawn, is_committed, is_ended, is_in_base, are_clashing};
+ghost use Rattle.oak_machine.specs.History.{Begin, begin_at};
 ghost use Rattle.oak_machine.specs.Runs.{IsRunOf, AreNodes};
 ghost use Rattle.oak_machine.specs.Sessions.{is_stopped};
 ghost use Rattle.oak_commit.specs.Clashing.{found, marked, noted};
@@ -58,17 +59,17 @@ pub fn what_meets_nothing_is_committed()
 /// What ended without a commit, by its own committer or by a recovery of its stopped cluster node,
 /// has left no mark in any document, and nothing of it has moved to a previous one.
 pub fn what_is_refused_leaves_no_mark()
-    ensures marks { (s : Core) (r p m : _) → Reached s → (r ≡ start_of 1 → ⊥)
-        → is_ended s.past r ≡ true → is_committed s.past r ≡ false → marked (s.docs p) r m ≡ false }
-    ensures moved { (s : Core) (r p m : _) → Reached s → (r ≡ start_of 1 → ⊥)
-        → is_ended s.past r ≡ true → is_committed s.past r ≡ false
-        → list_any (has_moved r m) (s.moved p) ≡ false }
+    ensures marks { (s : Core) (r p m : _) → Reached s → s.old r ≡ false → is_ended s.past r ≡ true
+        → is_committed s.past r ≡ false → marked (s.docs p) r m ≡ false }
+    ensures moved { (s : Core) (r p m : _) → Reached s → s.old r ≡ false → is_ended s.past r ≡ true
+        → is_committed s.past r ≡ false → list_any (has_moved r m) (s.moved p) ≡ false }
 {}
 
-/// The commit root of a revision that no bound has swept, and that isn't the start, tells whether
-/// it is committed, in every interleaving: whoever asks it may take the answer for the journal's.
+/// The commit root of a revision that no bound has swept, and that wasn't there from the beginning,
+/// tells whether it is committed, in every interleaving: whoever asks it may take the answer for
+/// the journal's.
 pub fn statuses_can_be_trusted()
-    ensures { (s : Core) (r : _) → Reached s → is_swept s.past r ≡ false → (r ≡ start_of 1 → ⊥)
+    ensures { (s : Core) (r : _) → Reached s → is_swept s.past r ≡ false → s.old r ≡ false
         → noted (s.docs (root_of s.past r)) r ≡ is_committed s.past r }
 {}
 
@@ -89,7 +90,7 @@ pub fn what_is_undone_stays_undone()
 /// A document that has a mark of a revision tells the commit root of its draw, until a bound has
 /// swept it.
 pub fn a_marked_document_tells_the_commit_root()
-    ensures { (s : Core) (r p m : _) → Reached s → is_swept s.past r ≡ false → (r ≡ start_of 1 → ⊥)
+    ensures { (s : Core) (r p m : _) → Reached s → is_swept s.past r ≡ false → s.old r ≡ false
         → marked_in (s.docs p) (s.moved p) r m ≡ true → IsRooted (s.docs p) r (root_of s.past r) }
 {}
 
@@ -102,11 +103,13 @@ pub fn who_is_met_is_told_with_its_commit_root()
         → IsRooted (s.docs p) f.other (root_of s.past f.other) }
 {}
 
-/// A draw that may follow a run may begin, with a list of all its marked documents, each once.
+/// A draw that may follow a run may begin, with a list of all its marked documents, each once:
+/// where what there was from the beginning is that of the run.
 pub fn draws_may_begin<L: Law>(law: &L)
-    ensures { (clusters : ℕ) (sessions : List ℕ) (s : Core) (d : Draw) (left : List _)
-        → AreNodes clusters sessions
-        → IsRunOf (L.may_start law.now) (L.may_say law.now) clusters sessions None
+    ensures { (clusters : ℕ) (sessions : List ℕ) (begin : Begin) (s : Core) (d : Draw)
+        (left : List _) → AreNodes clusters sessions
+        → ((o : Revision) → s.old o ≡ true → sees (begin_at clusters begin) o ≡ true)
+        → IsRunOf (L.may_start law.now) (L.may_say law.now) clusters sessions begin
         (event.Draw d ∷ s.past) → ((p m : _) → In (mark_at p m) d.marks → In p left) → Once left
         → MayBegin s d left }
 {}

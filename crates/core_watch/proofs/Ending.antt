@@ -1,6 +1,6 @@
 -- When a reader ends: a node's after its commit roots, and that of children goes forward from document to document.
 use Rattle.std.proofs.Common.{◌≡◌, ◌≤◌, suc, arith, length, ◌⊎◌, inl, inr, Bool, true, false, cond, Some, None, Option, List, [], ◌∷◌, refl, sym, ap, ◌∙◌, subst}
-use Rattle.std.specs.Prelude.{is_some, slice_get}
+use Rattle.std.specs.Prelude.{is_some, map, slice_get}
 use Rattle.std.specs.Option.{option_map, option_map_or}
 use Rattle.std.specs.declared.alloc.Global.{Global}
 use Rattle.std.specs.declared.cmp.Ordering.TheVariants.{Less}
@@ -10,21 +10,19 @@ use Rattle.jr_path.specs.declared.path.Path.{Path}
 use Rattle.jr_path.specs.declared.path.DocId.{DocId}
 use Rattle.jr_path.specs.declared.path.DocId.TheVariants as id
 use Rattle.jr_rev.specs.declared.vector.Pin.{Pin}
-use Rattle.jr_tree.specs.Trees.{Nodes, is_child_of}
+use Rattle.jr_tree.specs.Trees.{is_child_of}
 use Rattle.oak_doc.specs.declared.document.Document.{Document}
 use Rattle.oak_read.specs.Meaning.{documents_in}
-use Rattle.oak_read.specs.Wanted.{Known, Ids, left_of, previous_wanted, roots_wanted}
+use Rattle.oak_read.specs.Wanted.{Known, Ids, left_of, listed, previous_wanted, roots_wanted, unknown}
+use Rattle.oak_read.proofs.Walking.{own_id}
 use Rattle.oak_read.specs.Reading.{IsTable, answer, due, fed_main, fed_next, child_at, ended, noted, settled, on_main, on_previous, on_roots, with_known, node_reader}
 use Rattle.oak_read.specs.declared.wanted.Left.{Left}
 use Rattle.oak_read.specs.declared.reader.Reader.{Reader}
 use Rattle.oak_read.specs.declared.reader.Step.{Step}
 use Rattle.oak_read.specs.declared.reader.Step.TheVariants as step
-use Rattle.oak_machine.specs.Commits.{tree_at}
-use Rattle.core_watch.specs.Standing.{Child, Stands, IsReading}
-use Rattle.core_watch.specs.Moments.{Moment, AreSteady, answered, after_moments, roots_left, IsDone}
+use Rattle.core_watch.specs.Standing.{Child}
+use Rattle.core_watch.specs.Moments.{Moment, answered, after_moments, roots_left, IsDone}
 use Rattle.core_watch.proofs.Behind.{Entries, behind, each_found, IsNext, next_is}
-use Rattle.core_watch.proofs.Moments.{goes_on, fed_keeps}
-use Rattle.core_watch.proofs.Steady.{begins_node}
 
 -- ---- a reader of a node
 
@@ -44,13 +42,6 @@ done_ends (m ∷ ms) r done = done_ends ms (answered r m) (by r.alloc r.pin r.pa
 abbrev IsPlain : Step → Type 0
 IsPlain (step.Previous left) = ⊥
 IsPlain _ = Unit {0}
-
-plain_stands : (t : Nodes) (pin : Pin) (at : Path) (known : Known) (names : List Child) (s : Step) → Stands t pin None at known names s → IsPlain s
-plain_stands t pin at known names (step.Previous left) h = absurd h
-plain_stands t pin at known names step.Main h = tt
-plain_stands t pin at known names step.Next h = tt
-plain_stands t pin at known names (step.Roots left) h = tt
-plain_stands t pin at known names (step.Done o) h = tt
 
 module _ (a : Global) (pin : Pin) (at : Path) (names : List Child) where
   abbrev reader : Known → Step → Reader
@@ -87,17 +78,23 @@ module _ (a : Global) (pin : Pin) (at : Path) (names : List Child) where
   first_ends ms known None plain h = done_ends ms (fed_main (reader known step.Main) None) tt
   first_ends ms known (Some d) plain h = main_ends ms (with_known known (id.Node at) (Some d)) step.Main plain h
 
--- it is done after its first answer and one for each commit root that is left then
-pub node_ends : (a : Global) (pin : Pin) (p : Path) (m k : Moment) (ms : List Moment) → AreSteady pin m (k ∷ []) → roots_left (answered (node_reader a pin p) k).step ≤ length ms → IsDone (after_moments (k ∷ ms) (node_reader a pin p)).step
-node_ends a pin p m k ms steady h =
-    first_ends a pin p [] ms [] (documents_in k.table (id.Node p))
-    (plain (answered (node_reader a pin p) k) refl (goes_on m k (node_reader a pin p) steady.0 steady.1 (begins_node (documents_in m.table) m.past a pin p))) h
+-- a document that lists no previous one wants none
+plain_first : (a : Global) (pin : Pin) (at : Path) (o : Option Document) → ((d : Document) → o ≡ Some d → d.prev ≡ []) → IsPlain (fed_main (reader a pin at [] [] step.Main) o).step
+plain_first a pin at None whole = tt
+plain_first a pin at (Some d) whole = subst (λ (ids : Ids). IsPlain (option_map_or (λ left. record (reader a pin at [] (with_known [] (id.Node at) (Some d)) step.Main) { step = step.Previous left }) (left_of ids) (on_previous (reader a pin at [] (with_known [] (id.Node at) (Some d)) step.Main))).step) (sym none) (roots (left_of (roots_wanted pin.sweep pin.base (with_known [] (id.Node at) (Some d)) true at)))
   where
-    -- a reader of a node stays one
-    plain : (r : Reader) → r.parent ≡ (answered (node_reader a pin p) k).parent → IsReading (documents_in k.table) k.past r → IsPlain r.step
-    plain r same reading =
-        plain_stands (tree_at None k.past r.pin.base) r.pin r.at r.known r.names r.step
-        (subst (λ (parent : Option Path). Stands (tree_at None k.past r.pin.base) r.pin parent r.at r.known r.names r.step) (same ∙ (fed_keeps (node_reader a pin p) (answer k.table (due (node_reader a pin p)))).same_kind) reading.stands)
+    none : previous_wanted (with_known [] (id.Node at) (Some d)) at ≡ []
+    none =
+        ap (λ b. option_map_or (λ e. unknown (with_known [] (id.Node at) (Some d)) (listed at e)) (cond b (Some d) None) []) (own_id (id.Node at))
+        ∙ ap (λ es. unknown (with_known [] (id.Node at) (Some d)) (map (λ e. id.Prev e.number at) es)) (whole d refl)
+
+    roots : (o : Option Left) → IsPlain (option_map_or (λ left. record (reader a pin at [] (with_known [] (id.Node at) (Some d)) step.Main) { step = step.Roots left }) o (on_roots (reader a pin at [] (with_known [] (id.Node at) (Some d)) step.Main))).step
+    roots None = tt
+    roots (Some left) = tt
+
+-- it is done after its first answer and one for each commit root that is left then
+pub node_ends : (a : Global) (pin : Pin) (p : Path) (k : Moment) (ms : List Moment) → ((d : Document) → documents_in k.table (id.Node p) ≡ Some d → d.prev ≡ []) → roots_left (answered (node_reader a pin p) k).step ≤ length ms → IsDone (after_moments (k ∷ ms) (node_reader a pin p)).step
+node_ends a pin p k ms whole h = first_ends a pin p [] ms [] (documents_in k.table (id.Node p)) (plain_first a pin p (documents_in k.table (id.Node p)) whole) h
 
 -- ---- a reader of children
 

@@ -17,20 +17,18 @@ use Rattle.jr_rev.specs.declared.vector.Pin.{Pin}
 use Rattle.oak_doc.specs.declared.document.Document.{Document}
 use Rattle.oak_read.specs.Meaning.{documents_in}
 use Rattle.oak_read.specs.Wanted.{Known, Ids, left_of, previous_wanted, roots_wanted}
-use Rattle.oak_read.specs.Reading.{IsTable, node_reader, children_reader, fed_main, on_main, on_previous, on_roots, with_known}
+use Rattle.oak_read.specs.Reading.{IsTable, fed_main, on_main, on_previous, on_roots, with_known}
 use Rattle.oak_read.specs.declared.wanted.Left.{Left}
 use Rattle.oak_read.specs.declared.reader.Reader.{Reader}
 use Rattle.oak_read.specs.declared.reader.ReadOut.{ReadOut}
 use Rattle.oak_read.specs.declared.reader.Step.{Step}
 use Rattle.oak_read.specs.declared.reader.Step.TheVariants as step
 use Rattle.oak_read.proofs.Walking.{same_id}
-use Rattle.oak_machine.specs.Commits.{tree_at}
 use Rattle.core_read.proofs.Entries.{is_less}
-use Rattle.core_watch.specs.Standing.{Child, IsNodeOf, AreChildrenOf}
-use Rattle.core_watch.specs.Moments.{Moment, AreSteady, HasIdsAmong, EndsWith, answered, after_moments, first_of, IsDone}
+use Rattle.core_watch.specs.Standing.{Child}
+use Rattle.core_watch.specs.Moments.{Moment, HasIdsAmong, answered, after_moments, first_of, IsDone}
 use Rattle.core_watch.proofs.Behind.{not_below_itself}
 use Rattle.core_watch.proofs.Ending.{next_rises}
-use Rattle.core_watch.proofs.Moments.{reads_node, reads_children}
 
 -- ---- what a step lowers
 
@@ -241,16 +239,3 @@ done_with step.Main done = absurd done
 done_with step.Next done = absurd done
 done_with (step.Previous left) done = absurd done
 done_with (step.Roots left) done = absurd done
-
-module _ (ids : List DocId) (a : Global) (pin : Pin) (p : Path) (m : Moment) (f : ℕ → Moment) (steady : (n : ℕ) → AreSteady pin m (first_of n f)) (are : (i : ℕ) → HasIdsAmong ids (f i)) where
-  pub node_at_end : EndsWith (IsNodeOf (tree_at None m.past pin.base) p) f (node_reader a pin p)
-  node_at_end =
-      let e = ends ids f (node_reader a pin p) are in
-      let o = done_with (after_moments (first_of e.0 f) (node_reader a pin p)).step e.1 in
-      (e.0, o.0, o.1, reads_node a pin p m (first_of e.0 f) (steady e.0) o.0 o.1)
-
-  pub children_at_end : EndsWith (AreChildrenOf (tree_at None m.past pin.base) p) f (children_reader a pin p)
-  children_at_end =
-      let e = ends ids f (children_reader a pin p) are in
-      let o = done_with (after_moments (first_of e.0 f) (children_reader a pin p)).step e.1 in
-      (e.0, o.0, o.1, reads_children a pin p m (first_of e.0 f) (steady e.0) o.0 o.1)

@@ -32,7 +32,7 @@ use Rattle.oak_read.specs.Reading.{with_known}
 use Rattle.oak_read.proofs.Walking.{same_id, own_id}
 use Rattle.core_read.proofs.Entries.{both, first, is_less, second, sorted_insert}
 use Rattle.core_read.proofs.Latest.{same_revision}
-use Rattle.core_watch.specs.Standing.{HasEntry, is_known_or_left, IsRooted}
+use Rattle.core_watch.specs.Standing.{HasEntry, is_known_or_left}
 
 or_first : (a b : Bool) → a ≡ true → (a || b) ≡ true
 or_first true b h = refl
@@ -184,22 +184,6 @@ module _ (known : Known) where
   pub all_rising : (xs : List DocId) (ids : Ids) → is_sorted id_cmp ids ≡ true → is_sorted id_cmp (fold (with_unknown known) ids xs) ≡ true
   all_rising [] ids h = h
   all_rising (x ∷ xs) ids h = all_rising xs (with_unknown known ids x) (one_rising x ids h)
-
--- what is wanted by a document that is known is left
-pub rooted_from : (t v : RevVec) (known : Known) (whole : Bool) (p : Path) (d : Document) → documents_in known (id.Node p) ≡ Some d → d.prev ≡ [] → IsRooted t v known (roots_wanted t v known whole p) whole p
-rooted_from t v known whole p d there alone = record {
-  document = d;
-  there = there;
-  roots = λ q seen unswept entry. subst (λ (ids : Ids). is_known_or_left known ids (commit_root_of d q) ≡ true) (sym wanted_is)
-      (unknown_left known (commit_root_of d q) (flat_map (roots_of t v whole) (d ∷ [])) [] (any_front (is_root t v d q seen unswept) (roots_of t v whole d) [] (among_roots t v d q seen unswept whole entry)));
-  rising = ap (is_sorted id_cmp) wanted_is ∙ all_rising known (flat_map (roots_of t v whole) (d ∷ [])) [] refl;
-  unknown = ap (list_all (λ e. is_none (documents_in known e.0))) wanted_is ∙ all_unknown known (flat_map (roots_of t v whole) (d ∷ [])) [] refl;
-}
-  where
-    wanted_is : roots_wanted t v known whole p ≡ unknown known (flat_map (roots_of t v whole) (d ∷ []))
-    wanted_is =
-        ap (λ (o : Option Document). option_map_or (λ d. unknown known (flat_map (roots_of t v whole) (with_previous (documents_in known) p d))) o []) there
-        ∙ ap (λ prev. unknown known (flat_map (roots_of t v whole) (d ∷ filter_map (λ e. documents_in known (id.Prev e.number p)) prev))) alone
 
 -- ---- a document is noted
 

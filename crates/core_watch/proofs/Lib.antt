@@ -1,14 +1,8 @@
-pub mod Properties
-pub mod Alike
-pub mod Rooted
 pub mod Left
 pub mod Children
 pub mod Behind
-pub mod Feeding
-pub mod Steady
 pub mod Moments
 pub mod Ending
-pub mod Worlds
 pub mod Finite
 pub mod Lasting
 pub mod Fed

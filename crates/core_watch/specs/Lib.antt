@@ -1,4 +1,3 @@
-pub mod Copies
 pub mod Standing
 pub mod Reading
 pub mod Moments

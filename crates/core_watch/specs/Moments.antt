@@ -14,28 +14,12 @@ use Rattle.oak_read.specs.declared.reader.ReadOut.{ReadOut}
 use Rattle.oak_read.specs.declared.reader.Step.{Step}
 use Rattle.oak_read.specs.declared.reader.Step.TheVariants as step
 use Rattle.oak_machine.specs.History.{Past}
-use Rattle.core_read.specs.Holds.{Holds, IsSwept}
-use Rattle.core_read.specs.Told.{IsTold, IsInUse}
-use Rattle.core_watch.specs.Copies.{IsSteady}
 use Rattle.core_watch.specs.Standing.{path_read}
 
 -- a moment: the documents, and what the journal tells so far
 pub record Moment : Type 0 where
   pub table : List (DocId × Document)
   pub past : Past
-
--- at a moment there can be read at a pin: the documents hold the past, its base is in use, and what its sweep vector sees is done
-pub record IsReadable (pin : Pin) (m : Moment) : Type 0 where
-  pub ordered : IsTable m.table
-  pub holds : Holds (documents_in m.table) m.past
-  pub told : IsTold m.past
-  pub in_use : IsInUse m.past pin.base
-  pub swept : IsSwept m.past pin.sweep
-
--- behind a moment, at each of some more there can be read at the pin, and from one to the next nothing changes that its base sees
-abbrev pub AreSteady : Pin → Moment → List Moment → Type 0
-AreSteady pin m [] = Unit {0}
-AreSteady pin m (n ∷ ms) = IsSteady pin.base (documents_in m.table) (documents_in n.table) m.past n.past × IsReadable pin n × AreSteady pin n ms
 
 -- a reader after the documents of a moment have answered it
 abbrev pub answered : Reader → Moment → Reader
@@ -69,8 +53,10 @@ first_of (suc n) f = f 0 ∷ first_of n (λ i. f (suc i))
 -- at a moment the documents are in store order, and each has one of these ids
 pub record HasIdsAmong (ids : List DocId) (m : Moment) : Type 0 where
   pub ordered : IsTable m.table
-  pub among : (x : DocId) → IsTrue (is_some (documents_in m.table x)) → IsTrue (list_any (eq_by_cmp id_cmp x) ids)
+  pub among : (x : DocId) → IsTrue (is_some (documents_in m.table x))
+      → IsTrue (list_any (eq_by_cmp id_cmp x) ids)
 
 -- after some of moments without end a reader is done, and gives one of these
 abbrev pub EndsWith : (ReadOut → Type 0) → (ℕ → Moment) → Reader → Type 0
-EndsWith P f r = (n : ℕ) × (o : ReadOut) × ((after_moments (first_of n f) r).step ≡ step.Done o) × P o
+EndsWith P f r =
+    (n : ℕ) × (o : ReadOut) × ((after_moments (first_of n f) r).step ≡ step.Done o) × P o

@@ -26,26 +26,27 @@ use Rattle.oak_machine.specs.History.{Past}
 use Rattle.oak_read.specs.Meaning.{Documents, documents_in}
 use Rattle.oak_store.specs.Tables.{Table, after_undo, next_number}
 use Rattle.core_read.specs.Committing.{IsPartly}
-use Rattle.core_read.specs.Holds.{edit_of}
 use Rattle.core_read.proofs.Updates.{other_without, own_without, undo_prop, undo_same}
 use Rattle.core_clash.specs.Core.{IsDead, cleared, with_writer}
 use Rattle.core_clash.specs.Views.{AreOrdered}
 use Rattle.core_clash.proofs.Basics.{decide, same_revision, writer_other}
 use Rattle.core_clash.proofs.Finished.{event_keeps}
 use Rattle.core_clash.proofs.Undone.{clear_keeps}
-use Rattle.core_keep.specs.Journal.{course_of, IsKeptWorld}
 use Rattle.core_keep.specs.Keeps.{Course}
 use Rattle.core_keep.specs.Steps.{AreLeft, AreNotes, IsPruned}
-use Rattle.core_keep.proofs.Events.{kept_idle}
-use Rattle.core_keep.proofs.World.{kept_pruned}
 use Rattle.core_watch.proofs.GoingOn.{on_pruned}
 use Rattle.core_watch.proofs.StayingOn.{formers_pruned}
 use Rattle.core_world.specs.Kept.{AreCommitting, IsFreeOf, has_written}
-use Rattle.core_world.specs.States.{State, core_in, nodes_in}
+use Rattle.core_world.specs.States.{State, core_in, nodes_in, origin}
 use Rattle.core_world.proofs.Freed.{effect, sound_undone}
 use Rattle.core_world.proofs.Letting.{LetsRead, lets_event, lets_then, lets_change, lets_same}
 use Rattle.core_world.proofs.Tables.{undo_main, undo_none}
 use Rattle.core_world.proofs.Undoing.{not_dead}
+use Rattle.core_begun.proofs.World.{kept_pruned}
+use Rattle.core_begun.proofs.Events.{kept_idle}
+use Rattle.core_begun.specs.Kept.{IsKeptSince}
+use Rattle.core_keep.specs.From.{course_from}
+use Rattle.core_begun.specs.Told.{edit_since}
 
 -- ---- entries without those of a revision that has none
 
@@ -114,7 +115,7 @@ pub record IsAgain (w : State) (d : Draw) (p : Path) : Type 0 where
   pub ended : is_ended w.past d.revision ≡ true
   pub free : (f : Document) → nodes_in w.table p ≡ Some f → IsFreeOf d.revision f
 
-module _ (w : State) (a : AreCommitting w.past w.table w.running) (d : Draw) (p : Path)
+module _ (w : State) (a : AreCommitting (origin w) w.past w.table w.running) (d : Draw) (p : Path)
     (again : IsAgain w d p) where
   abbrev r : Revision
   r = d.revision
@@ -137,21 +138,21 @@ module _ (w : State) (a : AreCommitting w.past w.table w.running) (d : Draw) (p 
   -- ---- documents
 
   pruned : (f : Document) → nodes_in w.table p ≡ Some f
-      → IsPruned ds (course_of w.past) p f (changed_at f)
+      → IsPruned ds (course_from (origin w) w.past) p f (changed_at f)
   pruned f is = loses_nothing d.revision p f
       (subst (λ (o : Option Document). AreOrdered p o) is (a.sound.ordered p))
-      (again.free f is) ds (course_of w.past) (next_number w.table)
+      (again.free f is) ds (course_from (origin w) w.past) (next_number w.table)
 
-  same_world : IsKeptWorld docs_now w.past (λ q. has_written (a.writers q))
+  same_world : IsKeptSince (origin w) docs_now w.past (λ q. has_written (a.writers q))
   same_world = by (nodes_in w.table p) refl
     where
       by : (o : Option Document) → nodes_in w.table p ≡ o
-          → IsKeptWorld docs_now w.past (λ q. has_written (a.writers q))
+          → IsKeptSince (origin w) docs_now w.past (λ q. has_written (a.writers q))
       by None is = subst
           (λ (es : List (DocId × Document)).
-          IsKeptWorld (documents_in es) w.past (λ q. has_written (a.writers q)))
+          IsKeptSince (origin w) (documents_in es) w.past (λ q. has_written (a.writers q)))
           (sym (undo_none w.table p d.revision is)) a.kept
-      by (Some f) is = kept_pruned ds docs_now w.past _ a.kept p f (changed_at f) is
+      by (Some f) is = kept_pruned (origin w) ds docs_now w.past _ a.kept p f (changed_at f) is
           (undo_main w.table p d.revision f is) (pruned f is)
 
   -- it isn't in flight, so what its committer has written tells nothing
@@ -164,8 +165,9 @@ module _ (w : State) (a : AreCommitting w.past w.table w.running) (d : Draw) (p 
       and_no true = refl
       and_no false = refl
 
-  again_world : IsKeptWorld docs_now w.past (λ q. has_written (writers q))
+  again_world : IsKeptSince (origin w) docs_now w.past (λ q. has_written (writers q))
   again_world = record {
+    first = same_world.first;
     keeps = same_world.keeps;
     told = same_world.told;
     separate = same_world.separate;
@@ -175,7 +177,7 @@ module _ (w : State) (a : AreCommitting w.past w.table w.running) (d : Draw) (p 
   }
     where
       each : (q : Revision) (e : Draw) → draw_of w.past q ≡ Some e → is_in_flight w.past q ≡ true
-          → edit_of w.past q ≡ None → (b : Bool) → is_same q d.revision ≡ b
+          → edit_since w.past q ≡ None → (b : Bool) → is_same q d.revision ≡ b
           → IsPartly docs_now q e.edit.writes (commit_root e.marks)
           (has_written (cond b (cleared (a.writers d.revision) p) (a.writers q)))
       each q e at flying none false k = same_world.partly q e at flying none
@@ -184,36 +186,36 @@ module _ (w : State) (a : AreCommitting w.past w.table w.running) (d : Draw) (p 
 
   -- ---- readers
 
-  lets_undo : LetsRead w.table now w.past w.past
+  lets_undo : LetsRead (origin w) w.table now w.past w.past
   lets_undo = by (nodes_in w.table p) refl
     where
-      by : (o : Option Document) → nodes_in w.table p ≡ o → LetsRead w.table now w.past w.past
-      by None is = lets_same w.table now w.past (undo_none w.table p d.revision is)
-      by (Some f) is = lets_change w.table now w.past a.kept.told
-          (λ pin held. on_pruned pin ds docs_now w.past _ a.kept held p f (changed_at f) is
+      by : (o : Option Document) → nodes_in w.table p ≡ o → LetsRead (origin w) w.table now w.past w.past
+      by None is = lets_same (origin w) w.table now w.past (undo_none w.table p d.revision is)
+      by (Some f) is = lets_change (origin w) w.table now w.past a.kept.told
+          (λ pin held. on_pruned (origin w) pin ds docs_now w.past _ a.kept held p f (changed_at f) is
           (undo_main w.table p d.revision f is) (pruned f is))
-          (λ formers l. formers_pruned ds docs_now w.past _ a.kept p f (changed_at f) is
+          (λ formers l. formers_pruned (origin w) ds docs_now w.past _ a.kept p f (changed_at f) is
           (undo_main w.table p d.revision f is) (pruned f is) formers l)
 
   module _ (s : ℕ) where
     abbrev then : Past
     then = event.Went s kind.Undo ∷ w.past
 
-    pub again_lets : LetsRead w.table (after_undo w.table (id.Node p) d.revision) w.past
+    pub again_lets : LetsRead (origin w) w.table (after_undo w.table (id.Node p) d.revision) w.past
         (event.Went s kind.Undo ∷ w.past)
-    again_lets = lets_then w.table now now w.past then _ again_world lets_undo
-        (lets_event now w.past _ again_world (event.Went s kind.Undo) (λ q. refl) (λ q. refl)
+    again_lets = lets_then (origin w) w.table now now w.past then _ again_world lets_undo
+        (lets_event (origin w) now w.past _ again_world (event.Went s kind.Undo) (λ q. refl) (λ q. refl)
         (λ q. refl))
 
     -- ---- committers
 
-    pub again_commits : AreCommitting (event.Went s kind.Undo ∷ w.past)
+    pub again_commits : AreCommitting (origin w) (event.Went s kind.Undo ∷ w.past)
         (after_undo w.table (id.Node p) d.revision) w.running
     again_commits = record {
       writers = writers;
-      sound = sound_undone w.table a.sound.ordered p d.revision then writers
+      sound = sound_undone w.table a.sound.ordered p d.revision (origin w) then writers
           (event_keeps _ (event.Went s kind.Undo) refl
-          (clear_keeps (core_in w.past w.table a.writers) d a.sound again.dead p
+          (clear_keeps (core_in (origin w) w.past w.table a.writers) d a.sound again.dead p
           (next_number w.table) _ (effect w.table a.sound.ordered p d.revision)));
       theirs = λ q y h.
           let theirs = a.theirs q y h in
@@ -223,10 +225,10 @@ module _ (w : State) (a : AreCommitting w.past w.table w.running) (d : Draw) (p 
             unended = theirs.unended;
             committed = theirs.committed;
             writer = writer_other a.writers d.revision (cleared (a.writers d.revision) p)
-                y.draw.revision (not_dead w.past w.table w.running a d again.dead q y h)
+                y.draw.revision (not_dead (origin w) w.past w.table w.running a d again.dead q y h)
                 ∙ theirs.writer;
           };
       listed = a.listed;
-      kept = kept_idle docs_now w.past _ (event.Went s kind.Undo) refl again_world;
+      kept = kept_idle (origin w) docs_now w.past _ (event.Went s kind.Undo) refl again_world;
       unstopped = a.unstopped;
     }

@@ -21,7 +21,7 @@ use Rattle.oak_doc.specs.Updates.{after_changes}
 use Rattle.oak_machine.specs.declared.event.Event.{Event}
 use Rattle.oak_machine.specs.declared.event.Event.TheVariants as event
 use Rattle.oak_machine.specs.declared.event.StepKind.TheVariants as kind
-use Rattle.oak_machine.specs.History.{Past}
+use Rattle.oak_machine.specs.History.{Past, Begin}
 use Rattle.oak_machine.specs.Laws.{Says, Starts, StartsProper}
 use Rattle.oak_machine.specs.Runs.{IsRunOf}
 use Rattle.oak_machine.specs.Sessions.{base_of, has_left, has_login, has_reader, is_attached, is_recovered, is_stopped_under, kept_checkpoint, last_checkpoint}
@@ -33,7 +33,7 @@ use Rattle.core_heads.proofs.Runs.{kept_last}
 use Rattle.core_clash.proofs.Basics.{same_name}
 use Rattle.core_nodes.specs.Nodes.{IsPair, base_of_pin}
 use Rattle.core_world.specs.Kept.{AreSettingsKept, AreLayersKept, live_base, reader_at, has_written}
-use Rattle.core_world.specs.States.{State, actor_pin, memory_of, node_of, reader_pin}
+use Rattle.core_world.specs.States.{State, actor_pin, memory_of, node_of, reader_pin, origin}
 use Rattle.core_world.specs.Steps.{after_attach, after_detach, after_unfound, after_update, settings_op}
 use Rattle.core_world.proofs.Backs.{with_table}
 use Rattle.core_world.proofs.Checkpoints.{name_total, nodes_same, previous_same, root_same, settings_there}
@@ -50,29 +50,29 @@ use Rattle.core_world.proofs.Observers.{event_observes}
 
 -- ---- an attached session's base is that of its reader
 
-pub attached_reader : (starts : Starts) (says : Says) (clusters : ℕ) (sessions : List ℕ) (past : Past) → IsRunOf starts says clusters sessions None past → (s : ℕ) → is_attached past s ≡ true → base_of past s ≡ reader_at past s
-attached_reader starts says clusters sessions [] run s h = absurd (false≢true h)
-attached_reader starts says clusters sessions (event.Login t v ∷ past) run s h = by (attached_reader starts says clusters sessions past run.1 s) (t == s) h
+pub attached_reader : (starts : Starts) (says : Says) (clusters : ℕ) (sessions : List ℕ) (begin : Begin) (past : Past) → IsRunOf starts says clusters sessions begin past → (s : ℕ) → is_attached past s ≡ true → base_of past s ≡ reader_at past s
+attached_reader starts says clusters sessions begin [] run s h = absurd (false≢true h)
+attached_reader starts says clusters sessions begin (event.Login t v ∷ past) run s h = by (attached_reader starts says clusters sessions begin past run.1 s) (t == s) h
   where
     by : (is_attached past s ≡ true → base_of past s ≡ reader_at past s) → (b : Bool) → cond b false (is_attached past s) ≡ true → cond b (Some v) (base_of past s) ≡ reader_at past s
     by rest true h = absurd (false≢true h)
     by rest false h = rest h
-attached_reader starts says clusters sessions (event.Refresh t v ∷ past) run s h = by (attached_reader starts says clusters sessions past run.1 s) (t == s) h
+attached_reader starts says clusters sessions begin (event.Refresh t v ∷ past) run s h = by (attached_reader starts says clusters sessions begin past run.1 s) (t == s) h
   where
     by : (is_attached past s ≡ true → base_of past s ≡ reader_at past s) → (b : Bool) → cond b false (is_attached past s) ≡ true → cond b (Some v) (base_of past s) ≡ reader_at past s
     by rest true h = absurd (false≢true h)
     by rest false h = rest h
-attached_reader starts says clusters sessions (event.Attach t i ∷ past) run s h = by (attached_reader starts says clusters sessions past run.1 s) (t == s) h
+attached_reader starts says clusters sessions begin (event.Attach t i ∷ past) run s h = by (attached_reader starts says clusters sessions begin past run.1 s) (t == s) h
   where
     by : (is_attached past s ≡ true → base_of past s ≡ reader_at past s) → (b : Bool) → cond b true (is_attached past s) ≡ true → cond b (last_checkpoint past i) (base_of past s) ≡ cond b (last_checkpoint past i) (reader_at past s)
     by rest true h = refl
     by rest false h = rest h
-attached_reader starts says clusters sessions (event.Detach t ∷ past) run s h = by (attached_reader starts says clusters sessions past run.1 s h) (t == s) refl
+attached_reader starts says clusters sessions begin (event.Detach t ∷ past) run s h = by (attached_reader starts says clusters sessions begin past run.1 s h) (t == s) refl
   where
     by : base_of past s ≡ reader_at past s → (b : Bool) → (t == s) ≡ b → base_of past s ≡ cond b None (reader_at past s)
     by rest true e = not_both (is_attached past s) h (subst (λ (n : ℕ). is_attached past n ≡ false) (same_number t s e) run.0.0)
     by rest false e = rest
-attached_reader starts says clusters sessions (e ∷ past) run s h = attached_reader starts says clusters sessions past run.1 s h
+attached_reader starts says clusters sessions begin (e ∷ past) run s h = attached_reader starts says clusters sessions begin past run.1 s h
 
 -- ---- the settings
 
@@ -222,24 +222,24 @@ module _ (starts : Starts) (says : Says) (proper : StartsProper starts) (w : Sta
       let same = nodes_same w.table kept.settings.document kept.settings.there c in
       let previous = previous_same w.table kept.settings.document kept.settings.there c in
       let u : Table = after_update w.table (settings_op c) in
-      let run : IsRunOf starts says w.clusters w.sessions None (e ∷ w.past) = ((subst (λ (o : Option RevVec). IsSome o) (sym there) refl, detached, on), kept.sessions.run) in
+      let run : IsRunOf starts says w.clusters w.sessions w.begin (e ∷ w.past) = ((subst (λ (o : Option RevVec). IsSome o) (sym there) refl, detached, on), kept.sessions.run) in
       let t = told starts says proper w kept.sessions in
       record {
         sessions = record {
           nodes = kept.sessions.nodes;
           run = run;
-          committing = quiet_commits w.past u w.running (nodes_commit w.past w.table u w.running kept.sessions.committing t same previous) t e refl (λ k. refl);
+          committing = quiet_commits (origin w) w.past u w.running (nodes_commit (origin w) w.past w.table u w.running kept.sessions.committing t same previous) t e refl (λ k. refl);
           working = work_quiet w.sessions w.past w.running w.reading kept.sessions.working e refl (λ q. refl) (λ k. refl);
-          memories = aside starts says w.clusters w.sessions kept.sessions.nodes w.past w.memories kept.sessions.memories e run (λ j. refl) (λ j. refl);
-          readers = event_reads w.past w.table w.formers w.reading kept.sessions.readers (reader_held starts says proper w kept.sessions) e u
-              (lets_then w.table u u w.past (e ∷ w.past) (λ r. has_written (kept.sessions.committing.writers r)) (same_world w.past w.table u w.running kept.sessions.committing t same previous) (nodes_let w.past w.table u w.running kept.sessions.committing t same previous) (lets_calm u w.past (λ r. has_written (kept.sessions.committing.writers r)) (same_world w.past w.table u w.running kept.sessions.committing t same previous) e (λ x. refl) refl))
-              (apart_from w.past w.table w.formers w.reading kept.sessions.readers (reader_held starts says proper w kept.sessions) s unread);
-          observers = event_observes starts says w.clusters w.sessions kept.sessions.nodes proper w.past e run w.table u w.formers w.observing kept.sessions.observers (λ k. refl) (λ q r h. refl)
-              _ (quiet_commits w.past u w.running (nodes_commit w.past w.table u w.running kept.sessions.committing t same previous) t e refl (λ k. refl)).kept
-              (lets_then w.table u u w.past (e ∷ w.past) (λ r. has_written (kept.sessions.committing.writers r)) (same_world w.past w.table u w.running kept.sessions.committing t same previous) (nodes_let w.past w.table u w.running kept.sessions.committing t same previous)
-              (lets_calm u w.past (λ r. has_written (kept.sessions.committing.writers r)) (same_world w.past w.table u w.running kept.sessions.committing t same previous) e (λ x. refl) refl));
+          memories = aside starts says w.clusters w.sessions w.begin kept.sessions.nodes w.past w.memories kept.sessions.memories e run (λ j. refl) (λ j. refl);
+          readers = event_reads (origin w) w.past w.table w.formers w.reading kept.sessions.readers (reader_held starts says proper w kept.sessions) e u
+              (lets_then (origin w) w.table u u w.past (e ∷ w.past) (λ r. has_written (kept.sessions.committing.writers r)) (same_world (origin w) w.past w.table u w.running kept.sessions.committing t same previous) (nodes_let (origin w) w.past w.table u w.running kept.sessions.committing t same previous) (lets_calm (origin w) u w.past (λ r. has_written (kept.sessions.committing.writers r)) (same_world (origin w) w.past w.table u w.running kept.sessions.committing t same previous) e (λ x. refl) refl))
+              (apart_from (origin w) w.past w.table w.formers w.reading kept.sessions.readers (reader_held starts says proper w kept.sessions) s unread);
+          observers = event_observes starts says w.clusters w.sessions w.begin kept.sessions.nodes proper w.past e run w.table u w.formers w.observing kept.sessions.observers (λ k. refl) (λ q r h. refl)
+              _ (quiet_commits (origin w) w.past u w.running (nodes_commit (origin w) w.past w.table u w.running kept.sessions.committing t same previous) t e refl (λ k. refl)).kept
+              (lets_then (origin w) w.table u u w.past (e ∷ w.past) (λ r. has_written (kept.sessions.committing.writers r)) (same_world (origin w) w.past w.table u w.running kept.sessions.committing t same previous) (nodes_let (origin w) w.past w.table u w.running kept.sessions.committing t same previous)
+              (lets_calm (origin w) u w.past (λ r. has_written (kept.sessions.committing.writers r)) (same_world (origin w) w.past w.table u w.running kept.sessions.committing t same previous) e (λ x. refl) refl));
         };
-        root = root_quiet w.clusters w.past u e refl (root_same w.clusters w.past w.table u same kept.root);
+        root = root_quiet w.clusters w.begin w.past u e refl (root_same w.clusters w.begin w.past w.table u same kept.root);
         settings = attach_set w.sessions w.past w.table kept.settings s i v there;
       }
 
@@ -252,9 +252,9 @@ module _ (starts : Starts) (says : Says) (proper : StartsProper starts) (w : Sta
       let u : Table = after_update w.table (settings_op c) in
       record {
         sessions = with_table starts says proper w kept.sessions e (detached, reads) refl (λ k. refl) (λ r. refl) refl refl (λ q. refl) refl (λ j. refl) refl u
-            (nodes_commit w.past w.table u w.running kept.sessions.committing (told starts says proper w kept.sessions) same previous)
-            (nodes_let w.past w.table u w.running kept.sessions.committing (told starts says proper w kept.sessions) same previous);
-        root = root_quiet w.clusters w.past u e refl (root_same w.clusters w.past w.table u same kept.root);
+            (nodes_commit (origin w) w.past w.table u w.running kept.sessions.committing (told starts says proper w kept.sessions) same previous)
+            (nodes_let (origin w) w.past w.table u w.running kept.sessions.committing (told starts says proper w kept.sessions) same previous);
+        root = root_quiet w.clusters w.begin w.past u e refl (root_same w.clusters w.begin w.past w.table u same kept.root);
         settings = detach_set w.sessions w.past w.table kept.settings s;
       }
 
@@ -266,9 +266,9 @@ module _ (starts : Starts) (says : Says) (proper : StartsProper starts) (w : Sta
       let u : Table = after_update w.table (settings_op c) in
       record {
         sessions = with_table starts says proper w kept.sessions e (login, stays) refl (λ k. refl) (λ r. refl) refl refl (λ q. refl) refl (λ j. refl) refl u
-            (nodes_commit w.past w.table u w.running kept.sessions.committing (told starts says proper w kept.sessions) same previous)
-            (nodes_let w.past w.table u w.running kept.sessions.committing (told starts says proper w kept.sessions) same previous);
-        root = root_quiet w.clusters w.past u e refl (root_same w.clusters w.past w.table u same kept.root);
+            (nodes_commit (origin w) w.past w.table u w.running kept.sessions.committing (told starts says proper w kept.sessions) same previous)
+            (nodes_let (origin w) w.past w.table u w.running kept.sessions.committing (told starts says proper w kept.sessions) same previous);
+        root = root_quiet w.clusters w.begin w.past u e refl (root_same w.clusters w.begin w.past w.table u same kept.root);
         settings = set;
       }
 
@@ -284,7 +284,7 @@ module _ (starts : Starts) (says : Says) (proper : StartsProper starts) (w : Sta
     where
       by : (b : Bool) → is_attached w.past s ≡ b → cond b (reader_pin w.table s) (pin_of (memory_of w s) s) ≡ Some pin → base_of w.past s ≡ Some pin.base
       by true a k =
-          attached_reader starts says w.clusters w.sessions w.past kept.sessions.run s a
+          attached_reader starts says w.clusters w.sessions w.begin w.past kept.sessions.run s a
           ∙ kept.settings.only s pin (sym (ap (λ (o : Option Document). option_and_then (λ d. lookup (is_at (nat_cmp s)) d.readers) o) kept.settings.there) ∙ k)
       by false a k = base_is starts says proper w kept.sessions s alive login stays a ∙ ap (λ (o : Option Pin). Some (option_map_or (λ (p : Pin). p.base) o (memory_of w s).head)) k
 

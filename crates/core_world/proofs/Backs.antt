@@ -18,7 +18,7 @@ use Rattle.oak_doc.specs.Updates.{after_changes, is_met, refusal, updated}
 use Rattle.oak_machine.specs.declared.event.Event.{Event}
 use Rattle.oak_machine.specs.declared.event.Event.TheVariants as event
 use Rattle.oak_machine.specs.declared.event.StepKind.TheVariants as kind
-use Rattle.oak_machine.specs.History.{Past}
+use Rattle.oak_machine.specs.History.{Past, Begin}
 use Rattle.oak_machine.specs.Commits.{is_commit_of}
 use Rattle.oak_machine.specs.Heads.{local, published}
 use Rattle.oak_machine.specs.Laws.{Says, Starts, StartsProper}
@@ -39,7 +39,7 @@ use Rattle.core_clash.specs.Core.{is_quiet}
 use Rattle.core_nodes.proofs.Memories.{own_is}
 use Rattle.core_nodes.proofs.Pins.{leaves_both}
 use Rattle.core_nodes.specs.Nodes.{IsMemoryOf, IsOnRoot, is_of_node, leaves_memory, moved_pin}
-use Rattle.core_world.specs.States.{State, history_in, memory_of, node_of, nodes_in}
+use Rattle.core_world.specs.States.{State, history_in, memory_of, node_of, nodes_in, origin}
 use Rattle.core_world.specs.Steps.{after_back, after_learn, after_learn_swept, after_out, after_pending, after_sweep, after_update, back_op, sweep_op, with_result}
 use Rattle.core_world.specs.Kept.{has_written, AreCommitting, AreSessionsKept, AreLayersKept, IsRootKept, WereOnRoot}
 use Rattle.core_world.proofs.Finishing.{quiet_commits}
@@ -75,19 +75,19 @@ module _ (starts : Starts) (says : Says) (proper : StartsProper starts) (w : Sta
   module _ (e : Event) (may : MayFollow starts says (history_in w) e) (quiet : is_quiet e ≡ true) (on : (k : ℕ) → is_stop_of k e ≡ false) (calm : (r : Revision) → is_commit_of r e ≡ false) (unbound : is_bound e ≡ false) (draws : draws_nothing e ≡ true) (ends : (q : ℕ) → is_end_of_session q e ≡ false) (unbased : moved_base e ≡ None)
       (leaves : (j : ℕ) → leaves_memory j e ≡ true) (unmoved : moved_pin e ≡ None) where
     -- with other documents
-    pub with_table : (u : Table) → AreCommitting w.past u w.running → LetsRead w.table u w.past w.past → AreSessionsKept starts says (record w { past = e ∷ w.past; table = u })
+    pub with_table : (u : Table) → AreCommitting (origin w) w.past u w.running → LetsRead (origin w) w.table u w.past w.past → AreSessionsKept starts says (record w { past = e ∷ w.past; table = u })
     with_table u committing lets = record {
       nodes = kept.nodes;
       run = (may, kept.run);
-      committing = quiet_commits w.past u w.running committing (told starts says proper w kept) e quiet on;
+      committing = quiet_commits (origin w) w.past u w.running committing (told starts says proper w kept) e quiet on;
       working = work_quiet w.sessions w.past w.running w.reading kept.working e draws ends on;
-      memories = aside starts says w.clusters w.sessions kept.nodes w.past w.memories kept.memories e (may, kept.run) leaves (λ j. leaves_both w.sessions j e (leaves j) (ap (λ o. option_map_or (λ n. not (is_of_node w.sessions j n)) o true) unmoved));
-      readers = event_reads w.past w.table w.formers w.reading kept.readers (reader_held starts says proper w kept) e u
-          (lets_then w.table u u w.past (e ∷ w.past) (λ r. has_written (committing.writers r)) committing.kept lets (lets_calm u w.past (λ r. has_written (committing.writers r)) committing.kept e calm unbound))
+      memories = aside starts says w.clusters w.sessions w.begin kept.nodes w.past w.memories kept.memories e (may, kept.run) leaves (λ j. leaves_both w.sessions j e (leaves j) (ap (λ o. option_map_or (λ n. not (is_of_node w.sessions j n)) o true) unmoved));
+      readers = event_reads (origin w) w.past w.table w.formers w.reading kept.readers (reader_held starts says proper w kept) e u
+          (lets_then (origin w) w.table u u w.past (e ∷ w.past) (λ r. has_written (committing.writers r)) committing.kept lets (lets_calm (origin w) u w.past (λ r. has_written (committing.writers r)) committing.kept e calm unbound))
           (λ q r h. ap (λ o. option_map_or (λ n. n == q) o false) unbased);
-      observers = event_observes starts says w.clusters w.sessions kept.nodes proper w.past e (may, kept.run) w.table u w.formers w.observing kept.observers on (λ q r h. moves_none e unmoved q)
-          _ (quiet_commits w.past u w.running committing (told starts says proper w kept) e quiet on).kept
-          (lets_then w.table u u w.past (e ∷ w.past) (λ r. has_written (committing.writers r)) committing.kept lets (lets_calm u w.past (λ r. has_written (committing.writers r)) committing.kept e calm unbound));
+      observers = event_observes starts says w.clusters w.sessions w.begin kept.nodes proper w.past e (may, kept.run) w.table u w.formers w.observing kept.observers on (λ q r h. moves_none e unmoved q)
+          _ (quiet_commits (origin w) w.past u w.running committing (told starts says proper w kept) e quiet on).kept
+          (lets_then (origin w) w.table u u w.past (e ∷ w.past) (λ r. has_written (committing.writers r)) committing.kept lets (lets_calm (origin w) u w.past (λ r. has_written (committing.writers r)) committing.kept e calm unbound));
     }
 
     -- an update that raises the vectors of a document, where it is there
@@ -97,11 +97,11 @@ module _ (starts : Starts) (says : Says) (proper : StartsProper starts) (w : Sta
       where
         by : (o : Option Document) → found w.table (id.Node p) ≡ o → AreSessionsKept starts says (record w { past = e ∷ w.past; table = after_update w.table op })
         by None there = subst (λ (u : Table). AreSessionsKept starts says (record w { past = e ∷ w.past; table = u })) (sym (update_is w.table (id.Node p) op at create met ∙ ap (done_at w.table (id.Node p) op) there))
-            (with_table w.table kept.committing (lets_still w.table w.past))
+            (with_table w.table kept.committing (lets_still (origin w) w.table w.past))
         by (Some d) there = subst (λ (u : Table). AreSessionsKept starts says (record w { past = e ∷ w.past; table = u })) (sym (update_is w.table (id.Node p) op at create met ∙ (ap (done_at w.table (id.Node p) op) there ∙ ap (λ (x : Document). with_document w.table (id.Node p) x (next_number w.table)) (is d (next_number w.table)))))
             (with_table (with_document w.table (id.Node p) (revectored d (l d) (v d) (next_number w.table)) (next_number w.table))
-            (vectors_commit w.past w.table w.running kept.committing (told starts says proper w kept) p d there op at all (l d) (v d) (is d (next_number w.table)))
-            (vectors_let w.past w.table w.running kept.committing (told starts says proper w kept) p d there op at all (l d) (v d) (is d (next_number w.table))))
+            (vectors_commit (origin w) w.past w.table w.running kept.committing (told starts says proper w kept) p d there op at all (l d) (v d) (is d (next_number w.table)))
+            (vectors_let (origin w) w.past w.table w.running kept.committing (told starts says proper w kept) p d there op at all (l d) (v d) (is d (next_number w.table))))
 
   -- ---- each step
 
@@ -115,52 +115,52 @@ module _ (starts : Starts) (says : Says) (proper : StartsProper starts) (w : Sta
     pub back_sessions : has_left w.past s ≡ false → (p : Path) (r : Revision) → AreSessionsKept starts says (after_back w s p r)
     back_sessions stays p r = with_vectors (event.Went s kind.Back) (login, stays) refl (λ k. refl) (λ q. refl) refl refl (λ q. refl) refl (λ j. refl) refl p (back_op p r) refl refl refl refl (λ d. raised d.last_rev r) (λ d. d.sweep_rev) (λ d n. refl)
 
-    pub out_sessions : (r : Revision) → r.cluster ≡ node_of w s → is_at_most r (local None w.past (node_of w s)) ≡ true → AreSessionsKept starts says (after_out w s r)
+    pub out_sessions : (r : Revision) → r.cluster ≡ node_of w s → is_at_most r (local w.begin w.past (node_of w s)) ≡ true → AreSessionsKept starts says (after_out w s r)
     out_sessions r of low = with_vectors (event.Out (node_of w s) r) (of, low) refl (λ k. refl) (λ q. refl) refl refl (λ q. refl) refl (λ j. refl) refl [] (back_op [] r) refl refl refl refl (λ d. raised d.last_rev r) (λ d. d.sweep_rev) (λ d n. refl)
 
-    pub sweep_sessions : (r : Revision) → r.cluster ≡ node_of w s → is_at_most r (published None w.past (node_of w s)) ≡ true → AreSessionsKept starts says (after_sweep w s r)
+    pub sweep_sessions : (r : Revision) → r.cluster ≡ node_of w s → is_at_most r (published w.begin w.past (node_of w s)) ≡ true → AreSessionsKept starts says (after_sweep w s r)
     sweep_sessions r of low = with_vectors (event.Sweep (node_of w s) r) (of, low) refl (λ k. refl) (λ q. refl) refl refl (λ q. refl) refl (λ j. refl) refl [] (sweep_op r) refl refl refl refl (λ d. d.last_rev) (λ d. raised d.sweep_rev r) (λ d n. refl)
 
-    pub learn_sessions : is_stopped_under w.sessions w.past s ≡ false → (n : ℕ) (last sweep : RevVec) → IsOnRoot None w.clusters (drop n w.past) last sweep → AreSessionsKept starts says (after_learn w s last sweep)
+    pub learn_sessions : is_stopped_under w.sessions w.past s ≡ false → (n : ℕ) (last sweep : RevVec) → IsOnRoot w.begin w.clusters (drop n w.past) last sweep → AreSessionsKept starts says (after_learn w s last sweep)
     learn_sessions on n last sweep root =
         let e : Event = event.In (node_of w s) (learned (memory_of w s) last sweep).head in
-        let learns = learn_memories starts says w.clusters w.sessions kept.nodes w.past w.memories kept.memories (node_of w s) node (node_goes starts says proper w kept s there on) n last sweep root kept.run in
+        let learns = learn_memories starts says w.clusters w.sessions w.begin kept.nodes w.past w.memories kept.memories (node_of w s) node (node_goes starts says proper w kept s there on) n last sweep root kept.run in
         record {
           nodes = kept.nodes;
           run = learns.0;
-          committing = quiet_commits w.past w.table w.running kept.committing (told starts says proper w kept) e refl (λ k. refl);
+          committing = quiet_commits (origin w) w.past w.table w.running kept.committing (told starts says proper w kept) e refl (λ k. refl);
           working = work_quiet w.sessions w.past w.running w.reading kept.working e refl (λ q. refl) (λ k. refl);
           memories = learns.1;
           readers = reads_calm starts says proper w kept e (λ q. refl) refl (λ q r h. refl);
-          observers = observes_calm starts says proper w kept e learns.0 (λ k. refl) (λ q. refl) refl (λ q r h. refl) w.running (quiet_commits w.past w.table w.running kept.committing (told starts says proper w kept) e refl (λ k. refl));
+          observers = observes_calm starts says proper w kept e learns.0 (λ k. refl) (λ q. refl) refl (λ q r h. refl) w.running (quiet_commits (origin w) w.past w.table w.running kept.committing (told starts says proper w kept) e refl (λ k. refl));
         }
 
     pub pending_sessions : has_left w.past s ≡ false → AreSessionsKept starts says (after_pending w s)
     pending_sessions stays =
         let e : Event = event.Went s kind.Back in
-        let run : IsRunOf starts says w.clusters w.sessions None (e ∷ w.past) = ((login, stays), kept.run) in
+        let run : IsRunOf starts says w.clusters w.sessions w.begin (e ∷ w.past) = ((login, stays), kept.run) in
         record {
           nodes = kept.nodes;
           run = run;
-          committing = quiet_commits w.past w.table w.running kept.committing (told starts says proper w kept) e refl (λ k. refl);
+          committing = quiet_commits (origin w) w.past w.table w.running kept.committing (told starts says proper w kept) e refl (λ k. refl);
           working = work_quiet w.sessions w.past w.running w.reading kept.working e refl (λ q. refl) (λ k. refl);
-          memories = pending_memories starts says w.clusters w.sessions kept.nodes w.past w.memories kept.memories s (node_of w s) node run;
+          memories = pending_memories starts says w.clusters w.sessions w.begin kept.nodes w.past w.memories kept.memories s (node_of w s) node run;
           readers = reads_calm starts says proper w kept e (λ q. refl) refl (λ q r h. refl);
-          observers = observes_calm starts says proper w kept e run (λ k. refl) (λ q. refl) refl (λ q r h. refl) w.running (quiet_commits w.past w.table w.running kept.committing (told starts says proper w kept) e refl (λ k. refl));
+          observers = observes_calm starts says proper w kept e run (λ k. refl) (λ q. refl) refl (λ q r h. refl) w.running (quiet_commits (origin w) w.past w.table w.running kept.committing (told starts says proper w kept) e refl (λ k. refl));
         }
 
-    pub learn_swept_sessions : has_left w.past s ≡ false → (r : Revision) → r.cluster ≡ node_of w s → is_at_most r (local None w.past (node_of w s)) ≡ true → AreSessionsKept starts says (after_learn_swept w s r)
+    pub learn_swept_sessions : has_left w.past s ≡ false → (r : Revision) → r.cluster ≡ node_of w s → is_at_most r (local w.begin w.past (node_of w s)) ≡ true → AreSessionsKept starts says (after_learn_swept w s r)
     learn_swept_sessions stays r of low =
         let e : Event = event.Went s kind.Learn in
-        let run : IsRunOf starts says w.clusters w.sessions None (e ∷ w.past) = ((login, stays), kept.run) in
+        let run : IsRunOf starts says w.clusters w.sessions w.begin (e ∷ w.past) = ((login, stays), kept.run) in
         record {
           nodes = kept.nodes;
           run = run;
-          committing = quiet_commits w.past w.table w.running kept.committing (told starts says proper w kept) e refl (λ k. refl);
+          committing = quiet_commits (origin w) w.past w.table w.running kept.committing (told starts says proper w kept) e refl (λ k. refl);
           working = work_quiet w.sessions w.past w.running w.reading kept.working e refl (λ q. refl) (λ k. refl);
-          memories = swept_memories starts says w.clusters w.sessions kept.nodes w.past w.memories kept.memories s (node_of w s) node r of low run;
+          memories = swept_memories starts says w.clusters w.sessions w.begin kept.nodes w.past w.memories kept.memories s (node_of w s) node r of low run;
           readers = reads_calm starts says proper w kept e (λ q. refl) refl (λ q r h. refl);
-          observers = observes_calm starts says proper w kept e run (λ k. refl) (λ q. refl) refl (λ q r h. refl) w.running (quiet_commits w.past w.table w.running kept.committing (told starts says proper w kept) e refl (λ k. refl));
+          observers = observes_calm starts says proper w kept e run (λ k. refl) (λ q. refl) refl (λ q r h. refl) w.running (quiet_commits (origin w) w.past w.table w.running kept.committing (told starts says proper w kept) e refl (λ k. refl));
         }
 
 -- ---- with the root
@@ -172,63 +172,63 @@ module _ (starts : Starts) (says : Says) (proper : StartsProper starts) (w : Sta
   pub back_keeps : has_left w.past s ≡ false → (p : Path) (r : Revision) → eq_by_cmp path_cmp [] p ≡ false → AreLayersKept starts says (after_back w s p r)
   back_keeps stays p r other = record {
     sessions = back_sessions starts says proper w kept.sessions s login stays p r;
-    root = root_quiet w.clusters w.past (after_update w.table (back_op p r)) (event.Went s kind.Back) refl (update_elsewhere w.clusters w.past w.table kept.root p (back_op p r) refl other);
+    root = root_quiet w.clusters w.begin w.past (after_update w.table (back_op p r)) (event.Went s kind.Back) refl (update_elsewhere w.clusters w.begin w.past w.table kept.root p (back_op p r) refl other);
     settings = settings_quiet w.sessions w.past w.table (after_update w.table (back_op p r)) (event.Went s kind.Back) refl (update_apart w.table p (back_op p r) refl) kept.settings;
   }
 
-  pub out_keeps : (r : Revision) → r.cluster ≡ node_of w s → is_at_most r (local None w.past (node_of w s)) ≡ true → AreLayersKept starts says (after_out w s r)
+  pub out_keeps : (r : Revision) → r.cluster ≡ node_of w s → is_at_most r (local w.begin w.past (node_of w s)) ≡ true → AreLayersKept starts says (after_out w s r)
   out_keeps r of low = record {
     sessions = out_sessions starts says proper w kept.sessions s login r of low;
     root = record {
       document = revectored kept.root.document (raised kept.root.document.last_rev r) kept.root.document.sweep_rev (next_number w.table);
       there = told_root w.table kept.root.document (back_op [] r) refl refl refl kept.root.there;
-      tells = root_out w.clusters kept.sessions.nodes.eight w.past kept.root.document.last_rev kept.root.document.sweep_rev kept.root.tells (node_of w s) on r of;
+      tells = root_out w.clusters w.begin kept.sessions.nodes.eight w.past kept.root.document.last_rev kept.root.document.sweep_rev kept.root.tells (node_of w s) on r of;
       begun = kept.root.begun;
     };
     settings = settings_quiet w.sessions w.past w.table (after_update w.table (back_op [] r)) (event.Out (node_of w s) r) refl (update_apart w.table [] (back_op [] r) refl) kept.settings;
   }
 
-  pub sweep_keeps : (r : Revision) → r.cluster ≡ node_of w s → is_at_most r (published None w.past (node_of w s)) ≡ true → AreLayersKept starts says (after_sweep w s r)
+  pub sweep_keeps : (r : Revision) → r.cluster ≡ node_of w s → is_at_most r (published w.begin w.past (node_of w s)) ≡ true → AreLayersKept starts says (after_sweep w s r)
   sweep_keeps r of low = record {
     sessions = sweep_sessions starts says proper w kept.sessions s login r of low;
-    root = root_quiet w.clusters w.past (after_update w.table (sweep_op r)) (event.Sweep (node_of w s) r) refl (record {
+    root = root_quiet w.clusters w.begin w.past (after_update w.table (sweep_op r)) (event.Sweep (node_of w s) r) refl (record {
       document = revectored kept.root.document kept.root.document.last_rev (raised kept.root.document.sweep_rev r) (next_number w.table);
       there = told_root w.table kept.root.document (sweep_op r) refl refl refl kept.root.there;
-      tells = root_swept w.clusters kept.sessions.nodes.eight w.past kept.root.document.last_rev kept.root.document.sweep_rev kept.root.tells (node_of w s) on r of low;
-      begun = starts_raised w.clusters kept.root.document.sweep_rev r kept.root.begun;
+      tells = root_swept w.clusters w.begin kept.sessions.nodes.eight w.past kept.root.document.last_rev kept.root.document.sweep_rev kept.root.tells (node_of w s) on r of low;
+      begun = starts_raised w.clusters w.begin kept.root.document.sweep_rev r kept.root.begun;
     });
     settings = settings_quiet w.sessions w.past w.table (after_update w.table (sweep_op r)) (event.Sweep (node_of w s) r) refl (update_apart w.table [] (sweep_op r) refl) kept.settings;
   }
 
-  pub learn_keeps : is_stopped_under w.sessions w.past s ≡ false → (last sweep : RevVec) → WereOnRoot w.clusters w.past last sweep → AreLayersKept starts says (after_learn w s last sweep)
+  pub learn_keeps : is_stopped_under w.sessions w.past s ≡ false → (last sweep : RevVec) → WereOnRoot w.begin w.clusters w.past last sweep → AreLayersKept starts says (after_learn w s last sweep)
   learn_keeps running last sweep were = record {
     sessions = learn_sessions starts says proper w kept.sessions s login running were.0 last sweep were.1;
-    root = root_quiet w.clusters w.past w.table (event.In (node_of w s) (learned (memory_of w s) last sweep).head) refl kept.root;
+    root = root_quiet w.clusters w.begin w.past w.table (event.In (node_of w s) (learned (memory_of w s) last sweep).head) refl kept.root;
     settings = settings_quiet w.sessions w.past w.table w.table (event.In (node_of w s) (learned (memory_of w s) last sweep).head) refl refl kept.settings;
   }
 
   pub pending_keeps : has_left w.past s ≡ false → AreLayersKept starts says (after_pending w s)
   pending_keeps stays = record {
     sessions = pending_sessions starts says proper w kept.sessions s login stays;
-    root = root_quiet w.clusters w.past w.table (event.Went s kind.Back) refl kept.root;
+    root = root_quiet w.clusters w.begin w.past w.table (event.Went s kind.Back) refl kept.root;
     settings = settings_quiet w.sessions w.past w.table w.table (event.Went s kind.Back) refl refl kept.settings;
   }
 
-  pub learn_swept_keeps : has_left w.past s ≡ false → (r : Revision) → r.cluster ≡ node_of w s → is_at_most r (local None w.past (node_of w s)) ≡ true → AreLayersKept starts says (after_learn_swept w s r)
+  pub learn_swept_keeps : has_left w.past s ≡ false → (r : Revision) → r.cluster ≡ node_of w s → is_at_most r (local w.begin w.past (node_of w s)) ≡ true → AreLayersKept starts says (after_learn_swept w s r)
   learn_swept_keeps stays r of low = record {
     sessions = learn_swept_sessions starts says proper w kept.sessions s login stays r of low;
-    root = root_quiet w.clusters w.past w.table (event.Went s kind.Learn) refl kept.root;
+    root = root_quiet w.clusters w.begin w.past w.table (event.Went s kind.Learn) refl kept.root;
     settings = settings_quiet w.sessions w.past w.table w.table (event.Went s kind.Learn) refl refl kept.settings;
   }
 
-  pub own_entry_is : own_entry (memory_of w s) ≡ local None w.past (node_of w s)
-  own_entry_is = own_is None w.clusters w.sessions kept.sessions.nodes w.past (sound_run w.clusters w.sessions kept.sessions.nodes None starts says w.past kept.sessions.run) (node_of w s) on (memory_of w s) (kept.sessions.memories.memory (node_of w s) on)
+  pub own_entry_is : own_entry (memory_of w s) ≡ local w.begin w.past (node_of w s)
+  own_entry_is = own_is w.begin w.clusters w.sessions kept.sessions.nodes w.past (sound_run w.clusters w.sessions kept.sessions.nodes w.begin starts says w.past kept.sessions.run) (node_of w s) on (memory_of w s) (kept.sessions.memories.memory (node_of w s) on)
 
   -- what was public when the root was read, the head sees once it is learned
-  pub heard : (last sweep : RevVec) → WereOnRoot w.clusters w.past last sweep → (r : Revision) → sees last r ≡ true → sees (learned (memory_of w s) last sweep).head r ≡ true
+  pub heard : (last sweep : RevVec) → WereOnRoot w.begin w.clusters w.past last sweep → (r : Revision) → sees last r ≡ true → sees (learned (memory_of w s) last sweep).head r ≡ true
   heard last sweep were r h = still_seen (greatest (memory_of w s).head last) (own_entry (memory_of w s)) r low (right_seen (memory_of w s).head last r h) at_own
     where
-      is : IsMemoryOf None w.clusters w.past (node_of w s) (memory_of w s)
+      is : IsMemoryOf w.begin w.clusters w.past (node_of w s) (memory_of w s)
       is = kept.sessions.memories.memory (node_of w s) on
 
       own_cluster : (own_entry (memory_of w s)).cluster ≡ node_of w s
@@ -237,15 +237,15 @@ module _ (starts : Starts) (says : Says) (proper : StartsProper starts) (w : Sta
       low : 1 ≤ (own_entry (memory_of w s)).cluster
       low = subst (λ (j : ℕ). 1 ≤ j) (sym own_cluster) on.0
 
-      public : Public w.clusters None w.past r
-      public = (moments_run w.clusters w.sessions kept.sessions.nodes None starts says w.past kept.sessions.run were.0).public r ((were.1.public r).0 h)
+      public : Public w.clusters w.begin w.past r
+      public = (moments_run w.clusters w.sessions kept.sessions.nodes w.begin starts says w.past kept.sessions.run were.0).public r ((were.1.public r).0 h)
 
       at_own : r.cluster ≡ (own_entry (memory_of w s)).cluster → is_at_most r (own_entry (memory_of w s)) ≡ true
       at_own same = subst (λ (e : Revision). is_at_most r e ≡ true) (sym own_entry_is)
-          (at_most_trans r (published None w.past (node_of w s)) (local None w.past (node_of w s))
-          (subst (λ (j : ℕ). is_at_most r (published None w.past j) ≡ true) (same ∙ own_cluster) public.1)
-          (published_is w.clusters w.sessions kept.sessions.nodes None w.past (sound_run w.clusters w.sessions kept.sessions.nodes None starts says w.past kept.sessions.run) (node_of w s)).1)
+          (at_most_trans r (published w.begin w.past (node_of w s)) (local w.begin w.past (node_of w s))
+          (subst (λ (j : ℕ). is_at_most r (published w.begin w.past j) ≡ true) (same ∙ own_cluster) public.1)
+          (published_is w.clusters w.sessions kept.sessions.nodes w.begin w.past (sound_run w.clusters w.sessions kept.sessions.nodes w.begin starts says w.past kept.sessions.run) (node_of w s)).1)
 
 -- what is read of the root now
-pub told_now : (clusters : ℕ) (past : Past) (t : Table) → IsRootKept clusters past t → (d : Document) → nodes_in t [] ≡ Some d → IsOnRoot None clusters past d.last_rev d.sweep_rev
-told_now clusters past t root d there = subst (λ (e : Document). IsOnRoot None clusters past e.last_rev e.sweep_rev) (ap (λ (o : Option Document). option_map_or (λ e. e) o d) (sym root.there ∙ there)) root.tells
+pub told_now : (clusters : ℕ) (begin : Begin) (past : Past) (t : Table) → IsRootKept begin clusters past t → (d : Document) → nodes_in t [] ≡ Some d → IsOnRoot begin clusters past d.last_rev d.sweep_rev
+told_now clusters begin past t root d there = subst (λ (e : Document). IsOnRoot begin clusters past e.last_rev e.sweep_rev) (ap (λ (o : Option Document). option_map_or (λ e. e) o d) (sym root.there ∙ there)) root.tells

@@ -1,7 +1,5 @@
 -- A bound that is at most what is held sees nothing in flight, and no more than the bases of what is.
 use Rattle.core_nodes.proofs.Recovering.{flier_alive}
-use Rattle.core_keep.specs.Journal.{IsUsed}
-use Rattle.core_keep.proofs.Events.{kept_bound}
 use Rattle.oak_read.specs.Meaning.{documents_in}
 use Rattle.std.proofs.Common.{◌≡◌, ◌⊎◌, inl, inr, ℕ, Bool, true, false, cond, not, ◌&&◌, ◌||◌, Some, None, Option, List, [], ◌∷◌, refl, sym, ap, ◌∙◌, subst, is_some}
 use Rattle.std.specs.Prelude.{◌==◌}
@@ -16,7 +14,7 @@ use Rattle.jr_rev.specs.Revisions.{is_same}
 use Rattle.jr_rev.specs.Vectors.{is_below, sees}
 use Rattle.oak_machine.specs.declared.event.Draw.{Draw}
 use Rattle.oak_machine.specs.declared.event.Event.TheVariants as event
-use Rattle.oak_machine.specs.History.{Past}
+use Rattle.oak_machine.specs.History.{Past, Begin}
 use Rattle.oak_machine.specs.Commits.{draw_of, is_ended, is_in_base, is_in_flight}
 use Rattle.oak_machine.specs.Laws.{Says, Starts, StartsProper}
 use Rattle.oak_machine.specs.Runs.{IsNode, IsRunOf, MayBound}
@@ -39,6 +37,9 @@ use Rattle.core_world.proofs.Held.{found_in, takes_part}
 use Rattle.core_world.proofs.Lives.{its_node, session_there}
 use Rattle.core_world.proofs.Logged.{drawn_by}
 use Rattle.core_world.proofs.Readers.{detached_base}
+use Rattle.oak_machine.specs.declared.event.Start.{Start}
+use Rattle.core_begun.proofs.Events.{kept_bound}
+use Rattle.core_begun.specs.Kept.{IsUsedSince}
 
 -- what is in flight was drawn
 drawn_in : (past : Past) (r : Revision) → is_in_flight past r ≡ true → (d : Draw) × (draw_of past r ≡ Some d)
@@ -56,9 +57,9 @@ not_ended past r h = by (is_some (draw_of past r)) (is_ended past r) h
     by true true k = absurd (false≢true k)
     by false b k = absurd (false≢true k)
 
-module _ (starts : Starts) (says : Says) (clusters : ℕ) (sessions : List ℕ) where
+module _ (starts : Starts) (says : Says) (clusters : ℕ) (sessions : List ℕ) (begin : Begin) where
   -- the base of what is in flight is the vector at which its session was pinned last
-  pub flying_pinned : (past : Past) (r : Revision) (d : Draw) → IsRunOf starts says clusters sessions None past → draw_of past r ≡ Some d → is_ended past r ≡ false → pinned_at past d.session ≡ Some d.base
+  pub flying_pinned : (past : Past) (r : Revision) (d : Draw) → IsRunOf starts says clusters sessions begin past → draw_of past r ≡ Some d → is_ended past r ≡ false → pinned_at past d.session ≡ Some d.base
   flying_pinned [] r d run h unended = absurd (false≢true (ap (λ (o : Option Draw). is_some o) h))
   flying_pinned (event.Draw e ∷ past) r d run h unended = by (λ k. flying_pinned past r d run.1 k unended) (is_same r e.revision) h
     where
@@ -71,7 +72,7 @@ module _ (starts : Starts) (says : Says) (clusters : ℕ) (sessions : List ℕ) 
   flying_pinned (event.Login t v ∷ past) r d run h unended = by (flying_pinned past r d run.1 h unended) (t == d.session) refl
     where
       by : pinned_at past d.session ≡ Some d.base → (b : Bool) → (t == d.session) ≡ b → cond b (Some v) (pinned_at past d.session) ≡ Some d.base
-      by rest true e = absurd (false≢true (sym (subst (λ (n : ℕ). has_login past n ≡ false) (same_number t d.session e) run.0.first) ∙ (drawn_by starts says clusters sessions past r d run.1 h).login))
+      by rest true e = absurd (false≢true (sym (subst (λ (n : ℕ). has_login past n ≡ false) (same_number t d.session e) run.0.first) ∙ (drawn_by starts says clusters sessions begin past r d run.1 h).login))
       by rest false e = rest
   flying_pinned (event.Refresh t v ∷ past) r d run h unended = by (flying_pinned past r d run.1 h unended) (t == d.session) refl
     where
@@ -101,13 +102,13 @@ module _ (starts : Starts) (says : Says) (proper : StartsProper starts) (w : Sta
   -- the node of a session with a draw in flight wasn't recovered
   alive : (r : Revision) → is_in_flight w.past r ≡ true → (d : Draw) → draw_of w.past r ≡ Some d → is_recovered w.past (node_of w d.session) ≡ false
   alive r flies d drawn =
-      let by = drawn_by starts says w.clusters w.sessions w.past r d kept.sessions.run drawn in
-      ap (is_recovered w.past) (ap (λ o. unwrap_or o 0) by.node ∙ ap (λ (x : Revision). x.cluster) by.named) ∙ flier_alive None starts says w.clusters w.sessions kept.sessions.nodes w.past kept.sessions.run r flies
+      let by = drawn_by starts says w.clusters w.sessions w.begin w.past r d kept.sessions.run drawn in
+      ap (is_recovered w.past) (ap (λ o. unwrap_or o 0) by.node ∙ ap (λ (x : Revision). x.cluster) by.named) ∙ flier_alive w.begin starts says w.clusters w.sessions kept.sessions.nodes w.past kept.sessions.run r flies
 
   base_sees_bound : (r o : Revision) → is_in_flight w.past r ≡ true → sees m o ≡ true → is_in_base w.past r o ≡ true
   base_sees_bound r o flies seen =
       let d = drawn_in w.past r flies in
-      let by = drawn_by starts says w.clusters w.sessions w.past r d.0 kept.sessions.run d.1 in
+      let by = drawn_by starts says w.clusters w.sessions w.begin w.past r d.0 kept.sessions.run d.1 in
       let unended = not_ended w.past r flies in
       let there = session_there starts says proper w kept.sessions (d.0).session by.login in
       let node = its_node starts says proper w kept.sessions (d.0).session there in
@@ -124,7 +125,7 @@ module _ (starts : Starts) (says : Says) (proper : StartsProper starts) (w : Sta
       base_of_pin d drawn unended goes login pin = value _ _
           (sym (ap (λ (x : Option Pin). Some (option_map_or (λ (p : Pin). p.base) x (memory_of w d.session).head)) pin.1)
           ∙ (sym (pinned_is starts says proper w kept.sessions d.session goes login (stays d.session (drawing w.past r d unended w.past drawn)))
-          ∙ flying_pinned starts says w.clusters w.sessions w.past r d kept.sessions.run drawn unended))
+          ∙ flying_pinned starts says w.clusters w.sessions w.begin w.past r d kept.sessions.run drawn unended))
 
   pub may_bound_core : MayBoundBases w.past m t
   may_bound_core = record {
@@ -136,21 +137,21 @@ module _ (starts : Starts) (says : Says) (proper : StartsProper starts) (w : Sta
       node : (o : Revision) → is_in_flight w.past o ≡ true → IsNode w.clusters o.cluster
       node o flies =
           let d = drawn_in w.past o flies in
-          let by = drawn_by starts says w.clusters w.sessions w.past o d.0 kept.sessions.run d.1 in
+          let by = drawn_by starts says w.clusters w.sessions w.begin w.past o d.0 kept.sessions.run d.1 in
           subst (λ (x : Revision). IsNode w.clusters x.cluster) by.named (kept.sessions.nodes.node (d.0).session (d.0).revision.cluster by.node)
 
       unseen : (o : Revision) (b : Bool) → sees m o ≡ b → (is_in_flight w.past o ≡ true) ⊎ ⊥ → b ≡ false
       unseen o false e flies = refl
-      unseen o true e (inl flies) = absurd ((bound_run w.clusters w.sessions kept.sessions.nodes None starts says w.past m t (may, kept.sessions.run) o.cluster (node o flies) (flier_alive None starts says w.clusters w.sessions kept.sessions.nodes w.past kept.sessions.run o flies) o (inl flies)).0 e)
+      unseen o true e (inl flies) = absurd ((bound_run w.clusters w.sessions kept.sessions.nodes w.begin starts says w.past m t (may, kept.sessions.run) o.cluster (node o flies) (flier_alive w.begin starts says w.clusters w.sessions kept.sessions.nodes w.past kept.sessions.run o flies) o (inl flies)).0 e)
       unseen o true e (inr n) = absurd n
 
-pub bound_commits : (past : Past) (t : Table) (running : ℕ → Option Running) (a : AreCommitting past t running) → (m s : RevVec) → MayBoundBases past m s → IsUsed past (sees m) → AreCommitting (event.Bound m s ∷ past) t running
-bound_commits past t running a m s may used = record {
+pub bound_commits : (start : Start) (past : Past) (t : Table) (running : ℕ → Option Running) (a : AreCommitting start past t running) → (m s : RevVec) → MayBoundBases past m s → IsUsedSince past (sees m) → AreCommitting start (event.Bound m s ∷ past) t running
+bound_commits start past t running a m s may used = record {
   writers = a.writers;
-  sound = bound_keeps (core_in past t a.writers) m s a.sound may;
+  sound = bound_keeps (core_in start past t a.writers) m s a.sound may;
   theirs = λ q y h. let i = a.theirs q y h in record { session = i.session; draw = i.draw; unended = i.unended; committed = i.committed; writer = i.writer };
   listed = a.listed;
-  kept = kept_bound (documents_in t.documents) past (λ r. has_written (a.writers r)) a.kept m s used (λ o f. unseen o (sees s o) refl f);
+  kept = kept_bound start (documents_in t.documents) past (λ r. has_written (a.writers r)) a.kept m s used (λ o f. unseen o (sees s o) refl f);
   unstopped = a.unstopped;
 }
   where

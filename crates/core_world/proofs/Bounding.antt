@@ -14,7 +14,7 @@ use Rattle.jr_rev.proofs.Bounds.{below_along, below_itself, below_seen, least_le
 use Rattle.oak_doc.specs.declared.document.Document.{Document}
 use Rattle.oak_read.specs.Meaning.{documents_in}
 use Rattle.oak_machine.specs.declared.event.Draw.{Draw}
-use Rattle.oak_machine.specs.History.{Past}
+use Rattle.oak_machine.specs.History.{Past, Begin}
 use Rattle.oak_machine.specs.Commits.{draw_of}
 use Rattle.oak_machine.specs.Laws.{Says, Starts, StartsProper}
 use Rattle.oak_machine.specs.Runs.{AreNodes, IsNode, IsRunOf}
@@ -27,7 +27,6 @@ use Rattle.core_keep.specs.Bounds.{kept_pairs, lesser_pair, root_pair}
 use Rattle.core_keep.specs.Holding.{IsHoldingStep, IsPairBelow}
 use Rattle.core_nodes.specs.Nodes.{IsPair}
 use Rattle.oak_node.specs.Memory.{begun}
-use Rattle.core_read.specs.Holds.{IsClosedSight}
 use Rattle.core_read.specs.Told.{IsIn}
 use Rattle.core_world.specs.Bounding.{CanAllBound, CanBound, fed_node, fed_settings, IsBounding}
 use Rattle.core_world.specs.Held.{holding_in, is_node_in, MayTakeBound}
@@ -35,6 +34,7 @@ use Rattle.core_world.specs.Kept.{AreLayersKept, SeesStarts}
 use Rattle.core_world.specs.Start.{start_settings, start_state, start_table}
 use Rattle.core_world.specs.States.{State, memory_at, nodes_in}
 use Rattle.core_world.proofs.Held.{head_is, node_in, pins_alive, takes_part}
+use Rattle.core_begun.specs.Told.{IsClosedSince}
 
 -- ---- pairs
 
@@ -45,8 +45,8 @@ least_sees : (v w : RevVec) (r : Revision) → sees (least v w) r ≡ true → (
 least_sees v w r h = (below_seen (least v w) v r (least_left v w) h, below_seen (least v w) w r (least_right v w) h)
 
 -- the lesser of two that can bound can
-lesser_can : (clusters : ℕ) (past : Past) (x y : Pin) → CanBound clusters past x → CanBound clusters past y → CanBound clusters past (lesser_pair x y)
-lesser_can clusters past x y a b = record {
+lesser_can : (clusters : ℕ) (begin : Begin) (past : Past) (x y : Pin) → CanBound begin clusters past x → CanBound begin clusters past y → CanBound begin clusters past (lesser_pair x y)
+lesser_can clusters begin past x y a b = record {
   good = record {
     behind = λ o ahead seen. a.good.behind o ahead (least_sees x.base y.base o seen).0;
     closed = λ o d drawn seen q h. let s = least_sees x.base y.base o seen in least_seen x.base y.base q (a.good.closed o d drawn s.0 q h) (b.good.closed o d drawn s.1 q h);
@@ -55,9 +55,9 @@ lesser_can clusters past x y a b = record {
   begun = λ k node. least_seen x.sweep y.sweep (start_of k) (a.begun k node) (b.begun k node);
 }
 
-fold_can : (clusters : ℕ) (past : Past) (x : Pin) (ys : List Pin) → CanBound clusters past x → ((y : Pin) → IsIn y ys → CanBound clusters past y) → CanBound clusters past (fold lesser_pair x ys)
-fold_can clusters past x [] a each = a
-fold_can clusters past x (y ∷ ys) a each = fold_can clusters past (lesser_pair x y) ys (lesser_can clusters past x y a (each y (inl refl))) (λ z i. each z (inr i))
+fold_can : (clusters : ℕ) (begin : Begin) (past : Past) (x : Pin) (ys : List Pin) → CanBound begin clusters past x → ((y : Pin) → IsIn y ys → CanBound begin clusters past y) → CanBound begin clusters past (fold lesser_pair x ys)
+fold_can clusters begin past x [] a each = a
+fold_can clusters begin past x (y ∷ ys) a each = fold_can clusters begin past (lesser_pair x y) ys (lesser_can clusters begin past x y a (each y (inl refl))) (λ z i. each z (inr i))
 
 fold_below : (x : Pin) (ys : List Pin) → IsPairBelow (fold lesser_pair x ys) x
 fold_below x [] = (below_itself x.base, below_itself x.sweep)
@@ -69,8 +69,8 @@ fold_each x (z ∷ ys) y (inl one) = subst (λ (u : Pin). IsPairBelow (fold less
 fold_each x (z ∷ ys) y (inr i) = fold_each (lesser_pair x z) ys y i
 
 -- a good vector is closed
-closed_by : (past : Past) (v : RevVec) → IsGood None past (Seen v) → IsClosedSight past (sees v)
-closed_by past v good o us e s q b = close o q s (draw_of past o) refl b
+closed_by : (begin : Begin) (past : Past) (v : RevVec) → IsGood begin past (Seen v) → IsClosedSince past (sees v)
+closed_by begin past v good o us e s q b = close o q s (draw_of past o) refl b
   where
     close : (o x : Revision) → sees v o ≡ true → (f : Option Draw) → draw_of past o ≡ f → Rattle.std.specs.Option.option_map_or (λ (g : Draw). sees g.base x) (draw_of past o) false ≡ true → sees v x ≡ true
     close o x s None e b = absurd (false≢true (sym (ap (λ (f : Option Draw). Rattle.std.specs.Option.option_map_or (λ (g : Draw). sees g.base x) f false) e) ∙ b))
@@ -78,12 +78,12 @@ closed_by past v good o us e s q b = close o q s (draw_of past o) refl b
 
 -- ---- the run goes on
 
-module _ (starts : Starts) (says : Says) (clusters : ℕ) (sessions : List ℕ) (nodes : AreNodes clusters sessions) where
-  good_stays : (added past : Past) → IsRunOf starts says clusters sessions None (added ++ past) → (v : RevVec) → IsGood None past (Seen v) → IsGood None (added ++ past) (Seen v)
+module _ (starts : Starts) (says : Says) (clusters : ℕ) (sessions : List ℕ) (begin : Begin) (nodes : AreNodes clusters sessions) where
+  good_stays : (added past : Past) → IsRunOf starts says clusters sessions begin (added ++ past) → (v : RevVec) → IsGood begin past (Seen v) → IsGood begin (added ++ past) (Seen v)
   good_stays [] past run v good = good
-  good_stays (e ∷ added) past run v good = good_kept clusters None (added ++ past) (e ∷ added ++ past) (later_run clusters sessions nodes None starts says e (added ++ past) run) (Seen v) (good_stays added past run.1 v good)
+  good_stays (e ∷ added) past run v good = good_kept clusters begin (added ++ past) (e ∷ added ++ past) (later_run clusters sessions nodes begin starts says e (added ++ past) run) (Seen v) (good_stays added past run.1 v good)
 
-  can_stays : (added past : Past) → IsRunOf starts says clusters sessions None (added ++ past) → (x : Pin) → CanBound clusters past x → CanBound clusters (added ++ past) x
+  can_stays : (added past : Past) → IsRunOf starts says clusters sessions begin (added ++ past) → (x : Pin) → CanBound begin clusters past x → CanBound begin clusters (added ++ past) x
   can_stays added past run x can = record { good = good_stays added past run x.base can.good; swept = can.swept; begun = can.begun }
 
 -- ---- a node that was recovered
@@ -114,26 +114,26 @@ bounding_skips w k x recovered bounding = record {
 -- ---- what is held
 
 -- a pair that goes together
-pair_can : (clusters : ℕ) (past : Past) (x : Pin) → IsGood None past (Seen x.base) → IsPair x.base x.sweep → SeesStarts clusters x.sweep → CanBound clusters past x
-pair_can clusters past x good pair begun = record { good = good; swept = seen_below x.sweep x.base pair.vector.stands pair.below; begun = begun }
+pair_can : (clusters : ℕ) (begin : Begin) (past : Past) (x : Pin) → IsGood begin past (Seen x.base) → IsPair x.base x.sweep → SeesStarts clusters x.sweep → CanBound begin clusters past x
+pair_can clusters begin past x good pair begun = record { good = good; swept = seen_below x.sweep x.base pair.vector.stands pair.below; begun = begun }
 
 module _ (starts : Starts) (says : Says) (proper : StartsProper starts) (w : State) (kept : AreLayersKept starts says w) (begun : (k : ℕ) → IsNode w.clusters k → SeesStarts w.clusters (memory_at w.memories k).sweep) where
   -- a head can bound
-  pub head_can : (k : ℕ) → IsNode w.clusters k → CanBound w.clusters w.past ((holding_in w).heads k)
+  pub head_can : (k : ℕ) → IsNode w.clusters k → CanBound w.begin w.clusters w.past ((holding_in w).heads k)
   head_can k node =
       let memory = kept.sessions.memories.memory k node in
-      let good : IsGood None w.past (Seen (memory_at w.memories k).head) =
-      subst (λ (v : RevVec). IsGood None w.past (Seen v)) (sym memory.head) (head_good w.clusters w.sessions kept.sessions.nodes None w.past (sound_run w.clusters w.sessions kept.sessions.nodes None starts says w.past kept.sessions.run) k node) in
-      subst (λ (x : Pin). CanBound w.clusters w.past x) (sym (head_is starts says proper w kept k node)) (pair_can w.clusters w.past (Rattle.oak_node.specs.Pins.pin_now (memory_at w.memories k)) good memory.sweep (begun k node))
+      let good : IsGood w.begin w.past (Seen (memory_at w.memories k).head) =
+      subst (λ (v : RevVec). IsGood w.begin w.past (Seen v)) (sym memory.head) (head_good w.clusters w.sessions kept.sessions.nodes w.begin w.past (sound_run w.clusters w.sessions kept.sessions.nodes w.begin starts says w.past kept.sessions.run) k node) in
+      subst (λ (x : Pin). CanBound w.begin w.clusters w.past x) (sym (head_is starts says proper w kept k node)) (pair_can w.clusters w.begin w.past (Rattle.oak_node.specs.Pins.pin_now (memory_at w.memories k)) good memory.sweep (begun k node))
 
   -- what the root has published can
-  pub root_can : CanBound w.clusters w.past (root_pair kept.root.document)
-  root_can = pair_can w.clusters w.past (root_pair kept.root.document) good kept.root.tells.pair kept.root.begun
+  pub root_can : CanBound w.begin w.clusters w.past (root_pair kept.root.document)
+  root_can = pair_can w.clusters w.begin w.past (root_pair kept.root.document) good kept.root.tells.pair kept.root.begun
     where
-      public : IsGood None w.past (Public w.clusters None w.past)
-      public = public_good w.clusters w.sessions kept.sessions.nodes None w.past (sound_run w.clusters w.sessions kept.sessions.nodes None starts says w.past kept.sessions.run)
+      public : IsGood w.begin w.past (Public w.clusters w.begin w.past)
+      public = public_good w.clusters w.sessions kept.sessions.nodes w.begin w.past (sound_run w.clusters w.sessions kept.sessions.nodes w.begin starts says w.past kept.sessions.run)
 
-      good : IsGood None w.past (Seen kept.root.document.last_rev)
+      good : IsGood w.begin w.past (Seen kept.root.document.last_rev)
       good = record {
         behind = λ o ahead seen. public.behind o ahead ((kept.root.tells.public o).0 seen);
         closed = λ o d drawn seen q h. (kept.root.tells.public q).1 (public.closed o d drawn ((kept.root.tells.public o).0 seen) q h);
@@ -142,7 +142,7 @@ module _ (starts : Starts) (says : Says) (proper : StartsProper starts) (w : Sta
   -- the root was read
   pub bounding_begins : (root : Document) → nodes_in w.table [] ≡ Some root → IsBounding w 1 (root_pair root)
   bounding_begins root is = record {
-    can = subst (λ (d : Document). CanBound w.clusters w.past (root_pair d)) (ap (λ o. unwrap_or o root) (sym kept.root.there ∙ is)) root_can;
+    can = subst (λ (d : Document). CanBound w.begin w.clusters w.past (root_pair d)) (ap (λ o. unwrap_or o root) (sym kept.root.there ∙ is)) root_can;
     heads = λ j node below. absurd (none j node.0 below);
     pins = λ j node below. absurd (none j node.0 below);
   }
@@ -154,13 +154,13 @@ module _ (starts : Starts) (says : Says) (proper : StartsProper starts) (w : Sta
     -- cluster node k is read
     pub bounding_node : IsNode w.clusters k → IsBounding w (k + 1) (fed_node w k x)
     bounding_node node = record {
-      can = fold_can w.clusters w.past x ((holding_in w).heads k ∷ (holding_in w).pins k) bounding.can each;
+      can = fold_can w.clusters w.begin w.past x ((holding_in w).heads k ∷ (holding_in w).pins k) bounding.can each;
       heads = λ j n below taking. pair_below j n below ((holding_in w).heads j) (fold_below x ((holding_in w).heads k ∷ (holding_in w).pins k)) (λ h. bounding.heads j n h taking) (λ (same : j ≡ k). subst (λ (i : ℕ). IsPairBelow (fed_node w k x) ((holding_in w).heads i)) (sym same) (fold_each x ((holding_in w).heads k ∷ (holding_in w).pins k) ((holding_in w).heads k) (inl refl)));
       pins = λ j n below taking y i. pair_below j n below y (fold_below x ((holding_in w).heads k ∷ (holding_in w).pins k)) (λ h. bounding.pins j n h taking y i) (λ (same : j ≡ k). fold_each x ((holding_in w).heads k ∷ (holding_in w).pins k) y (inr (subst (λ (n : ℕ). IsIn y ((holding_in w).pins n)) same i)));
     }
       where
-        each : (y : Pin) → IsIn y ((holding_in w).heads k ∷ (holding_in w).pins k) → CanBound w.clusters w.past y
-        each y (inl one) = subst (λ (z : Pin). CanBound w.clusters w.past z) one (head_can k node)
+        each : (y : Pin) → IsIn y ((holding_in w).heads k ∷ (holding_in w).pins k) → CanBound w.begin w.clusters w.past y
+        each y (inl one) = subst (λ (z : Pin). CanBound w.begin w.clusters w.past z) one (head_can k node)
         each y (inr i) = all.pins k (takes_part starts says proper w kept k node (pins_alive starts says proper w kept k node y i)) y i
 
         pair_below : (j : ℕ) → IsNode w.clusters j → j < k + 1 → (y : Pin) → IsPairBelow (fed_node w k x) x → (j < k → IsPairBelow x y) → (j ≡ k → IsPairBelow (fed_node w k x) y) → IsPairBelow (fed_node w k x) y
@@ -175,11 +175,11 @@ module _ (starts : Starts) (says : Says) (proper : StartsProper starts) (w : Sta
       kept = λ y i. fold_each x (holding_in w).kept y i;
     };
     swept = can.swept;
-    closed = closed_by w.past (fed_settings w x).base can.good;
+    closed = closed_by w.begin w.past (fed_settings w x).base can.good;
   }
     where
-      can : CanBound w.clusters w.past (fed_settings w x)
-      can = fold_can w.clusters w.past x (holding_in w).kept bounding.can all.kept
+      can : CanBound w.begin w.clusters w.past (fed_settings w x)
+      can = fold_can w.clusters w.begin w.past x (holding_in w).kept bounding.can all.kept
 
       node_of : (k : ℕ) → (holding_in w).gone k ≡ false → IsNode w.clusters k
       node_of k taking = Rattle.core_world.proofs.Held.node_is w.clusters k (first (Rattle.core_world.specs.Held.is_node_in w.clusters k) taking)
@@ -193,15 +193,15 @@ module _ (starts : Starts) (says : Says) (proper : StartsProper starts) (w : Sta
 
   -- its sweep vector sees the start of each cluster node
   pub bounding_begun : CanAllBound w → (x : Pin) → IsBounding w (w.clusters + 1) x → SeesStarts w.clusters (fed_settings w x).sweep
-  bounding_begun all x bounding = (fold_can w.clusters w.past x (holding_in w).kept bounding.can all.kept).begun
+  bounding_begun all x bounding = (fold_can w.clusters w.begin w.past x (holding_in w).kept bounding.can all.kept).begun
 
 -- ---- over a step
 
-module _ (starts : Starts) (says : Says) (proper : StartsProper starts) (w u : State) (added : Past) (kept : AreLayersKept starts says w) (begun : (k : ℕ) → IsNode w.clusters k → SeesStarts w.clusters (memory_at w.memories k).sweep) (then : AreLayersKept starts says u) (grown : u.past ≡ added ++ w.past) (same : u.clusters ≡ w.clusters) (its : u.sessions ≡ w.sessions) (step : IsHoldingStep (holding_in w) (holding_in u)) where
-  can_on : (x : Pin) → CanBound w.clusters w.past x → CanBound u.clusters u.past x
-  can_on x can = subst (λ (p : Past). CanBound u.clusters p x) (sym grown)
-      (can_stays starts says u.clusters u.sessions then.sessions.nodes added w.past (subst (λ (p : Past). IsRunOf starts says u.clusters u.sessions None p) grown then.sessions.run) x
-      (subst (λ (n : ℕ). CanBound n w.past x) (sym same) can))
+module _ (starts : Starts) (says : Says) (proper : StartsProper starts) (w u : State) (added : Past) (kept : AreLayersKept starts says w) (begun : (k : ℕ) → IsNode w.clusters k → SeesStarts w.clusters (memory_at w.memories k).sweep) (then : AreLayersKept starts says u) (grown : u.past ≡ added ++ w.past) (same : u.clusters ≡ w.clusters) (its : u.sessions ≡ w.sessions) (from : u.begin ≡ w.begin) (step : IsHoldingStep (holding_in w) (holding_in u)) where
+  can_on : (x : Pin) → CanBound w.begin w.clusters w.past x → CanBound u.begin u.clusters u.past x
+  can_on x can = subst (λ (p : Past). CanBound u.begin u.clusters p x) (sym grown)
+      (can_stays starts says u.clusters u.sessions u.begin then.sessions.nodes added w.past (subst (λ (p : Past). IsRunOf starts says u.clusters u.sessions u.begin p) grown then.sessions.run) x
+      (subst (λ (b : Begin). CanBound b u.clusters w.past x) (sym from) (subst (λ (n : ℕ). CanBound w.begin n w.past x) (sym same) can)))
 
   was_there : (k : ℕ) → (holding_in u).gone k ≡ false → (holding_in w).gone k ≡ false
   was_there k h = by ((holding_in w).gone k) refl
@@ -222,7 +222,7 @@ module _ (starts : Starts) (says : Says) (proper : StartsProper starts) (w u : S
   all_can_on all = record {
     pins = λ k taking x i. elim (step.pins k x taking i) [
       | inl j ↦ can_on x (all.pins k (was_there k taking) x j)
-      | inr one ↦ subst (λ (y : Pin). CanBound u.clusters u.past y) (sym one) (can_on ((holding_in w).heads k) (head_can starts says proper w kept begun k (node_was k (was_there k taking))))
+      | inr one ↦ subst (λ (y : Pin). CanBound u.begin u.clusters u.past y) (sym one) (can_on ((holding_in w).heads k) (head_can starts says proper w kept begun k (node_was k (was_there k taking))))
     ];
     kept = λ x i. elim (step.kept x i) [ inl j ↦ can_on x (all.kept x j) | inr j ↦ can_on x (all.pins j.0 j.1 x j.2) ];
   }

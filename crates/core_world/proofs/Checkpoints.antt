@@ -23,7 +23,7 @@ use Rattle.oak_doc.specs.declared.update.Change.TheVariants as change
 use Rattle.oak_doc.specs.Updates.{after_changes}
 use Rattle.oak_machine.specs.declared.event.Event.{Event}
 use Rattle.oak_machine.specs.declared.event.Event.TheVariants as event
-use Rattle.oak_machine.specs.History.{Past}
+use Rattle.oak_machine.specs.History.{Past, Begin}
 use Rattle.oak_machine.specs.Laws.{Says, Starts, StartsProper}
 use Rattle.oak_machine.specs.Sessions.{has_left, has_login, is_attached, is_stopped_under, kept_checkpoint}
 use Rattle.oak_node.specs.Pins.{pin_of}
@@ -32,7 +32,7 @@ use Rattle.oak_store.specs.Tables.{Table, next_number, with_document}
 use Rattle.core_read.proofs.Entries.{lookup-remove, sorted_insert, sorted_remove}
 use Rattle.core_nodes.specs.Nodes.{IsPair, base_of_pin}
 use Rattle.core_world.specs.Kept.{AreSettingsKept, AreLayersKept, IsRootKept}
-use Rattle.core_world.specs.States.{State, memory_of, nodes_in}
+use Rattle.core_world.specs.States.{State, memory_of, nodes_in, origin}
 use Rattle.core_world.specs.Steps.{after_checkpoint, after_release, after_update, settings_op, settings_ops}
 use Rattle.core_world.proofs.Backs.{done_at, update_is, with_table}
 use Rattle.core_world.proofs.Draws.{base_is, its_pair}
@@ -144,8 +144,8 @@ module _ (sessions : List ℕ) (past : Past) (t : Table) (set : AreSettingsKept 
 
 -- ---- the root, with the same documents of nodes
 
-pub root_same : (clusters : ℕ) (past : Past) (t u : Table) → ((p : Path) → nodes_in u p ≡ nodes_in t p) → IsRootKept clusters past t → IsRootKept clusters past u
-root_same clusters past t u same root = record { document = root.document; there = same [] ∙ root.there; tells = root.tells; begun = root.begun }
+pub root_same : (clusters : ℕ) (begin : Begin) (past : Past) (t u : Table) → ((p : Path) → nodes_in u p ≡ nodes_in t p) → IsRootKept begin clusters past t → IsRootKept begin clusters past u
+root_same clusters begin past t u same root = record { document = root.document; there = same [] ∙ root.there; tells = root.tells; begun = root.begun }
 
 -- ---- the steps
 
@@ -160,9 +160,9 @@ module _ (starts : Starts) (says : Says) (proper : StartsProper starts) (w : Sta
       let base = base_is starts says proper w kept.sessions s (node_alive starts says proper w kept.sessions s (session_there starts says proper w kept.sessions s login) on) login stays detached ∙ ap (λ o. Some (Rattle.std.specs.Option.option_map_or (λ (p : Pin). p.base) o (memory_of w s).head)) has in
       record {
         sessions = with_table starts says proper w kept.sessions e (s, base, detached, on) refl (λ k. refl) (λ r. refl) refl refl (λ q. refl) refl (λ j. refl) refl u
-            (nodes_commit w.past w.table u w.running kept.sessions.committing (told starts says proper w kept.sessions) same previous)
-            (nodes_let w.past w.table u w.running kept.sessions.committing (told starts says proper w kept.sessions) same previous);
-        root = root_quiet w.clusters w.past u e refl (root_same w.clusters w.past w.table u same kept.root);
+            (nodes_commit (origin w) w.past w.table u w.running kept.sessions.committing (told starts says proper w kept.sessions) same previous)
+            (nodes_let (origin w) w.past w.table u w.running kept.sessions.committing (told starts says proper w kept.sessions) same previous);
+        root = root_quiet w.clusters w.begin w.past u e refl (root_same w.clusters w.begin w.past w.table u same kept.root);
         settings = checkpoint_set w.sessions w.past w.table kept.settings i pin (its_pair starts says proper w kept.sessions s (session_there starts says proper w kept.sessions s login) pin has);
       }
 
@@ -175,8 +175,8 @@ module _ (starts : Starts) (says : Says) (proper : StartsProper starts) (w : Sta
       let u : Table = after_update w.table (settings_op c) in
       record {
         sessions = with_table starts says proper w kept.sessions e there refl (λ k. refl) (λ r. refl) refl refl (λ q. refl) refl (λ j. refl) refl u
-            (nodes_commit w.past w.table u w.running kept.sessions.committing (told starts says proper w kept.sessions) same previous)
-            (nodes_let w.past w.table u w.running kept.sessions.committing (told starts says proper w kept.sessions) same previous);
-        root = root_quiet w.clusters w.past u e refl (root_same w.clusters w.past w.table u same kept.root);
+            (nodes_commit (origin w) w.past w.table u w.running kept.sessions.committing (told starts says proper w kept.sessions) same previous)
+            (nodes_let (origin w) w.past w.table u w.running kept.sessions.committing (told starts says proper w kept.sessions) same previous);
+        root = root_quiet w.clusters w.begin w.past u e refl (root_same w.clusters w.begin w.past w.table u same kept.root);
         settings = release_set w.sessions w.past w.table kept.settings i;
       }

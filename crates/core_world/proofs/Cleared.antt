@@ -18,7 +18,7 @@ use Rattle.jr_value.specs.declared.value.Property.{Property}
 use Rattle.jr_rev.specs.declared.vector.Pin.{Pin}
 use Rattle.jr_rev.specs.declared.vector.RevVec.{RevVec}
 use Rattle.jr_rev.specs.Revisions.{is_same}
-use Rattle.jr_rev.specs.Vectors.{start_of}
+use Rattle.jr_rev.specs.Vectors.{start_of, sees}
 use Rattle.oak_clash.specs.declared.mark.Mark.{Mark}
 use Rattle.oak_clash.specs.declared.mark.Mark.TheVariants.{Exists, Guard, Touch, Prop}
 use Rattle.oak_commit.specs.Clashing.{Met, Writer, has, has_mark, mark_op, marked}
@@ -40,7 +40,6 @@ use Rattle.oak_machine.specs.Sessions.{is_stop_of, is_stopped}
 use Rattle.oak_read.specs.Meaning.{Documents, documents_in}
 use Rattle.oak_store.specs.Tables.{Table, found, next_number, with_document}
 use Rattle.core_read.specs.Holds.{root_entry}
-use Rattle.core_read.specs.Told.{IsTold}
 use Rattle.core_heads.proofs.Orders.{and_both}
 use Rattle.core_heads.proofs.Runs.{fresh_run}
 use Rattle.core_clash.specs.Core.{Core, Docs, IsDead, root_of}
@@ -58,7 +57,7 @@ use Rattle.core_world.specs.Collecting.{MayPrune, MaySplit, after_copied, after_
 use Rattle.core_world.specs.Collecting.{after_removed, after_split, split_now}
 use Rattle.core_world.specs.Freed.{HasNothing}
 use Rattle.core_world.specs.Kept.{AreCommitting, AreSessionsKept, IsClearedOf, has_written}
-use Rattle.core_world.specs.States.{State, core_in, nodes_in}
+use Rattle.core_world.specs.States.{State, core_in, nodes_in, origin}
 use Rattle.core_world.specs.Steps.{after_last, after_mark, after_update, after_write}
 use Rattle.core_world.specs.Steps.{after_write_in_want, with_result}
 use Rattle.core_world.proofs.Collects.{taken_is}
@@ -70,6 +69,7 @@ use Rattle.core_world.proofs.Tabled.{last_table, mark_table}
 use Rattle.core_world.proofs.Tables.{put_is, put_node}
 use Rattle.core_world.proofs.Undoing.{not_dead}
 use Rattle.core_world.proofs.Working.{not_start}
+use Rattle.core_begun.specs.Told.{IsToldSince}
 
 -- ---- a document with no more than it had
 
@@ -223,14 +223,14 @@ module _ (w : State) (s : ℕ) (p : Path) (r : Revision)
 -- ---- the write of a committer
 
 -- it isn't that of what is dead
-module _ (w : State) (a : AreCommitting w.past w.table w.running) (s : ℕ) (x : Running)
+module _ (w : State) (a : AreCommitting (origin w) w.past w.table w.running) (s : ℕ) (x : Running)
     (here : w.running s ≡ Some x) where
   other : (d : Draw) → IsDead w.past d → is_same d.revision x.draw.revision ≡ false
   other d dead = false_where (is_same d.revision x.draw.revision) (λ h.
       not_both (is_same x.draw.revision d.revision)
       (subst (λ (y : Revision). is_same y d.revision ≡ true)
       (same_revision d.revision x.draw.revision h) (is_same_self d.revision))
-      (not_dead w.past w.table w.running a d dead s x here))
+      (not_dead (origin w) w.past w.table w.running a d dead s x here))
 
   pub step_brings : (d : Draw) → IsDead w.past d → (p : Path)
       → HasNothing (nodes_in w.table p) d.revision → (q : Path) (rest : List Path)
@@ -251,17 +251,16 @@ or_then false b h = h
 
 module _ (starts : Starts) (says : Says) (w : State) (kept : AreSessionsKept starts says w) where
   dead_before : (e : Event) (past : Past) (d : Draw)
-      → IsRunOf starts says w.clusters w.sessions None (e ∷ past) → IsDead past d
+      → IsRunOf starts says w.clusters w.sessions w.begin (e ∷ past) → IsDead past d
       → IsDead (e ∷ past) d
   dead_before (event.Draw f) past d run dead = record {
     stopped = dead.stopped;
     draw = by (is_same d.revision f.revision) refl;
     uncommitted = dead.uncommitted;
-    other = dead.other;
   }
     where
       fresh : draw_of past f.revision ≡ None
-      fresh = (fresh_run w.clusters w.sessions kept.nodes None starts says f past run).fresh
+      fresh = (fresh_run w.clusters w.sessions kept.nodes w.begin starts says f past run).fresh
 
       by : (b : Bool) → is_same d.revision f.revision ≡ b
           → cond (is_same d.revision f.revision) (Some f) (draw_of past d.revision) ≡ Some d
@@ -272,7 +271,6 @@ module _ (starts : Starts) (says : Says) (w : State) (kept : AreSessionsKept sta
     stopped = dead.stopped;
     draw = dead.draw;
     uncommitted = by (is_same d.revision q) refl;
-    other = dead.other;
   }
     where
       by : (b : Bool) → is_same d.revision q ≡ b
@@ -287,24 +285,22 @@ module _ (starts : Starts) (says : Says) (w : State) (kept : AreSessionsKept sta
         (is_stopped past d.revision.cluster) dead.stopped;
     draw = dead.draw;
     uncommitted = dead.uncommitted;
-    other = dead.other;
   }
   dead_before e past d run dead = record {
     stopped = dead.stopped;
     draw = dead.draw;
     uncommitted = dead.uncommitted;
-    other = dead.other;
   }
 
   pub dead_stays : (e : Event) (past : Past) (d : Draw) → w.past ≡ e ∷ past → IsDead past d
       → IsDead w.past d
   dead_stays e past d at dead = subst (λ (x : Past). IsDead x d) (sym at) (dead_before e past d
-      (subst (λ (x : Past). IsRunOf starts says w.clusters w.sessions None x) at kept.run) dead)
+      (subst (λ (x : Past). IsRunOf starts says w.clusters w.sessions w.begin x) at kept.run) dead)
 
 -- ---- what is gone from every document may end
 
 -- what is in flight of a stopped cluster node and isn't committed is dead
-module _ (w : State) (a : AreCommitting w.past w.table w.running) (k : ℕ)
+module _ (w : State) (a : AreCommitting (origin w) w.past w.table w.running) (k : ℕ)
     (stopped : is_stopped w.past k ≡ true) where
   flying_dead : (d : Draw) → d.revision.cluster ≡ k → draw_of w.past d.revision ≡ Some d
       → is_in_flight w.past d.revision ≡ true → is_committed w.past d.revision ≡ false
@@ -313,10 +309,6 @@ module _ (w : State) (a : AreCommitting w.past w.table w.running) (k : ℕ)
     stopped = ap (is_stopped w.past) of ∙ stopped;
     draw = drawn;
     uncommitted = uncommitted;
-    other = λ e. not_both (is_in_base w.past d.revision d.revision)
-        (subst (λ (x : Revision). is_in_base w.past d.revision x ≡ true) (sym e)
-        (a.sound.start d.revision (ap (λ (o : Option Draw). is_some o) drawn)))
-        (a.sound.settled d.revision d.revision flies);
   }
 
   pub clears : ((d : Draw) (p : Path) → IsDead w.past d → d.revision.cluster ≡ k
@@ -347,10 +339,10 @@ module _ (w : State) (a : AreCommitting w.past w.table w.running) (k : ℕ)
 
 -- ---- what a committer hasn't written has nothing of it
 
-module _ (w : State) (a : AreCommitting w.past w.table w.running) (r : Revision)
-    (later : r ≡ start_of 1 → ⊥) (p : Path) where
+module _ (w : State) (a : AreCommitting (origin w) w.past w.table w.running) (r : Revision)
+    (later : sees (origin w).at r ≡ false) (p : Path) where
   abbrev core : Core
-  core = core_in w.past w.table a.writers
+  core = core_in (origin w) w.past w.table a.writers
 
   pub unwritten_free : has_written (a.writers r) p ≡ false → HasNothing (nodes_in w.table p) r
   unwritten_free unwritten = record {
@@ -365,17 +357,17 @@ module _ (w : State) (a : AreCommitting w.past w.table w.running) (r : Revision)
           unwritten
 
       of_mark : (m : Mark) → IsOf core p r m → ⊥
-      of_mark m (inl e) = later e
+      of_mark m (inl e) = false≢true (sym later ∙ e)
       of_mark m (inr i) = never i.0
 
       of_root : IsWriterOf core p r → ⊥
-      of_root (inl e) = later e
+      of_root (inl e) = false≢true (sym later ∙ e)
       of_root (inr i) = never i.0
 
-module _ (w : State) (a : AreCommitting w.past w.table w.running) (told : IsTold w.past) (s : ℕ)
+module _ (w : State) (a : AreCommitting (origin w) w.past w.table w.running) (told : IsToldSince (origin w) w.past) (s : ℕ)
     (x : Running) where
   pub unwritten_at_work : w.running s ≡ Some x → (p : Path) → has_written x.writer p ≡ false
       → HasNothing (nodes_in w.table p) x.draw.revision
   unwritten_at_work here p unwritten = unwritten_free w a x.draw.revision
-      (not_start w.past w.table w.running a told s x here) p
+      (not_start (origin w) w.past w.table w.running a told s x here) p
       (ap (λ (y : Writer). has_written y p) (a.theirs s x here).writer ∙ unwritten)

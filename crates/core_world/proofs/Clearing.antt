@@ -15,7 +15,7 @@ use Rattle.core_clash.specs.Core.{IsDead}
 use Rattle.core_nodes.proofs.Pins.{leaves_both}
 use Rattle.core_world.specs.Held.{holding_in}
 use Rattle.core_world.specs.Kept.{AreCommitting, AreLayersKept, AreSessionsKept, IsKept, IsPinned}
-use Rattle.core_world.specs.States.{State, memory_at}
+use Rattle.core_world.specs.States.{State, memory_at, origin}
 use Rattle.core_world.specs.Steps.{after_clear}
 use Rattle.core_world.proofs.Again.{IsAgain, again_commits, again_lets}
 use Rattle.core_world.proofs.Flights.{work_quiet}
@@ -52,12 +52,12 @@ module _ (starts : Starts) (says : Says) (proper : StartsProper starts) (w : Sta
     }
 
     -- whether it is in flight still, or has ended already and the document has nothing of it
-    commits : (b : Bool) → is_ended w.past d.revision ≡ b → AreCommitting (e ∷ w.past) then w.running
-    commits false open_ = clear_commits w.past w.table w.running kept.committing (told starts says proper w kept) d dead open_ p s
+    commits : (b : Bool) → is_ended w.past d.revision ≡ b → AreCommitting (origin w) (e ∷ w.past) then w.running
+    commits false open_ = clear_commits (origin w) w.past w.table w.running kept.committing (told starts says proper w kept) d dead open_ p s
     commits true ended = again_commits w kept.committing d p (again ended) s
 
-    lets : (b : Bool) → is_ended w.past d.revision ≡ b → LetsRead w.table then w.past (e ∷ w.past)
-    lets false open_ = clear_lets w.past w.table w.running kept.committing (told starts says proper w kept) d dead open_ p s
+    lets : (b : Bool) → is_ended w.past d.revision ≡ b → LetsRead (origin w) w.table then w.past (e ∷ w.past)
+    lets false open_ = clear_lets (origin w) w.past w.table w.running kept.committing (told starts says proper w kept) d dead open_ p s
     lets true ended = again_lets w kept.committing d p (again ended) s
 
     pub clear_sessions : AreSessionsKept starts says (after_clear w s p d.revision)
@@ -66,10 +66,10 @@ module _ (starts : Starts) (says : Says) (proper : StartsProper starts) (w : Sta
       run = ((login, stays), kept.run);
       committing = commits (is_ended w.past d.revision) refl;
       working = work_quiet w.sessions w.past w.running w.reading kept.working e refl (λ q. refl) (λ k. refl);
-      memories = aside starts says w.clusters w.sessions kept.nodes w.past w.memories kept.memories e ((login, stays), kept.run) (λ j. refl) (λ j. leaves_both w.sessions j e refl refl);
-      readers = event_reads w.past w.table w.formers w.reading kept.readers (reader_held starts says proper w kept) e (after_undo w.table (id.Node p) d.revision)
+      memories = aside starts says w.clusters w.sessions w.begin kept.nodes w.past w.memories kept.memories e ((login, stays), kept.run) (λ j. refl) (λ j. leaves_both w.sessions j e refl refl);
+      readers = event_reads (origin w) w.past w.table w.formers w.reading kept.readers (reader_held starts says proper w kept) e (after_undo w.table (id.Node p) d.revision)
           (lets (is_ended w.past d.revision) refl) (λ q r h. refl);
-      observers = event_observes starts says w.clusters w.sessions kept.nodes proper w.past e ((login, stays), kept.run) w.table then w.formers w.observing kept.observers (λ k. refl) (λ q r h. refl)
+      observers = event_observes starts says w.clusters w.sessions w.begin kept.nodes proper w.past e ((login, stays), kept.run) w.table then w.formers w.observing kept.observers (λ k. refl) (λ q r h. refl)
           _ (commits (is_ended w.past d.revision) refl).kept (lets (is_ended w.past d.revision) refl);
     }
 
@@ -77,12 +77,12 @@ module _ (starts : Starts) (says : Says) (proper : StartsProper starts) (w : Sta
     pub clear_layers : AreLayersKept starts says (after_clear w s p d.revision)
     clear_layers = record {
       sessions = clear_sessions kept.sessions;
-      root = root_quiet w.clusters w.past (after_undo w.table (id.Node p) d.revision) e refl (undo_root w.clusters w.past w.table kept.root p d.revision);
+      root = root_quiet w.clusters w.begin w.past (after_undo w.table (id.Node p) d.revision) e refl (undo_root w.clusters w.begin w.past w.table kept.root p d.revision);
       settings = settings_quiet w.sessions w.past w.table (after_undo w.table (id.Node p) d.revision) e refl (undo_apart w.table p d.revision) kept.settings;
     }
 
     pub clear_rises : IsHoldingStep (holding_in w) (holding_in (after_clear w s p d.revision))
-    clear_rises = holding starts says proper w kept u clear_layers (e ∷ []) refl refl refl
+    clear_rises = holding starts says proper w kept u clear_layers (e ∷ []) refl refl refl refl
         (λ k on. memory_still (memory_at w.memories k) (memory_at w.memories k) refl refl)
         (same_kept starts says proper w kept (after_undo w.table (id.Node p) d.revision) (undo_apart w.table p d.revision))
 
@@ -93,4 +93,4 @@ module _ (starts : Starts) (says : Says) (proper : StartsProper starts) (w : Sta
   pub clear_whole : IsKept starts says w → IsKept starts says (after_clear w s p d.revision)
   clear_whole kept =
       let layers = layers_of starts says w kept in
-      goes starts says proper w kept u refl (clear_layers layers) (λ r. refl) (λ r. refl) (clear_rises layers) (clear_pinned layers kept.pinned)
+      goes starts says proper w kept u refl refl (clear_layers layers) (λ r. refl) (λ r. refl) (clear_rises layers) (clear_pinned layers kept.pinned)

@@ -21,7 +21,7 @@ use Rattle.oak_doc.specs.declared.update.Field.{Field}
 use Rattle.oak_doc.specs.declared.update.Field.TheVariants as field
 use Rattle.oak_doc.specs.declared.update.UpdateOp.{UpdateOp}
 use Rattle.oak_doc.specs.Updates.{after_changes, changed, pruned}
-use Rattle.oak_machine.specs.History.{Past}
+use Rattle.oak_machine.specs.History.{Past, Begin}
 use Rattle.oak_read.specs.Meaning.{Documents, documents_in}
 use Rattle.oak_store.specs.Tables.{Table, with_document}
 use Rattle.oak_commit.specs.Clashing.{Writer}
@@ -37,6 +37,8 @@ use Rattle.core_world.specs.Kept.{IsRootKept, SeesStarts}
 use Rattle.core_world.specs.States.{core_in, moved_in, nodes_in}
 use Rattle.core_world.proofs.Tables.{put_main, put_node}
 use Rattle.core_read.proofs.Entries.{lookup-remove}
+use Rattle.oak_machine.specs.declared.event.Start.{Start}
+use Rattle.jr_rev.specs.Vectors.{sees}
 
 -- ---- what is listed
 
@@ -60,11 +62,11 @@ moved_main t u p d main = fun_ext (λ q. by (filter_map (λ e. documents_in t.do
         ∙ sym (ap (λ b. cond b xs (moved_in t q)) h)
 
 -- a core with a document changed, as the table has it
-pub sound_put : (past : Past) (writers : Revision → Writer) (t : Table) (p : Path) (d : Document) (n : ℕ) (xs : List Document) → filter_map (λ e. documents_in t.documents (id.Prev e.number p)) d.prev ≡ xs
-    → Sound (record { number = n; docs = with_node (nodes_in t) p d; moved = with_moved (moved_in t) p xs; past = past; writers = writers }) → Sound (core_in past (with_document t (id.Node p) d n) writers)
-sound_put past writers t p d n xs lists sound =
-    subst (λ (docs : Path → Option Document). Sound (record { number = n; docs = docs; moved = moved_in (with_document t (id.Node p) d n); past = past; writers = writers })) (sym (put_node t p d n))
-    (subst (λ (moved : Path → List Document). Sound (record { number = n; docs = with_node (nodes_in t) p d; moved = moved; past = past; writers = writers })) (sym (moved_main t (with_document t (id.Node p) d n) p d (put_main t p d n) ∙ ap (with_moved (moved_in t) p) lists)) sound)
+pub sound_put : (start : Start) (past : Past) (writers : Revision → Writer) (t : Table) (p : Path) (d : Document) (n : ℕ) (xs : List Document) → filter_map (λ e. documents_in t.documents (id.Prev e.number p)) d.prev ≡ xs
+    → Sound (record { old = sees start.at; number = n; docs = with_node (nodes_in t) p d; moved = with_moved (moved_in t) p xs; past = past; writers = writers }) → Sound (core_in start past (with_document t (id.Node p) d n) writers)
+sound_put start past writers t p d n xs lists sound =
+    subst (λ (docs : Path → Option Document). Sound (record { old = sees start.at; number = n; docs = docs; moved = moved_in (with_document t (id.Node p) d n); past = past; writers = writers })) (sym (put_node t p d n))
+    (subst (λ (moved : Path → List Document). Sound (record { old = sees start.at; number = n; docs = with_node (nodes_in t) p d; moved = moved; past = past; writers = writers })) (sym (moved_main t (with_document t (id.Node p) d n) p d (put_main t p d n) ∙ ap (with_moved (moved_in t) p) lists)) sound)
 
 -- ---- vectors of the root
 
@@ -86,10 +88,10 @@ unlist_vectors [] d = (refl, refl)
 unlist_vectors (n ∷ ns) d = unlist_vectors ns (changed d (change.Unlist n))
 
 -- the root is as it was, or has the same vectors
-pub root_changed : (clusters : ℕ) (past : Past) (t u : Table) (p : Path) (old d : Document) → IsMainAt (documents_in t.documents) (documents_in u.documents) p d → nodes_in t p ≡ Some old → d.last_rev ≡ old.last_rev → d.sweep_rev ≡ old.sweep_rev → IsRootKept clusters past t → IsRootKept clusters past u
-root_changed clusters past t u p old d main there last sweep root = by (eq_by_cmp path_cmp [] p) refl
+pub root_changed : (clusters : ℕ) (begin : Begin) (past : Past) (t u : Table) (p : Path) (old d : Document) → IsMainAt (documents_in t.documents) (documents_in u.documents) p d → nodes_in t p ≡ Some old → d.last_rev ≡ old.last_rev → d.sweep_rev ≡ old.sweep_rev → IsRootKept begin clusters past t → IsRootKept begin clusters past u
+root_changed clusters begin past t u p old d main there last sweep root = by (eq_by_cmp path_cmp [] p) refl
   where
-    by : (b : Bool) → eq_by_cmp path_cmp [] p ≡ b → IsRootKept clusters past u
+    by : (b : Bool) → eq_by_cmp path_cmp [] p ≡ b → IsRootKept begin clusters past u
     by false h = record { document = root.document; there = main.elsewhere.node [] h ∙ root.there; tells = root.tells; begun = root.begun }
     by true h =
         let one : [] ≡ p = same_path [] p h in
@@ -97,9 +99,9 @@ root_changed clusters past t u p old d main there last sweep root = by (eq_by_cm
         record {
           document = d;
           there = ap (nodes_in u) one ∙ main.at;
-          tells = subst (λ (v : Rattle.jr_rev.specs.declared.vector.RevVec.RevVec). Rattle.core_nodes.specs.Nodes.IsOnRoot None clusters past v d.sweep_rev) (sym last ∙ refl)
-              (subst (λ (v : Rattle.jr_rev.specs.declared.vector.RevVec.RevVec). Rattle.core_nodes.specs.Nodes.IsOnRoot None clusters past old.last_rev v) (sym sweep)
-              (subst (λ (x : Document). Rattle.core_nodes.specs.Nodes.IsOnRoot None clusters past x.last_rev x.sweep_rev) its root.tells));
+          tells = subst (λ (v : Rattle.jr_rev.specs.declared.vector.RevVec.RevVec). Rattle.core_nodes.specs.Nodes.IsOnRoot begin clusters past v d.sweep_rev) (sym last ∙ refl)
+              (subst (λ (v : Rattle.jr_rev.specs.declared.vector.RevVec.RevVec). Rattle.core_nodes.specs.Nodes.IsOnRoot begin clusters past old.last_rev v) (sym sweep)
+              (subst (λ (x : Document). Rattle.core_nodes.specs.Nodes.IsOnRoot begin clusters past x.last_rev x.sweep_rev) its root.tells));
           begun = subst (λ (v : Rattle.jr_rev.specs.declared.vector.RevVec.RevVec). SeesStarts clusters v) (sym sweep) (subst (λ (x : Document). SeesStarts clusters x.sweep_rev) its root.begun);
         }
 

@@ -33,7 +33,7 @@ use Rattle.core_clash.proofs.Steps.{may_refuse_at_last, may_refuse_at_mark}
 use Rattle.core_clash.proofs.Updates.{last_is, mark_is}
 use Rattle.core_nodes.proofs.Pins.{leaves_both}
 use Rattle.core_nodes.specs.Nodes.{is_of_node, leaves_memory, moved_pin}
-use Rattle.core_world.specs.States.{State, core_in, history_in, nodes_in, with_session, moved_in}
+use Rattle.core_world.specs.States.{State, core_in, history_in, nodes_in, with_session, moved_in, origin}
 use Rattle.core_world.specs.Steps.{after_last, after_mark, after_undoing, after_update, after_want, after_write, after_write_in_want, lasted_by, marked_by, refused}
 use Rattle.core_world.specs.Kept.{AreAtWork, AreCommitting, AreSessionsKept, has_written}
 use Rattle.core_world.proofs.Committers.{session_twice, work_session}
@@ -56,7 +56,7 @@ module _ (starts : Starts) (says : Says) (proper : StartsProper starts) (w : Sta
     its = kept.committing.theirs s x here
 
     pub drawn : IsDrawnBy w.sessions w.past x.draw.revision x.draw
-    drawn = drawn_by starts says w.clusters w.sessions w.past x.draw.revision x.draw kept.run its.draw
+    drawn = drawn_by starts says w.clusters w.sessions w.begin w.past x.draw.revision x.draw kept.run its.draw
 
     pub login : has_login w.past s ≡ true
     login = subst (λ (n : ℕ). has_login w.past n ≡ true) its.session drawn.login
@@ -66,8 +66,8 @@ module _ (starts : Starts) (says : Says) (proper : StartsProper starts) (w : Sta
 
     -- an event of this session that is neither a draw, nor an end, nor one of the pins, with a change of one document
     module _ (e : Event) (u : Table) (y : Running) (may : MayFollow starts says (history_in w) e) (draws : draws_nothing e ≡ true) (ends : (q : ℕ) → is_end_of_session q e ≡ false) (on : (k : ℕ) → is_stop_of k e ≡ false) (unbased : moved_base e ≡ None)
-        (leaves : (j : ℕ) → leaves_memory j e ≡ true) (unmoved : moved_pin e ≡ None) (committing : AreCommitting (e ∷ w.past) u (with_session w.running s (Some y)))
-        (lets : LetsRead w.table u w.past (e ∷ w.past)) where
+        (leaves : (j : ℕ) → leaves_memory j e ≡ true) (unmoved : moved_pin e ≡ None) (committing : AreCommitting (origin w) (e ∷ w.past) u (with_session w.running s (Some y)))
+        (lets : LetsRead (origin w) w.table u w.past (e ∷ w.past)) where
       stay_on : (q : ℕ) → has_left w.past q ≡ false → has_left (e ∷ w.past) q ≡ false
       stay_on q h = ap (λ b. b || has_left w.past q) (ends q) ∙ h
 
@@ -80,9 +80,9 @@ module _ (starts : Starts) (says : Says) (proper : StartsProper starts) (w : Sta
         run = (may, kept.run);
         committing = committing;
         working = working;
-        memories = aside starts says w.clusters w.sessions kept.nodes w.past w.memories kept.memories e (may, kept.run) leaves (λ j. leaves_both w.sessions j e (leaves j) (ap (λ o. option_map_or (λ n. not (is_of_node w.sessions j n)) o true) unmoved));
-        readers = event_reads w.past w.table w.formers w.reading kept.readers (reader_held starts says proper w kept) e u lets (λ q r h. ap (λ o. option_map_or (λ n. n == q) o false) unbased);
-        observers = event_observes starts says w.clusters w.sessions kept.nodes proper w.past e (may, kept.run) w.table u w.formers w.observing kept.observers on (λ q r h. moves_none e unmoved q)
+        memories = aside starts says w.clusters w.sessions w.begin kept.nodes w.past w.memories kept.memories e (may, kept.run) leaves (λ j. leaves_both w.sessions j e (leaves j) (ap (λ o. option_map_or (λ n. not (is_of_node w.sessions j n)) o true) unmoved));
+        readers = event_reads (origin w) w.past w.table w.formers w.reading kept.readers (reader_held starts says proper w kept) e u lets (λ q r h. ap (λ o. option_map_or (λ n. n == q) o false) unbased);
+        observers = event_observes starts says w.clusters w.sessions w.begin kept.nodes proper w.past e (may, kept.run) w.table u w.formers w.observing kept.observers on (λ q r h. moves_none e unmoved q)
             (λ r. has_written (committing.writers r)) committing.kept lets;
       }
 
@@ -94,17 +94,17 @@ module _ (starts : Starts) (says : Says) (proper : StartsProper starts) (w : Sta
           let op = write_op x.draw.revision x.draw.edit.writes x.draw.marks p in
           let wrote : Writer = record x.writer { left = rest; written = x.writer.written ++ p ∷ []; due = found x.draw.base x.draw.revision p x.draw.marks (whole p (nodes_in w.table p) (moved_in w.table p)) } in
           with_event (event.Went s kind.Write) (after_update w.table op) (record { draw = x.draw; writer = wrote; committed = x.committed }) (login, kept.working.stays s x here) refl (λ q. refl) (λ k. refl) refl (λ j. refl) refl
-          (subst (λ (n : ℕ). AreCommitting (event.Went n kind.Write ∷ w.past) (after_update w.table op) (with_session w.running s (Some (record { draw = x.draw; writer = wrote; committed = x.committed })))) its.session
-          (write_commits w.past w.table w.running kept.committing (told starts says proper w kept) s x here uncommitted going p rest unmet next))
-          (subst (λ (n : ℕ). LetsRead w.table (after_update w.table op) w.past (event.Went n kind.Write ∷ w.past)) its.session
-          (write_lets w.past w.table w.running kept.committing (told starts says proper w kept) s x here uncommitted going p rest unmet next))
+          (subst (λ (n : ℕ). AreCommitting (origin w) (event.Went n kind.Write ∷ w.past) (after_update w.table op) (with_session w.running s (Some (record { draw = x.draw; writer = wrote; committed = x.committed })))) its.session
+          (write_commits (origin w) w.past w.table w.running kept.committing (told starts says proper w kept) s x here uncommitted going p rest unmet next))
+          (subst (λ (n : ℕ). LetsRead (origin w) w.table (after_update w.table op) w.past (event.Went n kind.Write ∷ w.past)) its.session
+          (write_lets (origin w) w.past w.table w.running kept.committing (told starts says proper w kept) s x here uncommitted going p rest unmet next))
 
       -- ---- a refusal
 
       pub refused_keeps : (item : Item) (o : Revision) → Cause w.past x.draw.revision item o → MayRefuse w.past x.draw.revision item o → AreSessionsKept starts says (refused w s x item o)
       refused_keeps item o cause may = with_event (event.Refuse x.draw.revision item o) w.table (record { draw = x.draw; writer = record x.writer { due = []; undoing = true }; committed = x.committed }) may refl (λ q. refl) (λ k. refl) refl (λ j. refl) refl
-          (refuse_commits w.past w.table w.running kept.committing (told starts says proper w kept) s x here uncommitted going item o cause)
-          (lets_calm w.table w.past (λ r. has_written (kept.committing.writers r)) kept.committing.kept (event.Refuse x.draw.revision item o) (λ q. refl) refl)
+          (refuse_commits (origin w) w.past w.table w.running kept.committing (told starts says proper w kept) s x here uncommitted going item o cause)
+          (lets_calm (origin w) w.table w.past (λ r. has_written (kept.committing.writers r)) kept.committing.kept (event.Refuse x.draw.revision item o) (λ q. refl) refl)
 
       -- ---- a mark
 
@@ -119,10 +119,10 @@ module _ (starts : Starts) (says : Says) (proper : StartsProper starts) (w : Sta
         marked_keeps free =
             let now : Table = Rattle.oak_store.specs.Tables.with_document w.table (id.Node root) doc (next_number w.table) in
             with_event (event.Went s kind.Mark) now (record { draw = x.draw; writer = record x.writer { due = rest }; committed = x.committed }) (login, kept.working.stays s x here) refl (λ q. refl) (λ k. refl) refl (λ j. refl) refl
-            (subst (λ (n : ℕ). AreCommitting (event.Went n kind.Mark ∷ w.past) now (with_session w.running s (Some (record { draw = x.draw; writer = record x.writer { due = rest }; committed = x.committed })))) its.session
-            (mark_commits w.past w.table w.running kept.committing (told starts says proper w kept) s x here uncommitted going f rest next free))
-            (subst (λ (n : ℕ). LetsRead w.table now w.past (event.Went n kind.Mark ∷ w.past)) its.session
-            (mark_lets w.past w.table w.running kept.committing (told starts says proper w kept) s x here uncommitted going f rest next free))
+            (subst (λ (n : ℕ). AreCommitting (origin w) (event.Went n kind.Mark ∷ w.past) now (with_session w.running s (Some (record { draw = x.draw; writer = record x.writer { due = rest }; committed = x.committed })))) its.session
+            (mark_commits (origin w) w.past w.table w.running kept.committing (told starts says proper w kept) s x here uncommitted going f rest next free))
+            (subst (λ (n : ℕ). LetsRead (origin w) w.table now w.past (event.Went n kind.Mark ∷ w.past)) its.session
+            (mark_lets (origin w) w.past w.table w.running kept.committing (told starts says proper w kept) s x here uncommitted going f rest next free))
 
         pub mark_keeps : AreSessionsKept starts says (after_mark w s x f rest)
         mark_keeps = by (mark_is (nodes_in w.table root) w.past x.draw.revision f (next_number w.table))
@@ -130,8 +130,8 @@ module _ (starts : Starts) (says : Says) (proper : StartsProper starts) (w : Sta
             by : ((noted (nodes_in w.table root) f.other ≡ false) × (updated (nodes_in w.table root) (mark_op root f.other x.draw.revision f.theirs) (next_number w.table) ≡ Ok doc)) ⊎ ((g : OpFault) × (updated (nodes_in w.table root) (mark_op root f.other x.draw.revision f.theirs) (next_number w.table) ≡ Err g)) → AreSessionsKept starts says (after_mark w s x f rest)
             by (inl h) = subst (λ (o : Result Document OpFault). AreSessionsKept starts says (marked_by w s x f rest o)) (sym h.1) (marked_keeps h.0)
             by (inr h) = subst (λ (o : Result Document OpFault). AreSessionsKept starts says (marked_by w s x f rest o)) (sym h.1)
-                (refused_keeps f.mine f.other (mark_cause w.past w.table w.running kept.committing (told starts says proper w kept) s x here uncommitted going f rest next)
-                (may_refuse_at_mark (core_in w.past w.table kept.committing.writers) x.draw f rest kept.committing.sound (may_mark w.past w.table w.running kept.committing (told starts says proper w kept) s x here uncommitted going f rest next)))
+                (refused_keeps f.mine f.other (mark_cause (origin w) w.past w.table w.running kept.committing (told starts says proper w kept) s x here uncommitted going f rest next)
+                (may_refuse_at_mark (core_in (origin w) w.past w.table kept.committing.writers) x.draw f rest kept.committing.sound (may_mark (origin w) w.past w.table w.running kept.committing (told starts says proper w kept) s x here uncommitted going f rest next)))
 
       -- ---- the last write
 
@@ -153,9 +153,9 @@ module _ (starts : Starts) (says : Says) (proper : StartsProper starts) (w : Sta
         committed_keeps : is_some (collision (nodes_in w.table (commit_root x.draw.marks)) x.draw.revision) ≡ false → AreSessionsKept starts says (lasted_by w s x (Ok last_doc))
         committed_keeps free =
             with_event (event.Commit x.draw.revision) (Rattle.oak_store.specs.Tables.with_document w.table (id.Node (commit_root x.draw.marks)) last_doc (next_number w.table)) (record { draw = x.draw; writer = x.writer; committed = true })
-            (commit_follows w.past w.table w.running kept.committing (told starts says proper w kept) s x here uncommitted going unmet none_left free) refl (λ q. refl) (λ k. refl) refl (λ j. refl) refl
-            (last_commits w.past w.table w.running kept.committing (told starts says proper w kept) s x here uncommitted going unmet none_left free)
-            (commit_lets w.past w.table w.running kept.committing (told starts says proper w kept) s x here uncommitted going unmet none_left free)
+            (commit_follows (origin w) w.past w.table w.running kept.committing (told starts says proper w kept) s x here uncommitted going unmet none_left free) refl (λ q. refl) (λ k. refl) refl (λ j. refl) refl
+            (last_commits (origin w) w.past w.table w.running kept.committing (told starts says proper w kept) s x here uncommitted going unmet none_left free)
+            (commit_lets (origin w) w.past w.table w.running kept.committing (told starts says proper w kept) s x here uncommitted going unmet none_left free)
 
         pub last_keeps : AreSessionsKept starts says (after_last w s x)
         last_keeps = by lasts
@@ -167,7 +167,7 @@ module _ (starts : Starts) (says : Says) (proper : StartsProper starts) (w : Sta
             by (inl h) = subst (λ (o : Result Document OpFault). AreSessionsKept starts says (lasted_by w s x o)) (sym h.1) (committed_keeps h.0)
             by (inr h) = subst (λ (o : Result Document OpFault). AreSessionsKept starts says (lasted_by w s x o)) (sym h.2)
                 (refused_keeps h.0.1 h.0.0 (kept.committing.sound.caused (commit_root x.draw.marks) x.draw.revision h.0.0 h.0.1 h.1)
-                (may_refuse_at_last (core_in w.past w.table kept.committing.writers) x.draw h.0.0 h.0.1 kept.committing.sound (may_last w.past w.table w.running kept.committing (told starts says proper w kept) s x here uncommitted going unmet none_left) (at_root h.0 h.1)))
+                (may_refuse_at_last (core_in (origin w) w.past w.table kept.committing.writers) x.draw h.0.0 h.0.1 kept.committing.sound (may_last (origin w) w.past w.table w.running kept.committing (told starts says proper w kept) s x here uncommitted going unmet none_left) (at_root h.0 h.1)))
 
       -- ---- want of memory
 
@@ -175,7 +175,7 @@ module _ (starts : Starts) (says : Says) (proper : StartsProper starts) (w : Sta
       want_keeps = record {
         nodes = kept.nodes;
         run = kept.run;
-        committing = want_commits w.past w.table w.running kept.committing (told starts says proper w kept) s x here uncommitted going;
+        committing = want_commits (origin w) w.past w.table w.running kept.committing (told starts says proper w kept) s x here uncommitted going;
         working = work_session w.sessions w.past w.running w.reading kept.working s _ (kept.working.stays s x here) (kept.working.goes s x here);
         memories = kept.memories;
         readers = kept.readers;
@@ -188,10 +188,10 @@ module _ (starts : Starts) (says : Says) (proper : StartsProper starts) (w : Sta
     undo_keeps p rest uncommitted undoing next =
         let now : Table = after_undo w.table (id.Node p) x.draw.revision in
         with_event (event.Went s kind.Undo) now (record { draw = x.draw; writer = record x.writer { written = rest }; committed = x.committed }) (login, kept.working.stays s x here) refl (λ q. refl) (λ k. refl) refl (λ j. refl) refl
-        (subst (λ (n : ℕ). AreCommitting (event.Went n kind.Undo ∷ w.past) now (with_session w.running s (Some (record { draw = x.draw; writer = record x.writer { written = rest }; committed = x.committed })))) its.session
-        (undo_commits w.past w.table w.running kept.committing (told starts says proper w kept) s x here uncommitted undoing p rest next))
-        (subst (λ (n : ℕ). LetsRead w.table now w.past (event.Went n kind.Undo ∷ w.past)) its.session
-        (undo_lets w.past w.table w.running kept.committing (told starts says proper w kept) s x here uncommitted undoing p rest next))
+        (subst (λ (n : ℕ). AreCommitting (origin w) (event.Went n kind.Undo ∷ w.past) now (with_session w.running s (Some (record { draw = x.draw; writer = record x.writer { written = rest }; committed = x.committed })))) its.session
+        (undo_commits (origin w) w.past w.table w.running kept.committing (told starts says proper w kept) s x here uncommitted undoing p rest next))
+        (subst (λ (n : ℕ). LetsRead (origin w) w.table now w.past (event.Went n kind.Undo ∷ w.past)) its.session
+        (undo_lets (origin w) w.past w.table w.running kept.committing (told starts says proper w kept) s x here uncommitted undoing p rest next))
 
 -- a write, and memory refused for what is met there
 module _ (starts : Starts) (says : Says) (proper : StartsProper starts) (w : State) (kept : AreSessionsKept starts says w) (s : ℕ) (x : Running) (here : w.running s ≡ Some x) (uncommitted : x.committed ≡ false) (going : x.writer.undoing ≡ false)

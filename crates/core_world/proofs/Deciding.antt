@@ -18,29 +18,30 @@ use Rattle.oak_machine.specs.Laws.{Says, Starts, StartsProper}
 use Rattle.oak_node.specs.Pins.{pin_of}
 use Rattle.oak_read.specs.Meaning.{commit_root_of, documents_in}
 use Rattle.oak_read.specs.Meaning as meaning
-use Rattle.core_read.specs.Holds.{edit_of}
-use Rattle.core_read.proofs.Told.{no_edit}
 use Rattle.core_heads.proofs.Runs.{held_in_use}
-use Rattle.core_keep.specs.Journal.{IsHeld as IsHeldPair, is_swept}
+use Rattle.core_keep.specs.Journal.{is_swept}
 use Rattle.core_clash.specs.Core.{Core, root_of}
-use Rattle.core_clash.proofs.Basics.{or_left, some_of}
+use Rattle.core_clash.proofs.Basics.{or_left, some_of, or_right}
 use Rattle.core_clash.proofs.Shrinking.{status_is}
 use Rattle.core_clash.proofs.Steps.{undone_here}
 use Rattle.core_world.specs.Kept.{IsKept}
-use Rattle.core_world.specs.States.{State, core_in, memory_of, nodes_in}
+use Rattle.core_world.specs.States.{State, core_in, memory_of, nodes_in, origin}
 use Rattle.core_world.proofs.Draws.{its_pair}
 use Rattle.core_world.proofs.Lives.{told}
 use Rattle.core_world.proofs.Readers.{pair_held}
 use Rattle.core_world.proofs.Truths.{pin_held}
 use Rattle.core_world.proofs.Whole.{pin_above}
+use Rattle.core_begun.specs.Kept.{IsHeldSince as IsHeldPair}
+use Rattle.core_begun.proofs.Told.{no_edit}
+use Rattle.core_begun.specs.Told.{edit_since}
 
 module _ (starts : Starts) (says : Says) (proper : StartsProper starts) (w : State) (kept : IsKept starts says w) (s : ℕ) (there : is_some (slice_get w.sessions s) ≡ true) (pin : Pin) (has : pin_of (memory_of w s) s ≡ Some pin) where
-  pair : IsHeldPair w.past pin.base pin.sweep
-  pair = pair_held w.past pin (held_in_use None w.past pin.base (pin_held starts says proper w kept.sessions s there pin has)) (its_pair starts says proper w kept.sessions s there pin has) (pin_above starts says proper w kept s there pin has)
+  pair : IsHeldPair (origin w) w.past pin.base pin.sweep
+  pair = pair_held (origin w) w.past pin (held_in_use w.begin w.past pin.base (pin_held starts says proper w kept.sessions s there pin has)) (its_pair starts says proper w kept.sessions s there pin has) (pin_above starts says proper w kept s there pin has)
 
-  module _ (p : Path) (d : Document) (is : nodes_in w.table p ≡ Some d) (r : Revision) (drawn : is_drawn w.past r ≡ true) (later : r ≡ start_of 1 → ⊥) (m : Mark) (mark : has_mark d r m ≡ true) where
+  module _ (p : Path) (d : Document) (is : nodes_in w.table p ≡ Some d) (r : Revision) (drawn : is_drawn w.past r ≡ true) (later : sees (origin w).at r ≡ false) (m : Mark) (mark : has_mark d r m ≡ true) where
     abbrev core : Core
-    core = core_in w.past w.table kept.sessions.committing.writers
+    core = core_in (origin w) w.past w.table kept.sessions.committing.writers
 
     marked_there : marked (nodes_in w.table p) r m ≡ true
     marked_there = subst (λ (o : Option Document). marked o r m ≡ true) (sym is) mark
@@ -52,12 +53,12 @@ module _ (starts : Starts) (says : Says) (proper : StartsProper starts) (w : Sta
         dr : (f : Draw) × (draw_of w.past r ≡ Some f)
         dr = some_of (draw_of w.past r) drawn
 
-        none : is_committed w.past r ≡ false → edit_of w.past r ≡ None
-        none u = no_edit w.past r ((told starts says proper w kept.sessions).draws r dr.0 dr.1).after u
+        none : is_committed w.past r ≡ false → edit_since w.past r ≡ None
+        none u = no_edit w.past r u
 
         over : (b : Bool) → is_ended w.past r ≡ b → is_committed w.past r ≡ false → true ≡ false
         over true h u = sym marked_there ∙ undone_here core r p m kept.sessions.committing.sound later h u
-        over false h u = sym (ap (λ b. b && not (is_ended w.past r)) drawn ∙ ap not h) ∙ pair.sweep.quiet r e (none u)
+        over false h u = sym (ap (λ b. b && not (is_ended w.past r)) drawn ∙ ap not h) ∙ pair.quiet r e (none u)
 
         by : (b : Bool) → is_committed w.past r ≡ b → b ≡ true
         by true u = refl
@@ -70,7 +71,7 @@ module _ (starts : Starts) (says : Says) (proper : StartsProper starts) (w : Sta
         where
           by : (b : Bool) → is_swept w.past r ≡ b → b ≡ false
           by false h = refl
-          by true h = sym (pair.swept r h) ∙ unseen
+          by true h = sym (pair.swept r (or_right (sees (origin w).at r) _ h)) ∙ unseen
 
       root_is : commit_root_of d r ≡ id.Node (root_of w.past r)
       root_is =

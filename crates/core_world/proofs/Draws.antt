@@ -25,7 +25,7 @@ use Rattle.core_clash.specs.Sessions.{IsTheirs, Running}
 use Rattle.core_nodes.specs.Nodes.{IsPair, base_of_pin}
 use Rattle.core_nodes.proofs.Events.{next_is}
 use Rattle.core_nodes.proofs.Pins.{alive_base, session_owner}
-use Rattle.core_world.specs.States.{State, base_in, history_in, memory_at, memory_of, node_of, with_memory, with_session}
+use Rattle.core_world.specs.States.{State, base_in, history_in, memory_at, memory_of, node_of, with_memory, with_session, origin}
 use Rattle.core_world.specs.Steps.{IsThrough, after_draw, after_finish, after_notes, beginning, draw_in, memories_with}
 use Rattle.core_world.specs.Kept.{AreAtWork, AreMemories, AreSessionsKept}
 use Rattle.core_world.proofs.Committers.{at_idle, at_idle_now, at_others, at_session}
@@ -103,7 +103,7 @@ module _ (starts : Starts) (says : Says) (proper : StartsProper starts) (w : Sta
         idle = kept.working.idle s none on;
         base = base_is detached;
         cluster = on_node starts says proper w kept s there ∙ ap (λ k. Some k) (sym same_node);
-        next = next_is None w.clusters w.past (node_of w s) (memory_of w s) (kept.memories.memory (node_of w s) node) ∙ ap (λ k. Rattle.oak_machine.specs.Heads.next_draw w.clusters None w.past k) (sym same_node);
+        next = next_is w.begin w.clusters w.past (node_of w s) (memory_of w s) (kept.memories.memory (node_of w s) node) ∙ ap (λ k. Rattle.oak_machine.specs.Heads.next_draw w.clusters w.begin w.past k) (sym same_node);
         lawful = lawful;
       }
 
@@ -114,7 +114,7 @@ module _ (starts : Starts) (says : Says) (proper : StartsProper starts) (w : Sta
           by false e = refl
           by true e = absurd (false≢true (sym on ∙ (ap (is_stopped_under w.sessions w.past) (sym (same_number q s e)) ∙ stopped)))
 
-      run : IsRunOf starts says w.clusters w.sessions None (event.Draw d ∷ w.past)
+      run : IsRunOf starts says w.clusters w.sessions w.begin (event.Draw d ∷ w.past)
       run = (may_draw, kept.run)
 
       working : AreAtWork w.sessions (event.Draw d ∷ w.past) (with_session w.running s (Some (beginning d))) w.reading
@@ -130,13 +130,13 @@ module _ (starts : Starts) (says : Says) (proper : StartsProper starts) (w : Sta
       draw_keeps paths = record {
         nodes = kept.nodes;
         run = run;
-        committing = draw_commits starts says proper w.clusters w.sessions kept.nodes w.past w.table w.running kept.committing d run bounded;
+        committing = draw_commits starts says proper w.clusters w.sessions w.begin kept.nodes w.past w.table w.running kept.committing d run bounded;
         working = working;
-        memories = subst (λ (k : ℕ). AreMemories w.clusters w.sessions (event.Draw d ∷ w.past) (with_memory w.memories k (after_notes d.revision (with_draw (memory_at w.memories k) d.revision) paths))) same_node
-            (draw_memories starts says w.clusters w.sessions kept.nodes w.past w.memories kept.memories d run (ap (λ k. next_draw (memory_at w.memories k)) (sym same_node)) paths);
+        memories = subst (λ (k : ℕ). AreMemories w.begin w.clusters w.sessions (event.Draw d ∷ w.past) (with_memory w.memories k (after_notes d.revision (with_draw (memory_at w.memories k) d.revision) paths))) same_node
+            (draw_memories starts says w.clusters w.sessions w.begin kept.nodes w.past w.memories kept.memories d run (ap (λ k. next_draw (memory_at w.memories k)) (sym same_node)) paths);
         readers = reads_calm starts says proper w kept (event.Draw d) (λ q. refl) refl (λ q r h. refl);
         observers = observes_calm starts says proper w kept (event.Draw d) run (λ k. refl) (λ q. refl) refl (λ q r h. refl) (with_session w.running s (Some (beginning d)))
-            (draw_commits starts says proper w.clusters w.sessions kept.nodes w.past w.table w.running kept.committing d run bounded);
+            (draw_commits starts says proper w.clusters w.sessions w.begin kept.nodes w.past w.table w.running kept.committing d run bounded);
       }
 
   -- ---- the end of a revision
@@ -161,22 +161,22 @@ module _ (starts : Starts) (says : Says) (proper : StartsProper starts) (w : Sta
     its_cluster : IsNode w.clusters r.cluster
     its_cluster = kept.nodes.node s r.cluster (on_its_node starts says proper w kept s x here)
 
-    run_ended : IsRunOf starts says w.clusters w.sessions None later
+    run_ended : IsRunOf starts says w.clusters w.sessions w.begin later
     run_ended = (Rattle.core_clash.proofs.Pasts.in_flight w.past r x.draw mine.draw mine.unended, kept.run)
 
-    ended_memories : AreMemories w.clusters w.sessions later (memories_with w s done)
-    ended_memories = subst (λ (k : ℕ). AreMemories w.clusters w.sessions later (with_memory w.memories k (finished (memory_at w.memories k) r))) (sym at_node)
-        (end_memories starts says w.clusters w.sessions kept.nodes w.past w.memories kept.memories r its_cluster run_ended)
+    ended_memories : AreMemories w.begin w.clusters w.sessions later (memories_with w s done)
+    ended_memories = subst (λ (k : ℕ). AreMemories w.begin w.clusters w.sessions later (with_memory w.memories k (finished (memory_at w.memories k) r))) (sym at_node)
+        (end_memories starts says w.clusters w.sessions w.begin kept.nodes w.past w.memories kept.memories r its_cluster run_ended)
 
     -- no other session's committer ends
     now_idle : is_drawing later s ≡ false
-    now_idle = subst (λ (n : ℕ). is_drawing later n ≡ false) mine.session (ended_idle starts says w.clusters w.sessions w.past r x.draw kept.run mine.draw mine.unended)
+    now_idle = subst (λ (n : ℕ). is_drawing later n ≡ false) mine.session (ended_idle starts says w.clusters w.sessions w.begin w.past r x.draw kept.run mine.draw mine.unended)
 
     ended_kept : AreSessionsKept starts says (record w { past = event.End x.draw.revision ∷ w.past; memories = memories_with w s (finished (memory_of w s) x.draw.revision); running = with_session w.running s None })
     ended_kept = record {
       nodes = kept.nodes;
       run = run_ended;
-      committing = finish_commits w.past w.table w.running kept.committing (told starts says proper w kept) s x here through;
+      committing = finish_commits (origin w) w.past w.table w.running kept.committing (told starts says proper w kept) s x here through;
       working = record {
         idle = at_idle_now (λ q. is_stopped_under w.sessions w.past q ≡ false → is_drawing later q ≡ false) w.running s (λ goes. now_idle) (λ q f h goes. still_idle (event.End r) w.past q refl (kept.working.idle q h goes));
         stays = at_others (λ q (z : Running). has_left w.past q ≡ false) w.running s (λ q z f h. kept.working.stays q z h);
@@ -187,7 +187,7 @@ module _ (starts : Starts) (says : Says) (proper : StartsProper starts) (w : Sta
       memories = ended_memories;
       readers = reads_calm starts says proper w kept (event.End r) (λ q. refl) refl (λ q y h. refl);
       observers = observes_calm starts says proper w kept (event.End r) run_ended (λ k. refl) (λ q. refl) refl (λ q y h. refl) (with_session w.running s None)
-          (finish_commits w.past w.table w.running kept.committing (told starts says proper w kept) s x here through);
+          (finish_commits (origin w) w.past w.table w.running kept.committing (told starts says proper w kept) s x here through);
     }
 
 -- ---- the head moves
@@ -197,15 +197,15 @@ module _ (starts : Starts) (says : Says) (proper : StartsProper starts) (w : Sta
   pub head_keeps : AreSessionsKept starts says (record w { past = event.Head k (memory_at w.memories k).head ∷ w.past })
   head_keeps =
       let e : Event = event.Head k (memory_at w.memories k).head in
-      let run : IsRunOf starts says w.clusters w.sessions None (e ∷ w.past) = ((goes, (kept.memories.memory k node).head), kept.run) in
+      let run : IsRunOf starts says w.clusters w.sessions w.begin (e ∷ w.past) = ((goes, (kept.memories.memory k node).head), kept.run) in
       record {
         nodes = kept.nodes;
         run = run;
-        committing = quiet_commits w.past w.table w.running kept.committing (told starts says proper w kept) e refl (λ k. refl);
+        committing = quiet_commits (origin w) w.past w.table w.running kept.committing (told starts says proper w kept) e refl (λ k. refl);
         working = work_quiet w.sessions w.past w.running w.reading kept.working e refl (λ q. refl) (λ k. refl);
-        memories = aside starts says w.clusters w.sessions kept.nodes w.past w.memories kept.memories e run (λ j. refl) (λ j. refl);
+        memories = aside starts says w.clusters w.sessions w.begin kept.nodes w.past w.memories kept.memories e run (λ j. refl) (λ j. refl);
         readers = reads_calm starts says proper w kept e (λ q. refl) refl (λ q r h. refl);
-        observers = observes_calm starts says proper w kept e run (λ k. refl) (λ q. refl) refl (λ q r h. refl) w.running (quiet_commits w.past w.table w.running kept.committing (told starts says proper w kept) e refl (λ k. refl));
+        observers = observes_calm starts says proper w kept e run (λ k. refl) (λ q. refl) refl (λ q r h. refl) w.running (quiet_commits (origin w) w.past w.table w.running kept.committing (told starts says proper w kept) e refl (λ k. refl));
       }
 
 module _ (starts : Starts) (says : Says) (proper : StartsProper starts) (w : State) (kept : AreSessionsKept starts says w) (s : ℕ) (x : Running) (here : w.running s ≡ Some x) (through : IsThrough x) where

@@ -30,7 +30,7 @@ use Rattle.core_keep.specs.Holding.{IsHoldingStep}
 use Rattle.core_nodes.specs.Nodes.{IsPair, base_of_pin}
 use Rattle.core_world.specs.Held.{holding_in}
 use Rattle.core_world.specs.Kept.{AreLayersKept, AreSettingsKept, IsKept, IsPinned, reader_at}
-use Rattle.core_world.specs.States.{State, memory_at}
+use Rattle.core_world.specs.States.{State, memory_at, origin}
 use Rattle.core_world.specs.Steps.{after_drop_readers, after_update, settings_ops}
 use Rattle.core_world.proofs.Attaching.{number_test}
 use Rattle.core_world.proofs.Backs.{with_table}
@@ -150,14 +150,14 @@ module _ (starts : Starts) (says : Says) (proper : StartsProper starts) (w : Sta
         let previous = previous_left w.table kept.settings.document kept.settings.there (map change.Detach ss) in
         record {
           sessions = with_table starts says proper w kept.sessions (event.Went s kind.Recover) (login, stays_in) refl (λ k. refl) (λ r. refl) refl refl (λ q. refl) refl (λ j. refl) refl (after_update w.table (settings_ops (map change.Detach ss)))
-              (nodes_commit w.past w.table (after_update w.table (settings_ops (map change.Detach ss))) w.running kept.sessions.committing (told starts says proper w kept.sessions) same previous)
-              (nodes_let w.past w.table (after_update w.table (settings_ops (map change.Detach ss))) w.running kept.sessions.committing (told starts says proper w kept.sessions) same previous);
-          root = root_quiet w.clusters w.past (after_update w.table (settings_ops (map change.Detach ss))) (event.Went s kind.Recover) refl (root_same w.clusters w.past w.table (after_update w.table (settings_ops (map change.Detach ss))) same kept.root);
+              (nodes_commit (origin w) w.past w.table (after_update w.table (settings_ops (map change.Detach ss))) w.running kept.sessions.committing (told starts says proper w kept.sessions) same previous)
+              (nodes_let (origin w) w.past w.table (after_update w.table (settings_ops (map change.Detach ss))) w.running kept.sessions.committing (told starts says proper w kept.sessions) same previous);
+          root = root_quiet w.clusters w.begin w.past (after_update w.table (settings_ops (map change.Detach ss))) (event.Went s kind.Recover) refl (root_same w.clusters w.begin w.past w.table (after_update w.table (settings_ops (map change.Detach ss))) same kept.root);
           settings = set;
         }
 
     pub drop_rises : IsHoldingStep (holding_in w) (holding_in (after_drop_readers w s ss))
-    drop_rises = holding starts says proper w kept (after_drop_readers w s ss) drop_layers (event.Went s kind.Recover ∷ []) refl refl refl
+    drop_rises = holding starts says proper w kept (after_drop_readers w s ss) drop_layers (event.Went s kind.Recover ∷ []) refl refl refl refl
         (λ k on. memory_still (memory_at w.memories k) (memory_at w.memories k) refl refl)
         (λ x i. inl (subst (λ (o : Option Document). IsIn x (option_map_or kept_pairs o [])) (sym kept.settings.there) (kept_less ss kept.settings.document x (subst (λ (o : Option Document). IsIn x (option_map_or kept_pairs o [])) made i))))
 
@@ -180,4 +180,4 @@ module _ (starts : Starts) (says : Says) (proper : StartsProper starts) (w : Sta
   pub drop_whole : IsKept starts says w → IsKept starts says (after_drop_readers w s ss)
   drop_whole kept =
       let layers = layers_of starts says w kept in
-      goes starts says proper w kept (after_drop_readers w s ss) refl (drop_layers layers) (λ r. refl) (λ r. refl) (drop_rises layers) (drop_pinned layers kept.pinned)
+      goes starts says proper w kept (after_drop_readers w s ss) refl refl (drop_layers layers) (λ r. refl) (λ r. refl) (drop_rises layers) (drop_pinned layers kept.pinned)

@@ -8,7 +8,7 @@ use Rattle.jr_rev.specs.Revisions.{is_same}
 use Rattle.oak_machine.specs.declared.event.Draw.{Draw}
 use Rattle.oak_machine.specs.declared.event.Event.{Event}
 use Rattle.oak_machine.specs.declared.event.Event.TheVariants as event
-use Rattle.oak_machine.specs.History.{Past}
+use Rattle.oak_machine.specs.History.{Past, Begin}
 use Rattle.oak_machine.specs.Commits.{draw_of, is_ended}
 use Rattle.oak_machine.specs.Laws.{Says, Starts}
 use Rattle.oak_machine.specs.Runs.{IsRunOf}
@@ -69,9 +69,9 @@ drawing now r d unended (event.Draw e ∷ past) h = by (λ k. drawing now r d un
     by rest false f k = or_right ((e.session == d.session) && not (is_ended now e.revision)) _ (rest k)
 drawing now r d unended (e ∷ past) h = drawing now r d unended past h
 
-module _ (starts : Starts) (says : Says) (clusters : ℕ) (sessions : List ℕ) where
+module _ (starts : Starts) (says : Says) (clusters : ℕ) (sessions : List ℕ) (begin : Begin) where
   -- in a run a session has one draw in flight at most: once it has ended there is none
-  only_one : (now : Past) (r : Revision) (d : Draw) → is_ended now r ≡ false → (past : Past) → IsMore past now → IsRunOf starts says clusters sessions None past → draw_of past r ≡ Some d → is_drawing_among (event.End r ∷ now) past d.session ≡ false
+  only_one : (now : Past) (r : Revision) (d : Draw) → is_ended now r ≡ false → (past : Past) → IsMore past now → IsRunOf starts says clusters sessions begin past → draw_of past r ≡ Some d → is_drawing_among (event.End r ∷ now) past d.session ≡ false
   only_one now r d unended [] more run h = never (ap is_some h)
   only_one now r d unended (event.End q ∷ past) more run h = only_one now r d unended past (λ x k. more x (or_right (is_same x q) _ k)) run.1 h
   only_one now r d unended (event.Draw e ∷ past) more run h = by (λ k. only_one now r d unended past more run.1 k) (is_same r e.revision) refl h
@@ -103,7 +103,7 @@ module _ (starts : Starts) (says : Says) (clusters : ℕ) (sessions : List ℕ) 
       by rest false f k = or_none _ _ (other (e.session == d.session) refl k) (rest k)
   only_one now r d unended (e ∷ past) more run h = only_one now r d unended past more run.1 h
 
-  pub ended_idle : (past : Past) (r : Revision) (d : Draw) → IsRunOf starts says clusters sessions None past → draw_of past r ≡ Some d → is_ended past r ≡ false → is_drawing (event.End r ∷ past) d.session ≡ false
+  pub ended_idle : (past : Past) (r : Revision) (d : Draw) → IsRunOf starts says clusters sessions begin past → draw_of past r ≡ Some d → is_ended past r ≡ false → is_drawing (event.End r ∷ past) d.session ≡ false
   ended_idle past r d run drawn unended = only_one past r d unended past (λ x k. k) run drawn
 
 -- an event that is no draw leaves a session idle

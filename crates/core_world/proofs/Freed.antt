@@ -41,6 +41,8 @@ use Rattle.core_world.specs.Freed.{HasNothing, brings_nothing}
 use Rattle.core_world.specs.States.{core_in, moved_in, nodes_in}
 use Rattle.core_world.specs.Steps.{after_update, with_result}
 use Rattle.core_world.proofs.Tables.{moved_stays, put_is, undo_main, undo_node, undo_none}
+use Rattle.oak_machine.specs.declared.event.Start.{Start}
+use Rattle.jr_rev.specs.Vectors.{sees}
 
 pub false_where : (b : Bool) → (b ≡ true → ⊥) → b ≡ false
 false_where true h = absurd (h refl)
@@ -229,12 +231,12 @@ module _ (t : Table) (ordered : (q : Path) → AreOrdered q (nodes_in t q)) (q :
           (sym (ap (λ (x : Option Document). option_map_or (λ d. d.prev) x []) is))
 
   -- the core of the table then
-  pub sound_undone : (past : Past) (writers : Revision → Writer)
-      → Sound (record { number = next_number t; docs = docs_after (nodes_in t) q (updated (nodes_in t q) (undo_op o q) (next_number t)); moved = moved_in t; past = past; writers = writers })
-      → Sound (core_in past (after_undo t (id.Node q) o) writers)
-  sound_undone past writers sound =
-      subst (λ (docs : Docs). Sound (record { number = next_number t; docs = docs; moved = moved_in (after_undo t (id.Node q) o); past = past; writers = writers })) (sym nodes_now)
-      (subst (λ (moved : Path → List Document). Sound (record { number = next_number t; docs = after; moved = moved; past = past; writers = writers })) (sym moved_now) sound)
+  pub sound_undone : (start : Start) (past : Past) (writers : Revision → Writer)
+      → Sound (record { old = sees start.at; number = next_number t; docs = docs_after (nodes_in t) q (updated (nodes_in t q) (undo_op o q) (next_number t)); moved = moved_in t; past = past; writers = writers })
+      → Sound (core_in start past (after_undo t (id.Node q) o) writers)
+  sound_undone start past writers sound =
+      subst (λ (docs : Docs). Sound (record { old = sees start.at; number = next_number t; docs = docs; moved = moved_in (after_undo t (id.Node q) o); past = past; writers = writers })) (sym nodes_now)
+      (subst (λ (moved : Path → List Document). Sound (record { old = sees start.at; number = next_number t; docs = after; moved = moved; past = past; writers = writers })) (sym moved_now) sound)
 
   pub effect : Undoes (nodes_in t) (docs_after (nodes_in t) q (updated (nodes_in t q) (undo_op o q) (next_number t))) q o
   effect = undoes (nodes_in t) q o (next_number t) (ordered q)

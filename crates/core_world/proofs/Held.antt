@@ -24,7 +24,7 @@ use Rattle.oak_doc.specs.declared.update.Change.{Change}
 use Rattle.oak_doc.specs.declared.update.Change.TheVariants as change
 use Rattle.oak_doc.specs.Updates.{after_changes}
 use Rattle.oak_machine.specs.Heads.{head_of}
-use Rattle.oak_machine.specs.History.{Past}
+use Rattle.oak_machine.specs.History.{Past, Begin}
 use Rattle.oak_machine.specs.Laws.{Says, Starts, StartsProper}
 use Rattle.oak_machine.specs.Runs.{IsNode, IsRunOf}
 use Rattle.oak_machine.specs.Sessions.{is_recovered, is_recovery_of}
@@ -264,23 +264,25 @@ module _ (starts : Starts) (says : Says) (proper : StartsProper starts) (w : Sta
 
   -- ---- a step
 
-  module _ (u : State) (later : AreLayersKept starts says u) (added : Past) (past : u.past ≡ added ++ w.past) (clusters : u.clusters ≡ w.clusters) (sessions : u.sessions ≡ w.sessions) where
-    run_then : IsRunOf starts says w.clusters w.sessions None (added ++ w.past)
+  module _ (u : State) (later : AreLayersKept starts says u) (added : Past) (past : u.past ≡ added ++ w.past) (clusters : u.clusters ≡ w.clusters) (sessions : u.sessions ≡ w.sessions) (begin : u.begin ≡ w.begin) where
+    run_then : IsRunOf starts says w.clusters w.sessions w.begin (added ++ w.past)
     run_then =
-        subst (λ (p : Past). IsRunOf starts says w.clusters w.sessions None p) past
-        (subst (λ (ss : List ℕ). IsRunOf starts says w.clusters ss None u.past) sessions
-        (subst (λ (n : ℕ). IsRunOf starts says n u.sessions None u.past) clusters later.sessions.run))
+        subst (λ (p : Past). IsRunOf starts says w.clusters w.sessions w.begin p) past
+        (subst (λ (ss : List ℕ). IsRunOf starts says w.clusters ss w.begin u.past) sessions
+        (subst (λ (n : ℕ). IsRunOf starts says n u.sessions w.begin u.past) clusters
+        (subst (λ (b : Begin). IsRunOf starts says u.clusters u.sessions b u.past) begin later.sessions.run)))
 
     head_rises : (k : ℕ) → IsNode w.clusters k → is_below (memory_at w.memories k).head (memory_at u.memories k).head ≡ true
     head_rises k node =
-        let before : (memory_at w.memories k).head ≡ head_of w.clusters None w.past k = (kept.sessions.memories.memory k node).head in
-        let after : (memory_at u.memories k).head ≡ head_of w.clusters None (added ++ w.past) k =
+        let before : (memory_at w.memories k).head ≡ head_of w.clusters w.begin w.past k = (kept.sessions.memories.memory k node).head in
+        let after : (memory_at u.memories k).head ≡ head_of w.clusters w.begin (added ++ w.past) k =
         (later.sessions.memories.memory k (subst (λ (n : ℕ). IsNode n k) (sym clusters) node)).head
-        ∙ (ap (λ (n : ℕ). head_of n None u.past k) clusters
-        ∙ ap (λ (p : Past). head_of w.clusters None p k) past) in
+        ∙ (ap (λ (b : Begin). head_of u.clusters b u.past k) begin
+        ∙ (ap (λ (n : ℕ). head_of n w.begin u.past k) clusters
+        ∙ ap (λ (p : Past). head_of w.clusters w.begin p k) past)) in
         subst (λ (v : RevVec). is_below v (memory_at u.memories k).head ≡ true) (sym before)
-        (subst (λ (v : RevVec). is_below (head_of w.clusters None w.past k) v ≡ true) (sym after)
-        (grow_run w.clusters w.sessions kept.sessions.nodes None starts says added w.past run_then k node))
+        (subst (λ (v : RevVec). is_below (head_of w.clusters w.begin w.past k) v ≡ true) (sym after)
+        (grow_run w.clusters w.sessions kept.sessions.nodes w.begin starts says added w.past run_then k node))
 
     pub holding : ((k : ℕ) → IsNode w.clusters k → IsMemoryStep (memory_at w.memories k) (memory_at u.memories k)) → KeepsOrPins (kept_in u.table) → IsHoldingStep (holding_in w) (holding_in u)
     holding memories keeps = record {

@@ -21,12 +21,10 @@ use Rattle.oak_machine.specs.Commits.{is_committed, marks_of}
 use Rattle.oak_machine.specs.Runs.{MayCommit}
 use Rattle.oak_read.specs.Meaning.{documents_in}
 use Rattle.oak_store.specs.Tables.{Table, next_number, with_document}
-use Rattle.core_read.specs.Holds.{is_at_path, edit_of}
-use Rattle.core_read.specs.Told.{IsIn, IsTold}
+use Rattle.core_read.specs.Holds.{is_at_path}
+use Rattle.core_read.specs.Told.{IsIn}
 use Rattle.core_read.proofs.Updates.{last_same}
-use Rattle.core_keep.specs.Journal.{IsKeptWorld, IsHeld}
 use Rattle.core_keep.specs.Steps.{IsMainAt}
-use Rattle.core_keep.proofs.Events.{kept_last}
 use Rattle.core_watch.proofs.GoingOn.{on_last}
 use Rattle.core_watch.proofs.StayingOn.{formers_last}
 use Rattle.core_world.proofs.Letting.{LetsRead, lets_on}
@@ -51,20 +49,24 @@ use Rattle.core_world.proofs.Working.{goes, kept_name, mine, world_of}
 use Rattle.jr_rev.specs.declared.vector.Pin.{Pin}
 use Rattle.jr_rev.specs.Vectors.{sees}
 use Rattle.core_changes.proofs.Steps.{step_commit}
+use Rattle.oak_machine.specs.declared.event.Start.{Start}
+use Rattle.core_begun.proofs.Events.{kept_last}
+use Rattle.core_begun.specs.Kept.{IsKeptSince, IsHeldSince}
+use Rattle.core_begun.specs.Told.{edit_since, IsToldSince}
 
-module _ (past : Past) (t : Table) (running : ℕ → Option Running) (a : AreCommitting past t running) (told : IsTold past) (s : ℕ) (x : Running) (here : running s ≡ Some x) (uncommitted : x.committed ≡ false) (going : x.writer.undoing ≡ false)
+module _ (start : Start) (past : Past) (t : Table) (running : ℕ → Option Running) (a : AreCommitting start past t running) (told : IsToldSince start past) (s : ℕ) (x : Running) (here : running s ≡ Some x) (uncommitted : x.committed ≡ false) (going : x.writer.undoing ≡ false)
     (unmet : x.writer.due ≡ []) (none_left : x.writer.left ≡ []) where
   abbrev r : Revision
   r = x.draw.revision
 
   abbrev core : Rattle.core_clash.specs.Core.Core
-  core = core_in past t a.writers
+  core = core_in start past t a.writers
 
-  pub may_last : MayLast (core_in past t a.writers) x.draw
+  pub may_last : MayLast (core_in start past t a.writers) x.draw
   may_last = record {
-    going = goes past t running a told s x here uncommitted going;
-    unmet = ap (λ (w : Writer). w.due) (mine past t running a told s x here).writer ∙ unmet;
-    none_left = ap (λ (w : Writer). w.left) (mine past t running a told s x here).writer ∙ none_left;
+    going = goes start past t running a told s x here uncommitted going;
+    unmet = ap (λ (w : Writer). w.due) (mine start past t running a told s x here).writer ∙ unmet;
+    none_left = ap (λ (w : Writer). w.left) (mine start past t running a told s x here).writer ∙ none_left;
   }
 
   -- the marks of its draw
@@ -103,34 +105,34 @@ module _ (past : Past) (t : Table) (running : ℕ → Option Running) (a : AreCo
     free_there = subst (λ (ms : List MarkAt). is_some (collision (nodes_in t (commit_root ms)) r) ≡ false) (sym marks_are) free
 
     pub commit_follows : MayCommit past x.draw.revision
-    commit_follows = may_commit (core_in past t a.writers) x.draw a.sound may_last free_there
+    commit_follows = may_commit (core_in start past t a.writers) x.draw a.sound may_last free_there
 
-    sound_at : (ms : List MarkAt) → marks_of past r ≡ ms → Sound (record { number = next_number t; docs = Rattle.core_clash.specs.Core.with_document (nodes_in t) (commit_root ms) (doc ms); moved = moved_in t; past = later; writers = a.writers })
-    sound_at ms is = subst (λ (ms : List MarkAt). Sound (record { number = next_number t; docs = Rattle.core_clash.specs.Core.with_document (nodes_in t) (commit_root ms) (doc ms); moved = moved_in t; past = later; writers = a.writers })) is
-        (commit_keeps (core_in past t a.writers) x.draw (next_number t) (Rattle.core_clash.specs.Core.with_document (nodes_in t) (root_of past r) (doc (marks_of past r))) a.sound may_last (notes (nodes_in t) past r (next_number t) free_there))
+    sound_at : (ms : List MarkAt) → marks_of past r ≡ ms → Sound (record { old = sees start.at; number = next_number t; docs = Rattle.core_clash.specs.Core.with_document (nodes_in t) (commit_root ms) (doc ms); moved = moved_in t; past = later; writers = a.writers })
+    sound_at ms is = subst (λ (ms : List MarkAt). Sound (record { old = sees start.at; number = next_number t; docs = Rattle.core_clash.specs.Core.with_document (nodes_in t) (commit_root ms) (doc ms); moved = moved_in t; past = later; writers = a.writers })) is
+        (commit_keeps (core_in start past t a.writers) x.draw (next_number t) (Rattle.core_clash.specs.Core.with_document (nodes_in t) (root_of past r) (doc (marks_of past r))) a.sound may_last (notes (nodes_in t) past r (next_number t) free_there))
 
     main : IsMainAt (documents_in t.documents) (documents_in now.documents) (commit_root x.draw.marks) (doc x.draw.marks)
     main = put_main t (commit_root x.draw.marks) (doc x.draw.marks) (next_number t)
 
     same_but : IsSameBut r (commit_root x.draw.marks) (nodes_in t (commit_root x.draw.marks)) (doc x.draw.marks)
-    same_but = last_same r (commit_root x.draw.marks) (nodes_in t (commit_root x.draw.marks)) (op x.draw.marks) (next_number t) refl (kept_name (documents_in t.documents) past _ a.kept (commit_root x.draw.marks)) refl
+    same_but = last_same r (commit_root x.draw.marks) (nodes_in t (commit_root x.draw.marks)) (op x.draw.marks) (next_number t) refl (kept_name start (documents_in t.documents) past _ a.kept (commit_root x.draw.marks)) refl
 
-    sound : Sound (core_in later now a.writers)
-    sound = subst (λ (docs : Docs). Sound (record { number = next_number t; docs = docs; moved = moved_in now; past = later; writers = a.writers })) (sym (put_node t (commit_root x.draw.marks) (doc x.draw.marks) (next_number t)))
-        (subst (λ (moved : Path → List Document). Sound (record { number = next_number t; docs = Rattle.core_clash.specs.Core.with_document (nodes_in t) (commit_root x.draw.marks) (doc x.draw.marks); moved = moved; past = later; writers = a.writers })) (sym (moved_stays t now (commit_root x.draw.marks) (doc x.draw.marks) main same_but.whole)) (sound_at x.draw.marks marks_are))
+    sound : Sound (core_in start later now a.writers)
+    sound = subst (λ (docs : Docs). Sound (record { old = sees start.at; number = next_number t; docs = docs; moved = moved_in now; past = later; writers = a.writers })) (sym (put_node t (commit_root x.draw.marks) (doc x.draw.marks) (next_number t)))
+        (subst (λ (moved : Path → List Document). Sound (record { old = sees start.at; number = next_number t; docs = Rattle.core_clash.specs.Core.with_document (nodes_in t) (commit_root x.draw.marks) (doc x.draw.marks); moved = moved; past = later; writers = a.writers })) (sym (moved_stays t now (commit_root x.draw.marks) (doc x.draw.marks) main same_but.whole)) (sound_at x.draw.marks marks_are))
 
-    readable : IsKeptWorld (documents_in now.documents) later (λ q. is_among (a.writers q).written)
-    readable = kept_last (documents_in t.documents) (documents_in now.documents) past _ (world_of past t running a told) r x.draw may_last.going.draw commit_follows all_written (op x.draw.marks) (next_number t) refl refl main
+    readable : IsKeptSince start (documents_in now.documents) later (λ q. is_among (a.writers q).written)
+    readable = kept_last start (documents_in t.documents) (documents_in now.documents) past _ (world_of start past t running a told) r x.draw may_last.going.draw commit_follows all_written (op x.draw.marks) (next_number t) refl refl main
 
     theirs : (q : ℕ) (y : Running) → with_session running s (Some (record { draw = x.draw; writer = x.writer; committed = true })) q ≡ Some y → IsTheirs later a.writers q y
     theirs = at_session (IsTheirs later a.writers) running s _
-        (let m = mine past t running a told s x here in record { session = m.session; draw = m.draw; unended = m.unended; committed = ap (λ b. b || is_committed past r) (is_same_self r); writer = m.writer })
+        (let m = mine start past t running a told s x here in record { session = m.session; draw = m.draw; unended = m.unended; committed = ap (λ b. b || is_committed past r) (is_same_self r); writer = m.writer })
         (λ q y f h.
         let its = a.theirs q y h in
-        let other = of_others past a.writers s q x y (mine past t running a told s x here) its f in
+        let other = of_others past a.writers s q x y (mine start past t running a told s x here) its f in
         record { session = its.session; draw = its.draw; unended = its.unended; committed = ap (λ b. b || is_committed past y.draw.revision) other ∙ its.committed; writer = its.writer })
 
-    pub last_commits : AreCommitting later now (with_session running s (Some (record { draw = x.draw; writer = x.writer; committed = true })))
+    pub last_commits : AreCommitting start later now (with_session running s (Some (record { draw = x.draw; writer = x.writer; committed = true })))
     last_commits = record {
       writers = a.writers;
       sound = sound;
@@ -141,14 +143,14 @@ module _ (past : Past) (t : Table) (running : ℕ → Option Running) (a : AreCo
     }
 
     -- no pin that is held sees the revision
-    commit_edits : (pin : Pin) → IsHeld past pin.base pin.sweep → (q : Revision) → sees pin.base q ≡ true → edit_of later q ≡ edit_of past q
+    commit_edits : (pin : Pin) → IsHeldSince start past pin.base pin.sweep → (q : Revision) → sees pin.base q ≡ true → edit_since later q ≡ edit_since past q
     commit_edits pin held q seen =
-        (step_commit pin.base pin (documents_in t.documents) past _ (world_of past t running a told) (documents_in now.documents) r x.draw
+        (step_commit start pin.base pin (documents_in t.documents) past _ (world_of start past t running a told) (documents_in now.documents) r x.draw
         (record { to = held; used = held.base; above = held.above; below = λ o h. h }) may_last.going.draw commit_follows
-        (λ v h. on_last (record { base = v; sweep = pin.sweep }) (documents_in t.documents) (documents_in now.documents) past _ (world_of past t running a told) h r x.draw (op x.draw.marks) (next_number t) may_last.going.draw commit_follows refl refl main readable)).edits q seen
+        (λ v h. on_last start (record { base = v; sweep = pin.sweep }) (documents_in t.documents) (documents_in now.documents) past _ (world_of start past t running a told) h r x.draw (op x.draw.marks) (next_number t) may_last.going.draw commit_follows refl refl main readable)).edits q seen
 
     -- readers read on
-    pub commit_lets : LetsRead t now past later
-    commit_lets = lets_on t now past later told commit_edits
-        (λ pin held. on_last pin (documents_in t.documents) (documents_in now.documents) past _ (world_of past t running a told) held r x.draw (op x.draw.marks) (next_number t) may_last.going.draw commit_follows refl refl main readable)
-        (λ formers l. formers_last (documents_in t.documents) (documents_in now.documents) past _ (world_of past t running a told) r x.draw (op x.draw.marks) (next_number t) may_last.going.draw commit_follows refl refl main readable formers l) (λ q. refl) (λ q. refl)
+    pub commit_lets : LetsRead start t now past later
+    commit_lets = lets_on start t now past later told commit_edits
+        (λ pin held. on_last start pin (documents_in t.documents) (documents_in now.documents) past _ (world_of start past t running a told) held r x.draw (op x.draw.marks) (next_number t) may_last.going.draw commit_follows refl refl main readable)
+        (λ formers l. formers_last start (documents_in t.documents) (documents_in now.documents) past _ (world_of start past t running a told) r x.draw (op x.draw.marks) (next_number t) may_last.going.draw commit_follows refl refl main readable formers l) (λ q. refl) (λ q. refl)

@@ -21,7 +21,7 @@ use Rattle.oak_read.specs.Reading.{IsTable, answer, children_reader, due, fed, n
 use Rattle.core_clash.specs.Sessions.{Running}
 use Rattle.core_nodes.specs.Nodes.{cursor_owner}
 use Rattle.core_clash.specs.Collecting.{SeesBounded}
-use Rattle.core_world.specs.States.{base_in}
+use Rattle.core_world.specs.States.{base_in, origin}
 use Rattle.core_world.specs.Kept.{IsAboveBounds, AreLayersKept, IsBetweenPins}
 use Rattle.core_world.specs.Start.{start_state}
 use Rattle.core_world.specs.States.{State, actor_pin, history_in, memory_of}
@@ -44,27 +44,27 @@ start_whole starts says clusters sessions nodes = record { sessions = start_kept
 
 module _ (starts : Starts) (says : Says) (proper : StartsProper starts) (w : State) (kept : AreLayersKept starts says w) where
   pub login_whole : (s : ℕ) → IsFalse (is_stopped_under w.sessions w.past s) → IsTrue (is_some (slice_get w.sessions s)) → IsFalse (has_login w.past s) → AreLayersKept starts says (after_login w s)
-  login_whole s on there first = record { sessions = login_keeps starts says proper w kept.sessions s on there first; root = root_quiet w.clusters w.past w.table (event.Login s (memory_of w s).head) refl kept.root; settings = settings_quiet w.sessions w.past w.table w.table (event.Login s (memory_of w s).head) refl refl kept.settings }
+  login_whole s on there first = record { sessions = login_keeps starts says proper w kept.sessions s on there first; root = root_quiet w.clusters w.begin w.past w.table (event.Login s (memory_of w s).head) refl kept.root; settings = settings_quiet w.sessions w.past w.table w.table (event.Login s (memory_of w s).head) refl refl kept.settings }
 
   pub refresh_whole : (s : ℕ) → IsFalse (is_stopped_under w.sessions w.past s) → IsTrue (has_login w.past s) → IsFalse (has_left w.past s) → w.running s ≡ None → w.reading s ≡ None → w.observing s ≡ None → AreLayersKept starts says (after_refresh w s)
-  refresh_whole s on login stays none unread unobserved = record { sessions = refresh_keeps starts says proper w kept.sessions s on login stays none unread unobserved; root = root_quiet w.clusters w.past w.table (event.Refresh s (memory_of w s).head) refl kept.root; settings = settings_quiet w.sessions w.past w.table w.table (event.Refresh s (memory_of w s).head) refl refl kept.settings }
+  refresh_whole s on login stays none unread unobserved = record { sessions = refresh_keeps starts says proper w kept.sessions s on login stays none unread unobserved; root = root_quiet w.clusters w.begin w.past w.table (event.Refresh s (memory_of w s).head) refl kept.root; settings = settings_quiet w.sessions w.past w.table w.table (event.Refresh s (memory_of w s).head) refl refl kept.settings }
 
   pub leave_whole : (s : ℕ) → IsFalse (is_stopped_under w.sessions w.past s) → slice_get w.sessions (cursor_owner s) ≡ None → IsTrue (has_login w.past s) → IsFalse (has_left w.past s) → w.running s ≡ None → w.reading s ≡ None → w.observing s ≡ None → AreLayersKept starts says (after_leave w s)
-  leave_whole s on few login stays none unread unobserved = record { sessions = leave_keeps starts says proper w kept.sessions s on few login stays none unread unobserved; root = root_quiet w.clusters w.past w.table (event.Went s kind.End) refl kept.root; settings = settings_quiet w.sessions w.past w.table w.table (event.Went s kind.End) refl refl kept.settings }
+  leave_whole s on few login stays none unread unobserved = record { sessions = leave_keeps starts says proper w kept.sessions s on few login stays none unread unobserved; root = root_quiet w.clusters w.begin w.past w.table (event.Went s kind.End) refl kept.root; settings = settings_quiet w.sessions w.past w.table w.table (event.Went s kind.End) refl refl kept.settings }
 
   pub observe_whole : (s : ℕ) (pin : Pin) → slice_get w.sessions (cursor_owner s) ≡ None → IsTrue (has_login w.past s) → IsFalse (has_left w.past s) → w.reading s ≡ None → w.observing s ≡ None → pin_of (memory_of w s) s ≡ Some pin → AreLayersKept starts says (after_observe w s pin)
-  observe_whole s pin few login stays unread unobserved has = record { sessions = observe_keeps starts says proper w kept.sessions s few login stays unread unobserved pin has; root = root_quiet w.clusters w.past w.table (event.Went s kind.Pin) refl kept.root; settings = settings_quiet w.sessions w.past w.table w.table (event.Went s kind.Pin) refl refl kept.settings }
+  observe_whole s pin few login stays unread unobserved has = record { sessions = observe_keeps starts says proper w kept.sessions s few login stays unread unobserved pin has; root = root_quiet w.clusters w.begin w.past w.table (event.Went s kind.Pin) refl kept.root; settings = settings_quiet w.sessions w.past w.table w.table (event.Went s kind.Pin) refl refl kept.settings }
 
   pub said_whole : (s i : ℕ) (text : Text) → i ≡ next_index w.past s → says (history_in w) s i text → AreLayersKept starts says (after_said w s i text)
-  said_whole s i text next lawful = record { sessions = said_keeps starts says proper w kept.sessions s i text next lawful; root = root_quiet w.clusters w.past w.table (event.Said s i text) refl kept.root; settings = settings_quiet w.sessions w.past w.table w.table (event.Said s i text) refl refl kept.settings }
+  said_whole s i text next lawful = record { sessions = said_keeps starts says proper w kept.sessions s i text next lawful; root = root_quiet w.clusters w.begin w.past w.table (event.Said s i text) refl kept.root; settings = settings_quiet w.sessions w.past w.table w.table (event.Said s i text) refl refl kept.settings }
 
   pub went_whole : (s : ℕ) (k : StepKind) → IsFalse (is_kind k kind.End) → IsFalse (is_kind k kind.Pin) → IsTrue (has_login w.past s) → IsFalse (has_left w.past s) → AreLayersKept starts says (after_went w s k)
-  went_whole s k other apart login stays = record { sessions = went_keeps starts says proper w kept.sessions s k other apart login stays; root = root_quiet w.clusters w.past w.table (event.Went s k) refl kept.root; settings = settings_quiet w.sessions w.past w.table w.table (event.Went s k) refl refl kept.settings }
+  went_whole s k other apart login stays = record { sessions = went_keeps starts says proper w kept.sessions s k other apart login stays; root = root_quiet w.clusters w.begin w.past w.table (event.Went s k) refl kept.root; settings = settings_quiet w.sessions w.past w.table w.table (event.Went s k) refl refl kept.settings }
 
-  pub load_whole : (s : ℕ) (a : Global) (pin : Pin) (p : Path) → IsFalse (is_stopped_under w.sessions w.past s) → IsTrue (has_login w.past s) → IsFalse (has_left w.past s) → actor_pin w s ≡ Some pin → IsAboveBounds w.past pin → AreLayersKept starts says (with_reader w s (Some (node_reader a pin p)))
+  pub load_whole : (s : ℕ) (a : Global) (pin : Pin) (p : Path) → IsFalse (is_stopped_under w.sessions w.past s) → IsTrue (has_login w.past s) → IsFalse (has_left w.past s) → actor_pin w s ≡ Some pin → IsAboveBounds (origin w) w.past pin → AreLayersKept starts says (with_reader w s (Some (node_reader a pin p)))
   load_whole s a pin p on login stays has above = record { sessions = load_keeps starts says proper w kept.sessions s a pin p on (actor_live starts says proper w kept s login stays (node_alive starts says proper w kept.sessions s (session_there starts says proper w kept.sessions s login) on) pin has) (actor_pair starts says proper w kept s login stays pin has) above; root = kept.root; settings = kept.settings }
 
-  pub list_whole : (s : ℕ) (a : Global) (pin : Pin) (p : Path) → IsFalse (is_stopped_under w.sessions w.past s) → IsTrue (has_login w.past s) → IsFalse (has_left w.past s) → actor_pin w s ≡ Some pin → IsAboveBounds w.past pin → AreLayersKept starts says (with_reader w s (Some (children_reader a pin p)))
+  pub list_whole : (s : ℕ) (a : Global) (pin : Pin) (p : Path) → IsFalse (is_stopped_under w.sessions w.past s) → IsTrue (has_login w.past s) → IsFalse (has_left w.past s) → actor_pin w s ≡ Some pin → IsAboveBounds (origin w) w.past pin → AreLayersKept starts says (with_reader w s (Some (children_reader a pin p)))
   list_whole s a pin p on login stays has above = record { sessions = list_keeps starts says proper w kept.sessions s a pin p on (actor_live starts says proper w kept s login stays (node_alive starts says proper w kept.sessions s (session_there starts says proper w kept.sessions s login) on) pin has) (actor_pair starts says proper w kept s login stays pin has) above; root = kept.root; settings = kept.settings }
 
   pub read_whole : (s : ℕ) (r : Reader) → w.reading s ≡ Some r → IsTable w.table.documents → AreLayersKept starts says (with_reader w s (Some (fed r (answer w.table.documents (due r)))))
@@ -73,7 +73,7 @@ module _ (starts : Starts) (says : Says) (proper : StartsProper starts) (w : Sta
   pub gone_whole : (s : ℕ) → AreLayersKept starts says (with_reader w s None)
   gone_whole s = record { sessions = gone_keeps starts says proper w kept.sessions s; root = kept.root; settings = kept.settings }
 
-  pub notice_whole : (s : ℕ) (a : Global) (from : RevVec) (pin : Pin) → IsFalse (is_stopped_under w.sessions w.past s) → slice_get w.sessions (cursor_owner s) ≡ None → IsBetweenPins w.past s (changes_reader a from pin) → AreLayersKept starts says (with_observer w s (Some (changes_reader a from pin)))
+  pub notice_whole : (s : ℕ) (a : Global) (from : RevVec) (pin : Pin) → IsFalse (is_stopped_under w.sessions w.past s) → slice_get w.sessions (cursor_owner s) ≡ None → IsBetweenPins (origin w) w.past s (changes_reader a from pin) → AreLayersKept starts says (with_observer w s (Some (changes_reader a from pin)))
   notice_whole s a from pin on few between = record { sessions = notice_keeps starts says proper w kept.sessions s a from pin on few between; root = kept.root; settings = kept.settings }
 
   pub feed_whole : StartsWrite starts → (s : ℕ) (r : ChangesReader) → w.observing s ≡ Some r → IsTable w.table.documents → AreLayersKept starts says (with_observer w s (Some (fed_changes r (answer w.table.documents (due_changes r)))))
@@ -83,7 +83,7 @@ module _ (starts : Starts) (says : Says) (proper : StartsProper starts) (w : Sta
   unnotice_whole s = record { sessions = unnotice_keeps starts says proper w kept.sessions s; root = kept.root; settings = kept.settings }
 
   pub draw_whole : (s : ℕ) (edit : Edit) (marks : List MarkAt) (paths : List Path) → IsFalse (is_stopped_under w.sessions w.past s) → IsTrue (has_login w.past s) → IsFalse (has_left w.past s) → IsFalse (is_attached w.past s) → w.running s ≡ None → starts (history_in w) s edit marks → SeesBounded w.past (base_in w s) → AreLayersKept starts says (after_draw w s edit marks paths)
-  draw_whole s edit marks paths on login stays detached none lawful bounded = record { sessions = draw_keeps starts says proper w kept.sessions s (node_alive starts says proper w kept.sessions s (session_there starts says proper w kept.sessions s login) on) login stays on detached none edit marks lawful bounded paths; root = root_quiet w.clusters w.past w.table (event.Draw (draw_in w s edit marks)) refl kept.root; settings = settings_quiet w.sessions w.past w.table w.table (event.Draw (draw_in w s edit marks)) refl refl kept.settings }
+  draw_whole s edit marks paths on login stays detached none lawful bounded = record { sessions = draw_keeps starts says proper w kept.sessions s (node_alive starts says proper w kept.sessions s (session_there starts says proper w kept.sessions s login) on) login stays on detached none edit marks lawful bounded paths; root = root_quiet w.clusters w.begin w.past w.table (event.Draw (draw_in w s edit marks)) refl kept.root; settings = settings_quiet w.sessions w.past w.table w.table (event.Draw (draw_in w s edit marks)) refl refl kept.settings }
 
   pub write_whole : (s : ℕ) (x : Running) (p : Path) (rest : List Path) → w.running s ≡ Some x → IsFalse x.committed → IsFalse x.writer.undoing → x.writer.due ≡ [] → x.writer.left ≡ p ∷ rest → AreLayersKept starts says (after_write w s x p rest)
   write_whole s x p rest here uncommitted going unmet next = record { sessions = write_keeps starts says proper w kept.sessions s x here uncommitted going p rest unmet next; root = write_rooted w kept.root s x p rest; settings = write_set w kept.settings s x p }

@@ -8,7 +8,7 @@ use Rattle.jr_rev.specs.Revisions.{is_same}
 use Rattle.oak_machine.specs.declared.event.Draw.{Draw}
 use Rattle.oak_machine.specs.declared.event.Event.{Event}
 use Rattle.oak_machine.specs.declared.event.Event.TheVariants as event
-use Rattle.oak_machine.specs.History.{Past}
+use Rattle.oak_machine.specs.History.{Past, Begin}
 use Rattle.oak_machine.specs.Commits.{draw_of}
 use Rattle.oak_machine.specs.Laws.{Says, Starts}
 use Rattle.oak_machine.specs.Runs.{IsRunOf}
@@ -27,9 +27,9 @@ pub record IsDrawnBy (sessions : List ℕ) (past : Past) (r : Revision) (d : Dra
   pub login : has_login past d.session ≡ true
   pub node : slice_get sessions d.session ≡ Some d.revision.cluster
 
-module _ (starts : Starts) (says : Says) (clusters : ℕ) (sessions : List ℕ) where
+module _ (starts : Starts) (says : Says) (clusters : ℕ) (sessions : List ℕ) (begin : Begin) where
   -- it is a session of a cluster node
-  pub login_node : (past : Past) (s : ℕ) → IsRunOf starts says clusters sessions None past → has_login past s ≡ true → is_some (slice_get sessions s) ≡ true
+  pub login_node : (past : Past) (s : ℕ) → IsRunOf starts says clusters sessions begin past → has_login past s ≡ true → is_some (slice_get sessions s) ≡ true
   login_node [] s run h = absurd (false≢true h)
   login_node (event.Login t v ∷ past) s run h = by (λ k. login_node past s run.1 k) (t == s) refl h
     where
@@ -41,7 +41,7 @@ module _ (starts : Starts) (says : Says) (clusters : ℕ) (sessions : List ℕ) 
   later_drawn : (e : Event) (past : Past) (r : Revision) (d : Draw) → IsDrawnBy sessions past r d → IsDrawnBy sessions (e ∷ past) r d
   later_drawn e past r d by = record { named = by.named; login = or_right (is_login_of d.session e) _ by.login; node = by.node }
 
-  pub drawn_by : (past : Past) (r : Revision) (d : Draw) → IsRunOf starts says clusters sessions None past → draw_of past r ≡ Some d → IsDrawnBy sessions past r d
+  pub drawn_by : (past : Past) (r : Revision) (d : Draw) → IsRunOf starts says clusters sessions begin past → draw_of past r ≡ Some d → IsDrawnBy sessions past r d
   drawn_by [] r d run h = absurd (false≢true (ap (λ o. is_some o) h))
   drawn_by (event.Draw e ∷ past) r d run h = by (λ k. drawn_by past r d run.1 k) (is_same r e.revision) refl h
     where

@@ -17,7 +17,7 @@ use Rattle.oak_machine.specs.declared.event.Draw.{Draw}
 use Rattle.oak_machine.specs.declared.event.Event.{Event}
 use Rattle.oak_machine.specs.declared.event.Event.TheVariants as event
 use Rattle.oak_machine.specs.declared.event.StepKind.TheVariants as kind
-use Rattle.oak_machine.specs.History.{Past}
+use Rattle.oak_machine.specs.History.{Past, Begin}
 use Rattle.oak_machine.specs.Laws.{Says, Starts}
 use Rattle.oak_machine.specs.Runs.{AreNodes, IsNode, IsRunOf}
 use Rattle.oak_machine.specs.Sessions.{has_left, is_stopped}
@@ -65,15 +65,15 @@ at_memory P ms k m j lk hk lj here there = by (j == k) refl
     by true h = subst (λ (n : ℕ). P n (memory_at (with_memory ms k m) n)) (sym (same_number j k h)) (subst (P k) (sym (set_here ms k m lk hk)) here)
     by false h = subst (P j) (sym (set_there ms k m j lk lj h)) (there h)
 
-module _ (starts : Starts) (says : Says) (clusters : ℕ) (sessions : List ℕ) (nodes : AreNodes clusters sessions) (past : Past) (ms : List NodeState) (are : AreMemories clusters sessions past ms) where
+module _ (starts : Starts) (says : Says) (clusters : ℕ) (sessions : List ℕ) (begin : Begin) (nodes : AreNodes clusters sessions) (past : Past) (ms : List NodeState) (are : AreMemories begin clusters sessions past ms) where
   -- a step on the memory of cluster node k
-  pub step_on : (k : ℕ) → IsNode clusters k → (m : NodeState) (later : Past) → IsMemoryOf None clusters later k m → ArePinsOf sessions later k m
-      → ((j : ℕ) → IsNode clusters j → (j == k) ≡ false → IsMemoryOf None clusters later j (memory_at ms j))
+  pub step_on : (k : ℕ) → IsNode clusters k → (m : NodeState) (later : Past) → IsMemoryOf begin clusters later k m → ArePinsOf sessions later k m
+      → ((j : ℕ) → IsNode clusters j → (j == k) ≡ false → IsMemoryOf begin clusters later j (memory_at ms j))
       → ((j : ℕ) → IsNode clusters j → (j == k) ≡ false → ArePinsOf sessions later j (memory_at ms j))
-      → AreMemories clusters sessions later (with_memory ms k m)
+      → AreMemories begin clusters sessions later (with_memory ms k m)
   step_on k node m later memory pins memories all_pins = record {
     counted = length-set ms (k - 1) m ∙ are.counted;
-    memory = λ j of. at_memory (λ i x. IsMemoryOf None clusters later i x) ms k m j node.0 within of.0 memory (memories j of);
+    memory = λ j of. at_memory (λ i x. IsMemoryOf begin clusters later i x) ms k m j node.0 within of.0 memory (memories j of);
     pins = λ j of. at_memory (λ i x. ArePinsOf sessions later i x) ms k m j node.0 within of.0 pins (all_pins j of);
   }
     where
@@ -81,10 +81,10 @@ module _ (starts : Starts) (says : Says) (clusters : ℕ) (sessions : List ℕ) 
       within = subst (λ (n : ℕ). k ≤ n) (sym are.counted) node.1
 
   -- an event that leaves all memories
-  pub aside : (e : Event) → IsRunOf starts says clusters sessions None (e ∷ past) → ((j : ℕ) → leaves_memory j e ≡ true) → ((j : ℕ) → leaves_pins sessions j e ≡ true) → AreMemories clusters sessions (e ∷ past) ms
+  pub aside : (e : Event) → IsRunOf starts says clusters sessions begin (e ∷ past) → ((j : ℕ) → leaves_memory j e ≡ true) → ((j : ℕ) → leaves_pins sessions j e ≡ true) → AreMemories begin clusters sessions (e ∷ past) ms
   aside e run leaves leaves_all = record {
     counted = are.counted;
-    memory = λ j of. apart_run None starts says clusters sessions nodes e past j (memory_at ms j) run (leaves j) (are.memory j of);
+    memory = λ j of. apart_run begin starts says clusters sessions nodes e past j (memory_at ms j) run (leaves j) (are.memory j of);
     pins = λ j of. pins_kept sessions past j (memory_at ms j) (are.pins j of) e (leaves_all j);
   }
 
@@ -102,36 +102,36 @@ module _ (starts : Starts) (says : Says) (clusters : ℕ) (sessions : List ℕ) 
         by false e = refl
         by true e = absurd (other_number j k h (sym (same_number k j e)))
 
-    pub login_memories : (v : RevVec) → IsRunOf starts says clusters sessions None (event.Login s v ∷ past) → AreMemories clusters sessions (event.Login s v ∷ past) (with_memory ms k (pinned (memory_at ms k) s))
+    pub login_memories : (v : RevVec) → IsRunOf starts says clusters sessions begin (event.Login s v ∷ past) → AreMemories begin clusters sessions (event.Login s v ∷ past) (with_memory ms k (pinned (memory_at ms k) s))
     login_memories v run = step_on k node (pinned (memory_at ms k) s) (event.Login s v ∷ past)
-        (let is = apart_run None starts says clusters sessions nodes (event.Login s v) past k (memory_at ms k) run refl (are.memory k node) in
-        Rattle.core_nodes.proofs.Events.pins_kept None clusters (event.Login s v ∷ past) k (memory_at ms k) _ is (insert_sorted s (pin_now (memory_at ms k)) (memory_at ms k).pins is.memory.owners))
-        (login_run None starts says clusters sessions nodes past k (memory_at ms k) (are.memory k node) (are.pins k node) s v run on)
-        (λ j of h. apart_run None starts says clusters sessions nodes (event.Login s v) past j (memory_at ms j) run refl (are.memory j of))
+        (let is = apart_run begin starts says clusters sessions nodes (event.Login s v) past k (memory_at ms k) run refl (are.memory k node) in
+        Rattle.core_nodes.proofs.Events.pins_kept begin clusters (event.Login s v ∷ past) k (memory_at ms k) _ is (insert_sorted s (pin_now (memory_at ms k)) (memory_at ms k).pins is.memory.owners))
+        (login_run begin starts says clusters sessions nodes past k (memory_at ms k) (are.memory k node) (are.pins k node) s v run on)
+        (λ j of h. apart_run begin starts says clusters sessions nodes (event.Login s v) past j (memory_at ms j) run refl (are.memory j of))
         (λ j of h. pins_kept sessions past j (memory_at ms j) (are.pins j of) (event.Login s v) (of_other j h))
 
-    pub refresh_memories : (v : RevVec) → IsRunOf starts says clusters sessions None (event.Refresh s v ∷ past) → has_left past s ≡ false → AreMemories clusters sessions (event.Refresh s v ∷ past) (with_memory ms k (pinned (memory_at ms k) s))
+    pub refresh_memories : (v : RevVec) → IsRunOf starts says clusters sessions begin (event.Refresh s v ∷ past) → has_left past s ≡ false → AreMemories begin clusters sessions (event.Refresh s v ∷ past) (with_memory ms k (pinned (memory_at ms k) s))
     refresh_memories v run stays = step_on k node (pinned (memory_at ms k) s) (event.Refresh s v ∷ past)
-        (let is = apart_run None starts says clusters sessions nodes (event.Refresh s v) past k (memory_at ms k) run refl (are.memory k node) in
-        Rattle.core_nodes.proofs.Events.pins_kept None clusters (event.Refresh s v ∷ past) k (memory_at ms k) _ is (insert_sorted s (pin_now (memory_at ms k)) (memory_at ms k).pins is.memory.owners))
-        (refresh_run None starts says clusters sessions nodes past k (memory_at ms k) (are.memory k node) (are.pins k node) s v run on stays)
-        (λ j of h. apart_run None starts says clusters sessions nodes (event.Refresh s v) past j (memory_at ms j) run refl (are.memory j of))
+        (let is = apart_run begin starts says clusters sessions nodes (event.Refresh s v) past k (memory_at ms k) run refl (are.memory k node) in
+        Rattle.core_nodes.proofs.Events.pins_kept begin clusters (event.Refresh s v ∷ past) k (memory_at ms k) _ is (insert_sorted s (pin_now (memory_at ms k)) (memory_at ms k).pins is.memory.owners))
+        (refresh_run begin starts says clusters sessions nodes past k (memory_at ms k) (are.memory k node) (are.pins k node) s v run on stays)
+        (λ j of h. apart_run begin starts says clusters sessions nodes (event.Refresh s v) past j (memory_at ms j) run refl (are.memory j of))
         (λ j of h. pins_kept sessions past j (memory_at ms j) (are.pins j of) (event.Refresh s v) (of_other j h))
 
-    pub leave_memories : slice_get sessions (cursor_owner s) ≡ None → IsRunOf starts says clusters sessions None (event.Went s kind.End ∷ past) → AreMemories clusters sessions (event.Went s kind.End ∷ past) (with_memory ms k (without_session (memory_at ms k) s))
+    pub leave_memories : slice_get sessions (cursor_owner s) ≡ None → IsRunOf starts says clusters sessions begin (event.Went s kind.End ∷ past) → AreMemories begin clusters sessions (event.Went s kind.End ∷ past) (with_memory ms k (without_session (memory_at ms k) s))
     leave_memories none run = step_on k node (without_session (memory_at ms k) s) (event.Went s kind.End ∷ past)
-        (let is = apart_run None starts says clusters sessions nodes (event.Went s kind.End) past k (memory_at ms k) run refl (are.memory k node) in
-        Rattle.core_nodes.proofs.Events.pins_kept None clusters (event.Went s kind.End ∷ past) k (memory_at ms k) _ is (remove_sorted (cursor_owner s) _ (remove_sorted s (memory_at ms k).pins is.memory.owners)))
-        (leave_run None clusters sessions past k (memory_at ms k) (are.memory k node) (are.pins k node) s on none)
-        (λ j of h. apart_run None starts says clusters sessions nodes (event.Went s kind.End) past j (memory_at ms j) run refl (are.memory j of))
+        (let is = apart_run begin starts says clusters sessions nodes (event.Went s kind.End) past k (memory_at ms k) run refl (are.memory k node) in
+        Rattle.core_nodes.proofs.Events.pins_kept begin clusters (event.Went s kind.End ∷ past) k (memory_at ms k) _ is (remove_sorted (cursor_owner s) _ (remove_sorted s (memory_at ms k).pins is.memory.owners)))
+        (leave_run begin clusters sessions past k (memory_at ms k) (are.memory k node) (are.pins k node) s on none)
+        (λ j of h. apart_run begin starts says clusters sessions nodes (event.Went s kind.End) past j (memory_at ms j) run refl (are.memory j of))
         (λ j of h. pins_kept sessions past j (memory_at ms j) (are.pins j of) (event.Went s kind.End) (of_other j h))
 
-    pub observe_memories : slice_get sessions (cursor_owner s) ≡ None → (pin : Pin) → pin_of (memory_at ms k) s ≡ Some pin → IsRunOf starts says clusters sessions None (event.Went s kind.Pin ∷ past) → AreMemories clusters sessions (event.Went s kind.Pin ∷ past) (with_memory ms k (with_pin (memory_at ms k) (cursor_owner s) pin))
+    pub observe_memories : slice_get sessions (cursor_owner s) ≡ None → (pin : Pin) → pin_of (memory_at ms k) s ≡ Some pin → IsRunOf starts says clusters sessions begin (event.Went s kind.Pin ∷ past) → AreMemories begin clusters sessions (event.Went s kind.Pin ∷ past) (with_memory ms k (with_pin (memory_at ms k) (cursor_owner s) pin))
     observe_memories none pin has run = step_on k node (with_pin (memory_at ms k) (cursor_owner s) pin) (event.Went s kind.Pin ∷ past)
-        (let is = apart_run None starts says clusters sessions nodes (event.Went s kind.Pin) past k (memory_at ms k) run refl (are.memory k node) in
-        Rattle.core_nodes.proofs.Events.pins_kept None clusters (event.Went s kind.Pin ∷ past) k (memory_at ms k) _ is (insert_sorted (cursor_owner s) pin (memory_at ms k).pins is.memory.owners))
+        (let is = apart_run begin starts says clusters sessions nodes (event.Went s kind.Pin) past k (memory_at ms k) run refl (are.memory k node) in
+        Rattle.core_nodes.proofs.Events.pins_kept begin clusters (event.Went s kind.Pin ∷ past) k (memory_at ms k) _ is (insert_sorted (cursor_owner s) pin (memory_at ms k).pins is.memory.owners))
         (cursor_put sessions past k (memory_at ms k) (are.pins k node) s pin on none has)
-        (λ j of h. apart_run None starts says clusters sessions nodes (event.Went s kind.Pin) past j (memory_at ms j) run refl (are.memory j of))
+        (λ j of h. apart_run begin starts says clusters sessions nodes (event.Went s kind.Pin) past j (memory_at ms j) run refl (are.memory j of))
         (λ j of h. pins_kept sessions past j (memory_at ms j) (are.pins j of) (event.Went s kind.Pin) (of_other j h))
 
   -- ---- draws and ends
@@ -143,9 +143,9 @@ module _ (starts : Starts) (says : Says) (clusters : ℕ) (sessions : List ℕ) 
     pairs = λ owner pin h. has.pairs owner pin (sym (ap (λ (ps : List (ℕ × Pin)). lookup (is_at (nat_cmp owner)) ps) same) ∙ h);
   }
 
-  notes_memory : (later : Past) (k : ℕ) (r : Revision) (paths : List Path) (m : NodeState) → r ≡ last_draw m → IsMemoryOf None clusters later k m → IsMemoryOf None clusters later k (after_notes r m paths)
+  notes_memory : (later : Past) (k : ℕ) (r : Revision) (paths : List Path) (m : NodeState) → r ≡ last_draw m → IsMemoryOf begin clusters later k m → IsMemoryOf begin clusters later k (after_notes r m paths)
   notes_memory later k r [] m last is = is
-  notes_memory later k r (p ∷ ps) m last is = notes_memory later k r ps (with_note m p r) last (note_kept None clusters later k m p r last is)
+  notes_memory later k r (p ∷ ps) m last is = notes_memory later k r ps (with_note m p r) last (note_kept begin clusters later k m p r last is)
 
   notes_pins : (later : Past) (k : ℕ) (r : Revision) (paths : List Path) (m : NodeState) → ArePinsOf sessions later k m → ArePinsOf sessions later k (after_notes r m paths)
   notes_pins later k r [] m has = has
@@ -158,53 +158,53 @@ module _ (starts : Starts) (says : Says) (clusters : ℕ) (sessions : List ℕ) 
       by false e = refl
       by true e = absurd (other_number j k h (sym (same_number k j e)))
 
-  pub draw_memories : (d : Draw) → IsRunOf starts says clusters sessions None (event.Draw d ∷ past) → d.revision ≡ next_draw (memory_at ms d.revision.cluster) → (paths : List Path)
-      → AreMemories clusters sessions (event.Draw d ∷ past) (with_memory ms d.revision.cluster (after_notes d.revision (with_draw (memory_at ms d.revision.cluster) d.revision) paths))
+  pub draw_memories : (d : Draw) → IsRunOf starts says clusters sessions begin (event.Draw d ∷ past) → d.revision ≡ next_draw (memory_at ms d.revision.cluster) → (paths : List Path)
+      → AreMemories begin clusters sessions (event.Draw d ∷ past) (with_memory ms d.revision.cluster (after_notes d.revision (with_draw (memory_at ms d.revision.cluster) d.revision) paths))
   draw_memories d run next paths =
       let k = d.revision.cluster in
       let node : IsNode clusters k = nodes.node d.session k run.0.cluster in
       step_on k node (after_notes d.revision (with_draw (memory_at ms k) d.revision) paths) (event.Draw d ∷ past)
-      (notes_memory (event.Draw d ∷ past) k d.revision paths (with_draw (memory_at ms k) d.revision) (drawn_last (memory_at ms k) d.revision next) (subst (λ (r : Revision). IsMemoryOf None clusters (event.Draw d ∷ past) k (with_draw (memory_at ms k) r)) (sym next) (draw_run None starts says clusters sessions nodes d past run (memory_at ms k) (are.memory k node))))
+      (notes_memory (event.Draw d ∷ past) k d.revision paths (with_draw (memory_at ms k) d.revision) (drawn_last (memory_at ms k) d.revision next) (subst (λ (r : Revision). IsMemoryOf begin clusters (event.Draw d ∷ past) k (with_draw (memory_at ms k) r)) (sym next) (draw_run begin starts says clusters sessions nodes d past run (memory_at ms k) (are.memory k node))))
       (notes_pins (event.Draw d ∷ past) k d.revision paths _ (same_pins (event.Draw d ∷ past) k (memory_at ms k) (with_draw (memory_at ms k) d.revision) refl (pins_kept sessions past k (memory_at ms k) (are.pins k node) (event.Draw d) refl)))
-      (λ j of h. apart_run None starts says clusters sessions nodes (event.Draw d) past j (memory_at ms j) run (apart_node j k h) (are.memory j of))
+      (λ j of h. apart_run begin starts says clusters sessions nodes (event.Draw d) past j (memory_at ms j) run (apart_node j k h) (are.memory j of))
       (λ j of h. pins_kept sessions past j (memory_at ms j) (are.pins j of) (event.Draw d) refl)
 
-  pub end_memories : (r : Revision) → IsNode clusters r.cluster → IsRunOf starts says clusters sessions None (event.End r ∷ past) → AreMemories clusters sessions (event.End r ∷ past) (with_memory ms r.cluster (finished (memory_at ms r.cluster) r))
+  pub end_memories : (r : Revision) → IsNode clusters r.cluster → IsRunOf starts says clusters sessions begin (event.End r ∷ past) → AreMemories begin clusters sessions (event.End r ∷ past) (with_memory ms r.cluster (finished (memory_at ms r.cluster) r))
   end_memories r node run =
       step_on r.cluster node (finished (memory_at ms r.cluster) r) (event.End r ∷ past)
-      (end_run None starts says clusters sessions nodes r past run (memory_at ms r.cluster) (are.memory r.cluster node))
+      (end_run begin starts says clusters sessions nodes r past run (memory_at ms r.cluster) (are.memory r.cluster node))
       (same_pins (event.End r ∷ past) r.cluster (memory_at ms r.cluster) (finished (memory_at ms r.cluster) r) refl (pins_kept sessions past r.cluster (memory_at ms r.cluster) (are.pins r.cluster node) (event.End r) refl))
-      (λ j of h. apart_run None starts says clusters sessions nodes (event.End r) past j (memory_at ms j) run (apart_node j r.cluster h) (are.memory j of))
+      (λ j of h. apart_run begin starts says clusters sessions nodes (event.End r) past j (memory_at ms j) run (apart_node j r.cluster h) (are.memory j of))
       (λ j of h. pins_kept sessions past j (memory_at ms j) (are.pins j of) (event.End r) refl)
 
   -- ---- what a node learns
 
-  pub learn_memories : (k : ℕ) → IsNode clusters k → is_stopped past k ≡ false → (n : ℕ) (last sweep : RevVec) → IsOnRoot None clusters (drop n past) last sweep → IsRunOf starts says clusters sessions None past
-      → IsRunOf starts says clusters sessions None (event.In k (learned (memory_at ms k) last sweep).head ∷ past)
-      × AreMemories clusters sessions (event.In k (learned (memory_at ms k) last sweep).head ∷ past) (with_memory ms k (learned (memory_at ms k) last sweep))
+  pub learn_memories : (k : ℕ) → IsNode clusters k → is_stopped past k ≡ false → (n : ℕ) (last sweep : RevVec) → IsOnRoot begin clusters (drop n past) last sweep → IsRunOf starts says clusters sessions begin past
+      → IsRunOf starts says clusters sessions begin (event.In k (learned (memory_at ms k) last sweep).head ∷ past)
+      × AreMemories begin clusters sessions (event.In k (learned (memory_at ms k) last sweep).head ∷ past) (with_memory ms k (learned (memory_at ms k) last sweep))
   learn_memories k node goes n last sweep root run =
       let m = learned (memory_at ms k) last sweep in
-      let learns = learn_run None starts says clusters sessions nodes past run k n node goes (memory_at ms k) (are.memory k node) last sweep root in (
+      let learns = learn_run begin starts says clusters sessions nodes past run k n node goes (memory_at ms k) (are.memory k node) last sweep root in (
         learns.0,
         step_on k node m (event.In k m.head ∷ past) learns.1
             (same_pins (event.In k m.head ∷ past) k (memory_at ms k) m refl (pins_kept sessions past k (memory_at ms k) (are.pins k node) (event.In k m.head) refl))
-            (λ j of h. apart_run None starts says clusters sessions nodes (event.In k m.head) past j (memory_at ms j) learns.0 (apart_node j k h) (are.memory j of))
+            (λ j of h. apart_run begin starts says clusters sessions nodes (event.In k m.head) past j (memory_at ms j) learns.0 (apart_node j k h) (are.memory j of))
             (λ j of h. pins_kept sessions past j (memory_at ms j) (are.pins j of) (event.In k m.head) refl),
       )
 
   -- a step of a session that takes the notes that its node's head sees
-  pub pending_memories : (s k : ℕ) → IsNode clusters k → IsRunOf starts says clusters sessions None (event.Went s kind.Back ∷ past) → AreMemories clusters sessions (event.Went s kind.Back ∷ past) (with_memory ms k (without_seen (memory_at ms k)))
+  pub pending_memories : (s k : ℕ) → IsNode clusters k → IsRunOf starts says clusters sessions begin (event.Went s kind.Back ∷ past) → AreMemories begin clusters sessions (event.Went s kind.Back ∷ past) (with_memory ms k (without_seen (memory_at ms k)))
   pending_memories s k node run =
       let e : Event = event.Went s kind.Back in
       step_on k node (without_seen (memory_at ms k)) (e ∷ past)
-      (drop_kept None clusters (e ∷ past) k (memory_at ms k) (apart_run None starts says clusters sessions nodes e past k (memory_at ms k) run refl (are.memory k node)))
+      (drop_kept begin clusters (e ∷ past) k (memory_at ms k) (apart_run begin starts says clusters sessions nodes e past k (memory_at ms k) run refl (are.memory k node)))
       (same_pins (e ∷ past) k (memory_at ms k) (without_seen (memory_at ms k)) refl (pins_kept sessions past k (memory_at ms k) (are.pins k node) e refl))
-      (λ j of h. apart_run None starts says clusters sessions nodes e past j (memory_at ms j) run refl (are.memory j of))
+      (λ j of h. apart_run begin starts says clusters sessions nodes e past j (memory_at ms j) run refl (are.memory j of))
       (λ j of h. pins_kept sessions past j (memory_at ms j) (are.pins j of) e refl)
 
   -- a node that learns how far its own sweep went, which is at most its local revision
-  pub swept_memories : (s k : ℕ) → IsNode clusters k → (r : Revision) → r.cluster ≡ k → is_at_most r (local None past k) ≡ true → IsRunOf starts says clusters sessions None (event.Went s kind.Learn ∷ past)
-      → AreMemories clusters sessions (event.Went s kind.Learn ∷ past) (with_memory ms k (swept_to (memory_at ms k) r))
+  pub swept_memories : (s k : ℕ) → IsNode clusters k → (r : Revision) → r.cluster ≡ k → is_at_most r (local begin past k) ≡ true → IsRunOf starts says clusters sessions begin (event.Went s kind.Learn ∷ past)
+      → AreMemories begin clusters sessions (event.Went s kind.Learn ∷ past) (with_memory ms k (swept_to (memory_at ms k) r))
   swept_memories s k node r of low run =
       let e : Event = event.Went s kind.Learn in
       let m = memory_at ms k in
@@ -237,7 +237,7 @@ module _ (starts : Starts) (says : Says) (clusters : ℕ) (sessions : List ℕ) 
         };
       })
       (same_pins (e ∷ past) k m (swept_to m r) refl (pins_kept sessions past k m (are.pins k node) e refl))
-      (λ j on h. apart_run None starts says clusters sessions nodes e past j (memory_at ms j) run refl (are.memory j on))
+      (λ j on h. apart_run begin starts says clusters sessions nodes e past j (memory_at ms j) run refl (are.memory j on))
       (λ j on h. pins_kept sessions past j (memory_at ms j) (are.pins j on) e refl)
     where
       own : (x : Revision) → (sees (memory_at ms k).sweep x ≡ true) ⊎ ((x.cluster ≡ r.cluster) × (is_at_most x r ≡ true)) → sees (memory_at ms k).head x ≡ true
@@ -245,4 +245,4 @@ module _ (starts : Starts) (says : Says) (clusters : ℕ) (sessions : List ℕ) 
       own x (inr p) =
           let n = nodes.eight in let u = node.1 in
           subst (λ (v : RevVec). sees v x ≡ true) (sym (are.memory k node).head)
-          (head_own clusters None past k x node.0 (omega arith) ((sound_run clusters sessions nodes None starts says past run.1).ins k node).eight (p.0 ∙ of) (at_most_trans x r (local None past k) p.1 low))
+          (head_own clusters begin past k x node.0 (omega arith) ((sound_run clusters sessions nodes begin starts says past run.1).ins k node).eight (p.0 ∙ of) (at_most_trans x r (local begin past k) p.1 low))

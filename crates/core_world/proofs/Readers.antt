@@ -6,7 +6,7 @@ use mathlib.Core.Bool.{false≢true}
 use Rattle.jr_rev.specs.declared.revision.Revision.{Revision}
 use Rattle.jr_rev.specs.declared.vector.RevVec.{RevVec}
 use Rattle.oak_machine.specs.declared.event.Event.{Event}
-use Rattle.oak_machine.specs.History.{Past}
+use Rattle.oak_machine.specs.History.{Past, Begin}
 use Rattle.oak_machine.specs.Commits.{is_commit_of}
 use Rattle.oak_machine.specs.declared.event.Event.TheVariants as event
 use Rattle.oak_machine.specs.declared.event.StepKind.TheVariants as kind
@@ -22,8 +22,6 @@ use Rattle.core_heads.proofs.Later.{held_kept}
 use Rattle.core_heads.proofs.Runs.{later_run, sound_run}
 use Rattle.core_read.specs.World.{Progress}
 use Rattle.core_read.specs.Holds.{IsSwept}
-use Rattle.core_read.specs.Told.{IsInUse}
-use Rattle.core_keep.specs.Journal.{IsHeld as IsHeldPair, IsKeptWorld}
 use Rattle.core_nodes.specs.Nodes.{IsPair}
 use Rattle.jr_rev.specs.declared.vector.Pin.{Pin}
 use Rattle.jr_rev.specs.Vectors.{sees}
@@ -32,6 +30,12 @@ use Rattle.core_keep.specs.Formers.{Formers}
 use Rattle.core_world.specs.Kept.{AreReading, IsAboveBounds, live_base}
 use Rattle.core_world.proofs.Letting.{is_bound, LetsRead, lets_calm}
 use Rattle.core_world.proofs.Flights.{same_number}
+use Rattle.oak_machine.specs.declared.event.Start.{Start}
+use Rattle.core_begun.specs.Kept.{IsHeldSince as IsHeldPair, IsKeptSince}
+use Rattle.core_begun.specs.Told.{IsInUseSince}
+use Rattle.core_begun.proofs.Runs.{in_use_since}
+use Rattle.core_read.specs.Told.{IsInUse}
+use Rattle.core_clash.proofs.Basics.{or_left}
 
 -- ---- a pin of a session
 
@@ -113,32 +117,28 @@ live_left past (event.Attach t id) s h = ap (λ b. cond (has_login past s && not
 live_left past (event.Went t kind.End) s h = ap (λ b. cond (has_login past s && not (b || has_left past s)) (base_of past s) None) h
 live_left past e s h = refl
 
--- what goes with a vector in use has swept
-pub pair_swept : (past : Past) (v t : RevVec) → IsInUse past v → IsPair v t → IsSwept past t
-pair_swept past v t used pair = record { begun = pair.begun; quiet = λ r seen none. by r seen (is_in_flight past r) refl }
+-- a pair in use that is above the bounds so far is held
+pub pair_held : (start : Start) (past : Past) (x : Pin) → IsInUse past x.base → IsPair x.base x.sweep → IsAboveBounds start past x → IsHeldPair start past x.base x.sweep
+pair_held start past x used pair above = record { base = in_use_since start past x.base used (λ o old. above.base o (or_left (sees start.at o) _ old)); quiet = λ r seen none. by r seen (is_in_flight past r) refl; above = above.base; swept = above.sweep }
   where
-    by : (r : Revision) → sees t r ≡ true → (b : Bool) → is_in_flight past r ≡ b → b ≡ false
+    by : (r : Revision) → sees x.sweep r ≡ true → (b : Bool) → is_in_flight past r ≡ b → b ≡ false
     by r seen false f = refl
     by r seen true f = absurd (false≢true (sym (used.settled r f) ∙ pair.below r seen))
 
--- a pair in use that is above the bounds so far is held
-pub pair_held : (past : Past) (x : Pin) → IsInUse past x.base → IsPair x.base x.sweep → IsAboveBounds past x → IsHeldPair past x.base x.sweep
-pair_held past x used pair above = record { base = used; sweep = pair_swept past x.base x.sweep used pair; above = above.base; swept = above.sweep }
-
-module _ (past : Past) (t : Table) (formers : Formers) (reading : ℕ → Option Reader) (are : AreReading past t formers reading) (held : (s : ℕ) (r : Reader) → reading s ≡ Some r → IsHeldPair past r.pin.base r.pin.sweep) where
+module _ (start : Start) (past : Past) (t : Table) (formers : Formers) (reading : ℕ → Option Reader) (are : AreReading start past t formers reading) (held : (s : ℕ) (r : Reader) → reading s ≡ Some r → IsHeldPair start past r.pin.base r.pin.sweep) where
   -- an event, with documents by which each reader reads on
-  pub event_reads : (e : Event) (u : Table) → LetsRead t u past (e ∷ past) → ((s : ℕ) (r : Reader) → reading s ≡ Some r → moves_base_of s e ≡ false) → AreReading (e ∷ past) u formers reading
+  pub event_reads : (e : Event) (u : Table) → LetsRead start t u past (e ∷ past) → ((s : ℕ) (r : Reader) → reading s ≡ Some r → moves_base_of s e ≡ false) → AreReading start (e ∷ past) u formers reading
   event_reads e u lets apart = record {
     told = lets.tells formers are.told;
     reads = λ s r h. lets.reads formers r (held s r h) (are.reads s r h);
-    above = λ s r h. record { base = λ q b. (are.above s r h).base q (sym (lets.bounds q) ∙ b); sweep = λ q b. (are.above s r h).sweep q (sym (lets.sweeps q) ∙ b) };
+    above = λ s r h. record { base = λ q b. (are.above s r h).base q (sym (ap (λ c. sees start.at q || c) (lets.bounds q)) ∙ b); sweep = λ q b. (are.above s r h).sweep q (sym (ap (λ c. sees start.at q || c) (lets.sweeps q)) ∙ b) };
     at_base = λ s r h. live_left past e s (apart s r h) ∙ are.at_base s r h;
     pairs = are.pairs;
   }
 
   -- an event that is no Commit and no Bound, where no document is changed
-  pub quiet_reads : (done : Progress) → IsKeptWorld (documents_in t.documents) past done → (e : Event) → ((q : Revision) → is_commit_of q e ≡ false) → is_bound e ≡ false → ((s : ℕ) (r : Reader) → reading s ≡ Some r → moves_base_of s e ≡ false) → AreReading (e ∷ past) t formers reading
-  quiet_reads done world e h calm apart = event_reads e t (lets_calm t past done world e h calm) apart
+  pub quiet_reads : (done : Progress) → IsKeptSince start (documents_in t.documents) past done → (e : Event) → ((q : Revision) → is_commit_of q e ≡ false) → is_bound e ≡ false → ((s : ℕ) (r : Reader) → reading s ≡ Some r → moves_base_of s e ≡ false) → AreReading start (e ∷ past) t formers reading
+  quiet_reads done world e h calm apart = event_reads e t (lets_calm start t past done world e h calm) apart
 
   -- an event that moves the pin of one session, which reads nothing
   pub apart_from : (s : ℕ) → reading s ≡ None → (q : ℕ) (r : Reader) → reading q ≡ Some r → (s == q) ≡ false
@@ -148,7 +148,7 @@ module _ (past : Past) (t : Table) (formers : Formers) (reading : ℕ → Option
       by false e = refl
       by true e = absurd (false≢true (ap (λ (o : Option Reader). is_some o) (sym none ∙ (ap reading (same_number s q e) ∙ h))))
 
-  pub pin_reads : (done : Progress) → IsKeptWorld (documents_in t.documents) past done → (e : Event) (s : ℕ) → ((q : Revision) → is_commit_of q e ≡ false) → is_bound e ≡ false → moved_base e ≡ Some s → reading s ≡ None → AreReading (e ∷ past) t formers reading
+  pub pin_reads : (done : Progress) → IsKeptSince start (documents_in t.documents) past done → (e : Event) (s : ℕ) → ((q : Revision) → is_commit_of q e ≡ false) → is_bound e ≡ false → moved_base e ≡ Some s → reading s ≡ None → AreReading start (e ∷ past) t formers reading
   pin_reads done world e s h calm moved none = quiet_reads done world e h calm (λ q r k. ap (λ o. option_map_or (λ n. n == q) o false) moved ∙ apart_from s none q r k)
 
 -- ---- pins of memories
@@ -169,16 +169,16 @@ some_pinned (event.Refresh t v ∷ past) s login = by (some_pinned past s login)
 some_pinned (e ∷ past) s login = some_pinned past s login
 
 -- a vector at which a session was pinned is held, also while it is attached
-pub pinned_held : (starts : Starts) (says : Says) (clusters : ℕ) (sessions : List ℕ) (nodes : AreNodes clusters sessions) (past : Past) → IsRunOf starts says clusters sessions None past → (s : ℕ) (v : RevVec) → pinned_at past s ≡ Some v → IsHeld None past v
-pinned_held starts says clusters sessions nodes [] run s v h = absurd (false≢true (ap is_some h))
-pinned_held starts says clusters sessions nodes (event.Login t u ∷ past) run s v h = by (λ k. pinned_held starts says clusters sessions nodes past run.1 s v k) (t == s) refl
+pub pinned_held : (starts : Starts) (says : Says) (clusters : ℕ) (sessions : List ℕ) (begin : Begin) (nodes : AreNodes clusters sessions) (past : Past) → IsRunOf starts says clusters sessions begin past → (s : ℕ) (v : RevVec) → pinned_at past s ≡ Some v → IsHeld begin past v
+pinned_held starts says clusters sessions begin nodes [] run s v h = absurd (false≢true (ap is_some h))
+pinned_held starts says clusters sessions begin nodes (event.Login t u ∷ past) run s v h = by (λ k. pinned_held starts says clusters sessions begin nodes past run.1 s v k) (t == s) refl
   where
-    by : (pinned_at past s ≡ Some v → IsHeld None past v) → (b : Bool) → (t == s) ≡ b → IsHeld None (event.Login t u ∷ past) v
-    by rest true e = (sound_run clusters sessions nodes None starts says (event.Login t u ∷ past) run).bases s v (ap (λ b. cond b (Some u) (base_of past s)) e ∙ (sym (ap (λ b. cond b (Some u) (pinned_at past s)) e) ∙ h))
-    by rest false e = held_kept clusters None past (event.Login t u ∷ past) (later_run clusters sessions nodes None starts says (event.Login t u) past run) v (rest (sym (ap (λ b. cond b (Some u) (pinned_at past s)) e) ∙ h))
-pinned_held starts says clusters sessions nodes (event.Refresh t u ∷ past) run s v h = by (λ k. pinned_held starts says clusters sessions nodes past run.1 s v k) (t == s) refl
+    by : (pinned_at past s ≡ Some v → IsHeld begin past v) → (b : Bool) → (t == s) ≡ b → IsHeld begin (event.Login t u ∷ past) v
+    by rest true e = (sound_run clusters sessions nodes begin starts says (event.Login t u ∷ past) run).bases s v (ap (λ b. cond b (Some u) (base_of past s)) e ∙ (sym (ap (λ b. cond b (Some u) (pinned_at past s)) e) ∙ h))
+    by rest false e = held_kept clusters begin past (event.Login t u ∷ past) (later_run clusters sessions nodes begin starts says (event.Login t u) past run) v (rest (sym (ap (λ b. cond b (Some u) (pinned_at past s)) e) ∙ h))
+pinned_held starts says clusters sessions begin nodes (event.Refresh t u ∷ past) run s v h = by (λ k. pinned_held starts says clusters sessions begin nodes past run.1 s v k) (t == s) refl
   where
-    by : (pinned_at past s ≡ Some v → IsHeld None past v) → (b : Bool) → (t == s) ≡ b → IsHeld None (event.Refresh t u ∷ past) v
-    by rest true e = (sound_run clusters sessions nodes None starts says (event.Refresh t u ∷ past) run).bases s v (ap (λ b. cond b (Some u) (base_of past s)) e ∙ (sym (ap (λ b. cond b (Some u) (pinned_at past s)) e) ∙ h))
-    by rest false e = held_kept clusters None past (event.Refresh t u ∷ past) (later_run clusters sessions nodes None starts says (event.Refresh t u) past run) v (rest (sym (ap (λ b. cond b (Some u) (pinned_at past s)) e) ∙ h))
-pinned_held starts says clusters sessions nodes (e ∷ past) run s v h = held_kept clusters None past (e ∷ past) (later_run clusters sessions nodes None starts says e past run) v (pinned_held starts says clusters sessions nodes past run.1 s v h)
+    by : (pinned_at past s ≡ Some v → IsHeld begin past v) → (b : Bool) → (t == s) ≡ b → IsHeld begin (event.Refresh t u ∷ past) v
+    by rest true e = (sound_run clusters sessions nodes begin starts says (event.Refresh t u ∷ past) run).bases s v (ap (λ b. cond b (Some u) (base_of past s)) e ∙ (sym (ap (λ b. cond b (Some u) (pinned_at past s)) e) ∙ h))
+    by rest false e = held_kept clusters begin past (event.Refresh t u ∷ past) (later_run clusters sessions nodes begin starts says (event.Refresh t u) past run) v (rest (sym (ap (λ b. cond b (Some u) (pinned_at past s)) e) ∙ h))
+pinned_held starts says clusters sessions begin nodes (e ∷ past) run s v h = held_kept clusters begin past (e ∷ past) (later_run clusters sessions nodes begin starts says e past run) v (pinned_held starts says clusters sessions begin nodes past run.1 s v h)

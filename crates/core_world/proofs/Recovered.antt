@@ -18,7 +18,7 @@ use Rattle.oak_doc.specs.Updates.{of_revision}
 use Rattle.oak_machine.specs.declared.event.Draw.{Draw}
 use Rattle.oak_machine.specs.declared.event.Event.{Event}
 use Rattle.oak_machine.specs.declared.event.Event.TheVariants as event
-use Rattle.oak_machine.specs.History.{Past}
+use Rattle.oak_machine.specs.History.{Past, Begin}
 use Rattle.oak_machine.specs.Commits.{draw_of, is_committed, is_drawn, is_ended, is_in_base, is_in_flight, is_commit_of}
 use Rattle.oak_machine.specs.Heads.{draws_by, flying}
 use Rattle.oak_machine.specs.Laws.{Says, Starts, StartsProper}
@@ -33,14 +33,13 @@ use Rattle.oak_read.specs.declared.reader.Reader.{Reader}
 use Rattle.oak_store.specs.Tables.{Table}
 use Rattle.core_read.specs.Committing.{IsPartly, IsUnwritten}
 use Rattle.core_read.specs.Holds.{root_entry}
-use Rattle.core_read.specs.Told.{IsIn, IsTold}
+use Rattle.core_read.specs.Told.{IsIn}
 use Rattle.core_keep.specs.Formers.{Formers}
 use Rattle.core_keep.specs.Holding.{IsHoldingStep}
-use Rattle.core_keep.specs.Journal.{IsHeld as IsHeldPair, IsKeptWorld, is_bounded, is_swept}
-use Rattle.core_keep.proofs.Events.{kept_end}
+use Rattle.core_keep.specs.Journal.{is_bounded, is_swept}
 use Rattle.core_heads.proofs.Locals.{draws_in}
 use Rattle.core_heads.proofs.Orders.{and_both, filter_in}
-use Rattle.core_heads.proofs.Runs.{held_in_use, sound_run, told_past}
+use Rattle.core_heads.proofs.Runs.{held_in_use, sound_run}
 use Rattle.core_clash.specs.Core.{IsCleared, IsDead, with_writer}
 use Rattle.core_clash.specs.Sessions.{IsTheirs, Running}
 use Rattle.core_clash.proofs.Basics.{decide, not_both, same_revision, some_of, writer_other}
@@ -51,7 +50,7 @@ use Rattle.core_nodes.proofs.Lists.{reverse_in}
 use Rattle.core_nodes.proofs.Recovering.{ends_before, none_flies, recovered_pins, recovered_pins_apart, recovery_apart, recovery_run}
 use Rattle.core_world.specs.Held.{holding_in}
 use Rattle.core_world.specs.Kept.{AreAtWork, AreCommitting, AreLayersKept, AreReading, AreSessionsKept, AreSettingsKept, IsKept, IsPinned, IsRootKept, has_written, AreObserving}
-use Rattle.core_world.specs.States.{State, core_in, memory_at, node_of, nodes_in, reader_pin}
+use Rattle.core_world.specs.States.{State, core_in, memory_at, node_of, nodes_in, reader_pin, origin}
 use Rattle.core_world.specs.Steps.{after_recover}
 use Rattle.core_world.proofs.Finishing.{committed_edit, quiet_commits, unswept}
 use Rattle.core_world.proofs.Flights.{number_itself, work_quiet}
@@ -66,6 +65,11 @@ use Rattle.core_world.proofs.Whole.{goes, layers_of}
 use Rattle.oak_changes.specs.declared.changes.ChangesReader.{ChangesReader}
 use Rattle.core_world.proofs.Letting.{is_bound, lets_calm}
 use Rattle.core_world.proofs.Observers.{event_observes, moves_pin_of}
+use Rattle.oak_machine.specs.declared.event.Start.{Start}
+use Rattle.core_begun.proofs.Runs.{told_run}
+use Rattle.core_begun.proofs.Events.{kept_end}
+use Rattle.core_begun.specs.Kept.{IsHeldSince as IsHeldPair, IsKeptSince}
+use Rattle.core_begun.specs.Told.{IsToldSince, start_in}
 
 never : {A : Type 0} → false ≡ true → A
 never h = absurd (false≢true h)
@@ -91,7 +95,7 @@ unwritten : (o : Option Document) (r : Revision) → ((m : Mark) → marked o r 
 unwritten None r marks root = none_unwritten r
 unwritten (Some d) r marks root = record { node = ap (λ (o : Option Bool). option_map not o) (none_is (of_revision d.deleted r) (marks mark.Exists)); prop = λ n. none_is _ (marks (mark.Prop n)); root = none_is _ root }
 
-module _ (past : Past) (t : Table) (running : ℕ → Option Running) (a : AreCommitting past t running) (told : IsTold past) (d : Draw) (drawn : draw_of past d.revision ≡ Some d) (flies : is_in_flight past d.revision ≡ true)
+module _ (start : Start) (past : Past) (t : Table) (running : ℕ → Option Running) (a : AreCommitting start past t running) (told : IsToldSince start past) (d : Draw) (drawn : draw_of past d.revision ≡ Some d) (flies : is_in_flight past d.revision ≡ true)
     (stopped : is_stopped past d.revision.cluster ≡ true) (clean : is_committed past d.revision ≡ false → IsCleared (nodes_in t) d.revision) where
   abbrev r : Revision
   r = d.revision
@@ -123,13 +127,13 @@ module _ (past : Past) (t : Table) (running : ℕ → Option Running) (a : AreCo
       record { session = its.session; draw = its.draw; unended = ap (λ b. b || is_ended past y.draw.revision) (other_than q y h) ∙ its.unended; committed = its.committed; writer = same y.draw.revision (other_than q y h) ∙ its.writer }
 
   -- what is committed
-  committed_ends : is_committed past r ≡ true → AreCommitting later t running
+  committed_ends : is_committed past r ≡ true → AreCommitting start later t running
   committed_ends c = record {
     writers = a.writers;
-    sound = finish_keeps (core_in past t a.writers) d a.sound (record { draw = drawn; unended = unended; done = inl c });
+    sound = finish_keeps (core_in start past t a.writers) d a.sound (record { draw = drawn; unended = unended; done = inl c });
     theirs = theirs a.writers (λ q f. refl);
     listed = a.listed;
-    kept = kept_end (documents_in t.documents) past _ a.kept r d drawn flies (λ none p. committed_edit past t running a told r (unswept past t running a told r flies) c none);
+    kept = kept_end start (documents_in t.documents) past _ a.kept r d drawn flies (λ none p. committed_edit start past t running a told r (unswept start past t running a told r flies) c none);
     unstopped = a.unstopped;
   }
 
@@ -140,11 +144,11 @@ module _ (past : Past) (t : Table) (running : ℕ → Option Running) (a : AreCo
       stopped = stopped;
       draw = drawn;
       uncommitted = u;
-      other = λ e. not_both (is_in_base past r r) (subst (λ (x : Revision). is_in_base past r x ≡ true) (sym e) (a.sound.start r (ap (λ (o : Option Draw). is_some o) drawn))) (a.sound.settled r r flies);
     }
 
-    nothing_left : IsKeptWorld (documents_in t.documents) past (λ q. has_written (with_writer a.writers r v q))
+    nothing_left : IsKeptSince start (documents_in t.documents) past (λ q. has_written (with_writer a.writers r v q))
     nothing_left = record {
+      first = a.kept.first;
       keeps = a.kept.keeps;
       told = a.kept.told;
       separate = a.kept.separate;
@@ -159,20 +163,20 @@ module _ (past : Past) (t : Table) (running : ℕ → Option Running) (a : AreCo
             (record { written_ = λ p h. never h; left = λ p h. unwritten (nodes_in t p) r ((clean u).marks p) ((clean u).roots p) }))
         by q f (inr n) part = subst (λ (w : Writer). IsPartly (documents_in t.documents) q f.edit.writes (commit_root f.marks) (has_written w)) (sym (writer_other a.writers r v q n)) part
 
-    dead_ends : AreCommitting later t running
+    dead_ends : AreCommitting start later t running
     dead_ends = record {
       writers = with_writer a.writers r v;
-      sound = drop_keeps (core_in past t a.writers) d a.sound (record { dead = dead; unended = unended; cleared = clean u });
+      sound = drop_keeps (core_in start past t a.writers) d a.sound (record { dead = dead; unended = unended; cleared = clean u });
       theirs = theirs (with_writer a.writers r v) (writer_other a.writers r v);
       listed = a.listed;
-      kept = kept_end (documents_in t.documents) past _ nothing_left r d drawn flies (λ none p. ap (λ (w : Writer). has_written w p) (Rattle.core_clash.proofs.Basics.writer_mine a.writers r v));
+      kept = kept_end start (documents_in t.documents) past _ nothing_left r d drawn flies (λ none p. ap (λ (w : Writer). has_written w p) (Rattle.core_clash.proofs.Basics.writer_mine a.writers r v));
       unstopped = a.unstopped;
     }
 
-  pub draw_ends : AreCommitting later t running
+  pub draw_ends : AreCommitting start later t running
   draw_ends = by (is_committed past r) refl
     where
-      by : (b : Bool) → is_committed past r ≡ b → AreCommitting later t running
+      by : (b : Bool) → is_committed past r ≡ b → AreCommitting start later t running
       by true c = committed_ends c
       by false u = dead_ends u
 
@@ -188,33 +192,33 @@ ends_added : (rs : List Revision) (past : Past) → (added : Past) × (after_end
 ends_added [] past = ([], refl)
 ends_added (r ∷ rs) past = let rest = ends_added rs (event.End r ∷ past) in (rest.0 ++ event.End r ∷ [], rest.1 ∙ sym (append_assoc rest.0 (event.End r ∷ []) past))
 
-module _ (starts : Starts) (says : Says) (proper : StartsProper starts) (clusters : ℕ) (sessions : List ℕ) (nodes : AreNodes clusters sessions) (t : Table) (running : ℕ → Option Running) (formers : Formers) (reading : ℕ → Option Reader) (observing : ℕ → Option ChangesReader) where
+module _ (starts : Starts) (says : Says) (proper : StartsProper starts) (clusters : ℕ) (sessions : List ℕ) (begin : Begin) (nodes : AreNodes clusters sessions) (t : Table) (running : ℕ → Option Running) (formers : Formers) (reading : ℕ → Option Reader) (observing : ℕ → Option ChangesReader) where
   -- the committers and the readers over some past
   pub record AreWorking (past : Past) : Type 0 where
-    pub committing : AreCommitting past t running
+    pub committing : AreCommitting (start_in clusters begin) past t running
     pub working : AreAtWork sessions past running reading
-    pub readers : AreReading past t formers reading
-    pub observers : AreObserving sessions past t formers observing
+    pub readers : AreReading (start_in clusters begin) past t formers reading
+    pub observers : AreObserving (start_in clusters begin) sessions past t formers observing
 
   -- an event without a change of documents that touches neither
-  module _ (past : Past) (run : IsRunOf starts says clusters sessions None past) (are : AreWorking past) where
-    told_so : IsTold past
-    told_so = told_past clusters sessions nodes starts says proper past run
+  module _ (past : Past) (run : IsRunOf starts says clusters sessions begin past) (are : AreWorking past) where
+    told_so : IsToldSince (start_in clusters begin) past
+    told_so = told_run starts says proper clusters sessions nodes begin past run
 
-    held : (s : ℕ) (r : Reader) → reading s ≡ Some r → IsHeldPair past r.pin.base r.pin.sweep
-    held s r h = pair_held past r.pin (held_in_use None past r.pin.base ((sound_run clusters sessions nodes None starts says past run).bases s r.pin.base (live_is past s r.pin.base (are.readers.at_base s r h)).base)) (are.readers.pairs s r h) (are.readers.above s r h)
+    held : (s : ℕ) (r : Reader) → reading s ≡ Some r → IsHeldPair (start_in clusters begin) past r.pin.base r.pin.sweep
+    held s r h = pair_held (start_in clusters begin) past r.pin (held_in_use begin past r.pin.base ((sound_run clusters sessions nodes begin starts says past run).bases s r.pin.base (live_is past s r.pin.base (are.readers.at_base s r h)).base)) (are.readers.pairs s r h) (are.readers.above s r h)
 
     -- readers of changes over such an event
-    observes_quiet : (e : Event) → IsRunOf starts says clusters sessions None (e ∷ past) → ((k : ℕ) → is_stop_of k e ≡ false) → ((q : Revision) → is_commit_of q e ≡ false) → is_bound e ≡ false → ((s : ℕ) → moves_pin_of s e ≡ false) → AreCommitting (e ∷ past) t running
-        → AreObserving sessions (e ∷ past) t formers observing
-    observes_quiet e later on calm unbound stays committing = event_observes starts says clusters sessions nodes proper past e later t t formers observing are.observers on (λ s r h. stays s) (λ q. has_written (committing.writers q)) committing.kept
-        (lets_calm t past (λ q. has_written (are.committing.writers q)) are.committing.kept e calm unbound)
+    observes_quiet : (e : Event) → IsRunOf starts says clusters sessions begin (e ∷ past) → ((k : ℕ) → is_stop_of k e ≡ false) → ((q : Revision) → is_commit_of q e ≡ false) → is_bound e ≡ false → ((s : ℕ) → moves_pin_of s e ≡ false) → AreCommitting (start_in clusters begin) (e ∷ past) t running
+        → AreObserving (start_in clusters begin) sessions (e ∷ past) t formers observing
+    observes_quiet e later on calm unbound stays committing = event_observes starts says clusters sessions begin nodes proper past e later t t formers observing are.observers on (λ s r h. stays s) (λ q. has_written (committing.writers q)) committing.kept
+        (lets_calm (start_in clusters begin) t past (λ q. has_written (are.committing.writers q)) are.committing.kept e calm unbound)
 
-    one_ends : (k : ℕ) (r : Revision) → IsRunOf starts says clusters sessions None (event.End r ∷ past) → r.cluster ≡ k → is_stopped past k ≡ true → is_in_flight past r ≡ true → (is_committed past r ≡ false → IsCleared (nodes_in t) r) → AreWorking (event.End r ∷ past)
+    one_ends : (k : ℕ) (r : Revision) → IsRunOf starts says clusters sessions begin (event.End r ∷ past) → r.cluster ≡ k → is_stopped past k ≡ true → is_in_flight past r ≡ true → (is_committed past r ≡ false → IsCleared (nodes_in t) r) → AreWorking (event.End r ∷ past)
     one_ends k r later of stopped flies clean = record {
       committing = committing;
       working = work_quiet sessions past running reading are.working (event.End r) refl (λ q. refl) (λ j. refl);
-      readers = quiet_reads past t formers reading are.readers held (λ q. has_written (are.committing.writers q)) are.committing.kept (event.End r) (λ q. refl) refl (λ s x h. refl);
+      readers = quiet_reads (start_in clusters begin) past t formers reading are.readers held (λ q. has_written (are.committing.writers q)) are.committing.kept (event.End r) (λ q. refl) refl (λ s x h. refl);
       observers = observes_quiet (event.End r) later (λ j. refl) (λ q. refl) refl (λ s. refl) committing;
     }
       where
@@ -224,29 +228,29 @@ module _ (starts : Starts) (says : Says) (proper : StartsProper starts) (cluster
         same : d.0.revision ≡ r
         same = revision_is past r d.0 d.1
 
-        committing : AreCommitting (event.End r ∷ past) t running
-        committing = subst (λ (x : Revision). AreCommitting (event.End x ∷ past) t running) same
-            (draw_ends past t running are.committing told_so d.0 (ap (draw_of past) same ∙ d.1) (subst (λ (x : Revision). is_in_flight past x ≡ true) (sym same) flies)
+        committing : AreCommitting (start_in clusters begin) (event.End r ∷ past) t running
+        committing = subst (λ (x : Revision). AreCommitting (start_in clusters begin) (event.End x ∷ past) t running) same
+            (draw_ends (start_in clusters begin) past t running are.committing told_so d.0 (ap (draw_of past) same ∙ d.1) (subst (λ (x : Revision). is_in_flight past x ≡ true) (sym same) flies)
             (subst (λ (x : Revision). is_stopped past x.cluster ≡ true) (sym same) (ap (is_stopped past) of ∙ stopped))
             (subst (λ (x : Revision). is_committed past x ≡ false → IsCleared (nodes_in t) x) (sym same) clean))
 
-    recover_quiet : (k : ℕ) → IsRunOf starts says clusters sessions None (event.Recover k ∷ past) → AreWorking (event.Recover k ∷ past)
+    recover_quiet : (k : ℕ) → IsRunOf starts says clusters sessions begin (event.Recover k ∷ past) → AreWorking (event.Recover k ∷ past)
     recover_quiet k later = record {
-      committing = quiet_commits past t running are.committing told_so (event.Recover k) refl (λ j. refl);
+      committing = quiet_commits (start_in clusters begin) past t running are.committing told_so (event.Recover k) refl (λ j. refl);
       working = work_quiet sessions past running reading are.working (event.Recover k) refl (λ q. refl) (λ j. refl);
-      readers = quiet_reads past t formers reading are.readers held (λ q. has_written (are.committing.writers q)) are.committing.kept (event.Recover k) (λ q. refl) refl (λ s x h. refl);
-      observers = observes_quiet (event.Recover k) later (λ j. refl) (λ q. refl) refl (λ s. refl) (quiet_commits past t running are.committing told_so (event.Recover k) refl (λ j. refl));
+      readers = quiet_reads (start_in clusters begin) past t formers reading are.readers held (λ q. has_written (are.committing.writers q)) are.committing.kept (event.Recover k) (λ q. refl) refl (λ s x h. refl);
+      observers = observes_quiet (event.Recover k) later (λ j. refl) (λ q. refl) refl (λ s. refl) (quiet_commits (start_in clusters begin) past t running are.committing told_so (event.Recover k) refl (λ j. refl));
     }
 
-  all_end : (k : ℕ) (rs : List Revision) (past : Past) → IsRunOf starts says clusters sessions None (after_ends rs past) → is_stopped past k ≡ true
+  all_end : (k : ℕ) (rs : List Revision) (past : Past) → IsRunOf starts says clusters sessions begin (after_ends rs past) → is_stopped past k ≡ true
       → ((r : Revision) → IsIn r rs → (r.cluster ≡ k) × (is_committed past r ≡ false → IsCleared (nodes_in t) r)) → AreWorking past → AreWorking (after_ends rs past)
   all_end k [] past run stopped of are = are
   all_end k (r ∷ rs) past run stopped of are =
-      let before = ends_before None starts says clusters sessions nodes rs (event.End r ∷ past) run in
+      let before = ends_before begin starts says clusters sessions nodes rs (event.End r ∷ past) run in
       let first = of r (inl refl) in
       all_end k rs (event.End r ∷ past) run stopped (λ q i. of q (inr i)) (one_ends past before.1 are k r before first.0 stopped before.0 first.1)
 
-  recovered_work : (k : ℕ) (past : Past) → IsRunOf starts says clusters sessions None (after_recovery past k) → is_stopped past k ≡ true
+  recovered_work : (k : ℕ) (past : Past) → IsRunOf starts says clusters sessions begin (after_recovery past k) → is_stopped past k ≡ true
       → ((r : Revision) → r.cluster ≡ k → is_in_flight past r ≡ true → is_committed past r ≡ false → IsCleared (nodes_in t) r) → AreWorking past → AreWorking (after_recovery past k)
   recovered_work k past run stopped clean are = recover_quiet (after_ends (reverse (flying past k)) past) run.1 (all_end k (reverse (flying past k)) past run.1 stopped of are) k run
     where
@@ -265,11 +269,11 @@ module _ (starts : Starts) (says : Says) (proper : StartsProper starts) (w : Sta
   recovered = after_recovery w.past k
 
   module _ (kept : AreSessionsKept starts says w) where
-    runs : IsRunOf starts says w.clusters w.sessions None (after_recovery w.past k)
-    runs = (recovery_run None starts says w.clusters w.sessions kept.nodes k node w.past (memory_at w.memories k) kept.run stopped (kept.memories.memory k node)).0
+    runs : IsRunOf starts says w.clusters w.sessions w.begin (after_recovery w.past k)
+    runs = (recovery_run w.begin starts says w.clusters w.sessions kept.nodes k node w.past (memory_at w.memories k) kept.run stopped (kept.memories.memory k node)).0
 
-    works : AreWorking starts says proper w.clusters w.sessions kept.nodes w.table w.running w.formers w.reading w.observing (after_recovery w.past k)
-    works = recovered_work starts says proper w.clusters w.sessions kept.nodes w.table w.running w.formers w.reading w.observing k w.past runs stopped clean
+    works : AreWorking starts says proper w.clusters w.sessions w.begin kept.nodes w.table w.running w.formers w.reading w.observing (after_recovery w.past k)
+    works = recovered_work starts says proper w.clusters w.sessions w.begin kept.nodes w.table w.running w.formers w.reading w.observing k w.past runs stopped clean
         (record { committing = kept.committing; working = kept.working; readers = kept.readers; observers = kept.observers })
 
     turned : (j : ℕ) → (j == k) ≡ false → (k == j) ≡ false
@@ -281,19 +285,19 @@ module _ (starts : Starts) (says : Says) (proper : StartsProper starts) (w : Sta
       run = runs;
       committing = works.committing;
       working = works.working;
-      memories = step_on starts says w.clusters w.sessions kept.nodes w.past w.memories kept.memories k node (with_recovery (memory_at w.memories k)) (after_recovery w.past k)
-          (recovery_run None starts says w.clusters w.sessions kept.nodes k node w.past (memory_at w.memories k) kept.run stopped (kept.memories.memory k node)).1
+      memories = step_on starts says w.clusters w.sessions w.begin kept.nodes w.past w.memories kept.memories k node (with_recovery (memory_at w.memories k)) (after_recovery w.past k)
+          (recovery_run w.begin starts says w.clusters w.sessions kept.nodes k node w.past (memory_at w.memories k) kept.run stopped (kept.memories.memory k node)).1
           (recovered_pins w.sessions w.past k (memory_at w.memories k))
-          (λ j on h. recovery_apart None starts says w.clusters w.sessions kept.nodes w.past k j (memory_at w.memories j) runs (turned j h) (kept.memories.memory j on))
+          (λ j on h. recovery_apart w.begin starts says w.clusters w.sessions kept.nodes w.past k j (memory_at w.memories j) runs (turned j h) (kept.memories.memory j on))
           (λ j on h. recovered_pins_apart w.sessions w.past k j (memory_at w.memories j) (turned j h) (kept.memories.pins j on));
       readers = works.readers;
       observers = works.observers;
     }
 
   module _ (kept : AreLayersKept starts says w) where
-    ends_root : (rs : List Revision) (past : Past) → IsRootKept w.clusters past w.table → IsRootKept w.clusters (after_ends rs past) w.table
+    ends_root : (rs : List Revision) (past : Past) → IsRootKept w.begin w.clusters past w.table → IsRootKept w.begin w.clusters (after_ends rs past) w.table
     ends_root [] past root = root
-    ends_root (r ∷ rs) past root = ends_root rs (event.End r ∷ past) (root_quiet w.clusters past w.table (event.End r) refl root)
+    ends_root (r ∷ rs) past root = ends_root rs (event.End r ∷ past) (root_quiet w.clusters w.begin past w.table (event.End r) refl root)
 
     ends_set : (rs : List Revision) (past : Past) → AreSettingsKept w.sessions past w.table → AreSettingsKept w.sessions (after_ends rs past) w.table
     ends_set [] past set = set
@@ -302,7 +306,7 @@ module _ (starts : Starts) (says : Says) (proper : StartsProper starts) (w : Sta
     pub recover_layers : AreLayersKept starts says (after_recover w k)
     recover_layers = record {
       sessions = recover_sessions kept.sessions;
-      root = root_quiet w.clusters ends w.table (event.Recover k) refl (ends_root (reverse (flying w.past k)) w.past kept.root);
+      root = root_quiet w.clusters w.begin ends w.table (event.Recover k) refl (ends_root (reverse (flying w.past k)) w.past kept.root);
       settings = settings_quiet w.sessions ends w.table w.table (event.Recover k) refl refl (ends_set (reverse (flying w.past k)) w.past kept.settings);
     }
 
@@ -318,7 +322,7 @@ module _ (starts : Starts) (says : Says) (proper : StartsProper starts) (w : Sta
     pub recover_rises : IsHoldingStep (holding_in w) (holding_in (after_recover w k))
     recover_rises =
         let added = ends_added (reverse (flying w.past k)) w.past in
-        holding starts says proper w kept (after_recover w k) recover_layers (event.Recover k ∷ added.0) (ap (λ (es : Past). event.Recover k ∷ es) added.1) refl refl
+        holding starts says proper w kept (after_recover w k) recover_layers (event.Recover k ∷ added.0) (ap (λ (es : Past). event.Recover k ∷ es) added.1) refl refl refl
         (λ j on. within IsMemoryStep j on gone_step (λ f. memory_still _ _ refl refl))
         (same_kept starts says proper w kept w.table refl)
 
@@ -347,7 +351,7 @@ module _ (starts : Starts) (says : Says) (proper : StartsProper starts) (w : Sta
   pub recover_whole : IsKept starts says w → IsKept starts says (after_recover w k)
   recover_whole kept =
       let layers = layers_of starts says w kept in
-      goes starts says proper w kept (after_recover w k) refl (recover_layers layers)
+      goes starts says proper w kept (after_recover w k) refl refl (recover_layers layers)
       (λ q. ends_are (λ past. is_bounded past q) (λ r past. refl) (reverse (flying w.past k)) w.past)
       (λ q. ends_are (λ past. is_swept past q) (λ r past. refl) (reverse (flying w.past k)) w.past)
       (recover_rises layers) (recover_pinned layers kept.pinned)
@@ -357,7 +361,7 @@ module _ (starts : Starts) (says : Says) (proper : StartsProper starts) (w : Sta
 module _ (starts : Starts) (says : Says) (w : State) (kept : AreSessionsKept starts says w) (k : ℕ) (recovered_then : is_recovered w.past k ≡ true) (r : Revision) (of : r.cluster ≡ k) where
   -- nothing of a recovered node is in flight
   pub none_in_flight : is_in_flight w.past r ≡ false
-  none_in_flight = none_flies None starts says w.clusters w.sessions kept.nodes w.past kept.run k recovered_then r of
+  none_in_flight = none_flies w.begin starts says w.clusters w.sessions kept.nodes w.past kept.run k recovered_then r of
 
   pub has_ended : is_drawn w.past r ≡ true → is_ended w.past r ≡ true
   has_ended drawn = by (is_drawn w.past r) (is_ended w.past r) drawn none_in_flight

@@ -31,7 +31,7 @@ use Rattle.oak_doc.specs.declared.update.UpdateOp.{UpdateOp}
 use Rattle.oak_doc.specs.Updates.{after_changes, changed, is_met, pruned, refusal, undone}
 use Rattle.oak_machine.specs.declared.event.Event.{Event}
 use Rattle.oak_machine.specs.declared.event.Event.TheVariants as event
-use Rattle.oak_machine.specs.History.{Past}
+use Rattle.oak_machine.specs.History.{Past, Begin, begin_of}
 use Rattle.oak_machine.specs.Heads.{greater_of, outs_of, published}
 use Rattle.oak_machine.specs.Runs.{IsNode}
 use Rattle.oak_store.specs.Tables.{Table, after_undo, found, next_number, with_document}
@@ -58,22 +58,22 @@ quiet_outs : (e : Event) (past : Past) (k : ℕ) → publishes e ≡ false → o
 quiet_outs (event.Out m r) past k h = absurd (false≢true (sym h))
 quiet_outs e past k h = refl
 
-quiet_published : (e : Event) (past : Past) (k : ℕ) → publishes e ≡ false → published None (e ∷ past) k ≡ published None past k
-quiet_published e past k h = ap (λ (rs : List Revision). fold greater_of (start_of k) rs) (quiet_outs e past k h)
+quiet_published : (begin : Begin) (e : Event) (past : Past) (k : ℕ) → publishes e ≡ false → published begin (e ∷ past) k ≡ published begin past k
+quiet_published begin e past k h = ap (λ (rs : List Revision). fold greater_of (begin_of begin k) rs) (quiet_outs e past k h)
 
 -- leaves what the root told
-pub on_root_quiet : (clusters : ℕ) (past : Past) (e : Event) (last sweep : RevVec) → publishes e ≡ false → IsOnRoot None clusters past last sweep → IsOnRoot None clusters (e ∷ past) last sweep
-on_root_quiet clusters past e last sweep h root = record {
+pub on_root_quiet : (clusters : ℕ) (begin : Begin) (past : Past) (e : Event) (last sweep : RevVec) → publishes e ≡ false → IsOnRoot begin clusters past last sweep → IsOnRoot begin clusters (e ∷ past) last sweep
+on_root_quiet clusters begin past e last sweep h root = record {
   vector = root.vector;
   public = λ x. (
-    λ s. let p = (root.public x).0 s in (p.0, subst (λ (r : Revision). is_at_most x r ≡ true) (sym (quiet_published e past x.cluster h)) p.1),
-    λ p. (root.public x).1 (p.0, subst (λ (r : Revision). is_at_most x r ≡ true) (quiet_published e past x.cluster h) p.1),
+    λ s. let p = (root.public x).0 s in (p.0, subst (λ (r : Revision). is_at_most x r ≡ true) (sym (quiet_published begin e past x.cluster h)) p.1),
+    λ p. (root.public x).1 (p.0, subst (λ (r : Revision). is_at_most x r ≡ true) (quiet_published begin e past x.cluster h) p.1),
   );
   pair = root.pair;
 }
 
-pub root_quiet : (clusters : ℕ) (past : Past) (t : Table) (e : Event) → publishes e ≡ false → IsRootKept clusters past t → IsRootKept clusters (e ∷ past) t
-root_quiet clusters past t e h root = record { document = root.document; there = root.there; tells = on_root_quiet clusters past e root.document.last_rev root.document.sweep_rev h root.tells; begun = root.begun }
+pub root_quiet : (clusters : ℕ) (begin : Begin) (past : Past) (t : Table) (e : Event) → publishes e ≡ false → IsRootKept begin clusters past t → IsRootKept begin clusters (e ∷ past) t
+root_quiet clusters begin past t e h root = record { document = root.document; there = root.there; tells = on_root_quiet clusters begin past e root.document.last_rev root.document.sweep_rev h root.tells; begun = root.begun }
 
 -- what the root tells at the start
 pub root_start : (clusters : ℕ) → clusters ≤ 8 → 1 ≤ clusters → IsOnRoot None clusters [] (start clusters) (start clusters)
@@ -88,54 +88,54 @@ root_start clusters eight some = record {
 
 -- ---- what is published and swept
 
-module _ (clusters : ℕ) (eight : clusters ≤ 8) (past : Past) (last sweep : RevVec) (root : IsOnRoot None clusters past last sweep) (k : ℕ) (node : IsNode clusters k) (r : Revision) (of : r.cluster ≡ k) where
+module _ (clusters : ℕ) (begin : Begin) (eight : clusters ≤ 8) (past : Past) (last sweep : RevVec) (root : IsOnRoot begin clusters past last sweep) (k : ℕ) (node : IsNode clusters k) (r : Revision) (of : r.cluster ≡ k) where
   later : Past
   later = event.Out k r ∷ past
 
   -- at most what k has published then: at most r, or at most what it had published
-  split : (x : Revision) → is_at_most x (fold greater_of (start_of k) (r ∷ outs_of past k)) ≡ true → (is_at_most x r ≡ true) ⊎ (is_at_most x (published None past k) ≡ true)
-  split x h = fold_has (λ q. is_at_most x q ≡ true → (is_at_most x r ≡ true) ⊎ (is_at_most x (published None past k) ≡ true)) (start_of k) (r ∷ outs_of past k)
-      (λ a. inr (at_most_trans x (start_of k) (published None past k) a (fold_first (start_of k) (outs_of past k))))
+  split : (x : Revision) → is_at_most x (fold greater_of (begin_of begin k) (r ∷ outs_of past k)) ≡ true → (is_at_most x r ≡ true) ⊎ (is_at_most x (published begin past k) ≡ true)
+  split x h = fold_has (λ q. is_at_most x q ≡ true → (is_at_most x r ≡ true) ⊎ (is_at_most x (published begin past k) ≡ true)) (begin_of begin k) (r ∷ outs_of past k)
+      (λ a. inr (at_most_trans x (begin_of begin k) (published begin past k) a (fold_first (begin_of begin k) (outs_of past k))))
       each h
     where
-      each : (q : Revision) → IsIn q (r ∷ outs_of past k) → is_at_most x q ≡ true → (is_at_most x r ≡ true) ⊎ (is_at_most x (published None past k) ≡ true)
+      each : (q : Revision) → IsIn q (r ∷ outs_of past k) → is_at_most x q ≡ true → (is_at_most x r ≡ true) ⊎ (is_at_most x (published begin past k) ≡ true)
       each q (inl e) a = inl (subst (λ (y : Revision). is_at_most x y ≡ true) (sym e) a)
-      each q (inr i) a = inr (at_most_trans x q (published None past k) a (fold_each (start_of k) (outs_of past k) q i))
+      each q (inr i) a = inr (at_most_trans x q (published begin past k) a (fold_each (begin_of begin k) (outs_of past k) q i))
 
-  out_is : published None (event.Out k r ∷ past) k ≡ fold greater_of (start_of k) (r ∷ outs_of past k)
-  out_is = ap (λ b. fold greater_of (start_of k) (cond b (r ∷ outs_of past k) (outs_of past k))) (same_itself k)
+  out_is : published begin (event.Out k r ∷ past) k ≡ fold greater_of (begin_of begin k) (r ∷ outs_of past k)
+  out_is = ap (λ b. fold greater_of (begin_of begin k) (cond b (r ∷ outs_of past k) (outs_of past k))) (same_itself k)
 
-  grows : (j : ℕ) → is_at_most (published None past j) (published None (event.Out k r ∷ past) j) ≡ true
+  grows : (j : ℕ) → is_at_most (published begin past j) (published begin (event.Out k r ∷ past) j) ≡ true
   grows j = by (k == j)
     where
-      by : (b : Bool) → is_at_most (fold greater_of (start_of j) (outs_of past j)) (fold greater_of (start_of j) (cond b (r ∷ outs_of past j) (outs_of past j))) ≡ true
-      by false = at_most_itself (published None past j)
-      by true = fold_has (λ x. is_at_most x (fold greater_of (start_of j) (r ∷ outs_of past j)) ≡ true) (start_of j) (outs_of past j) (fold_first (start_of j) (r ∷ outs_of past j)) (λ q i. fold_each (start_of j) (r ∷ outs_of past j) q (inr i))
+      by : (b : Bool) → is_at_most (fold greater_of (begin_of begin j) (outs_of past j)) (fold greater_of (begin_of begin j) (cond b (r ∷ outs_of past j) (outs_of past j))) ≡ true
+      by false = at_most_itself (published begin past j)
+      by true = fold_has (λ x. is_at_most x (fold greater_of (begin_of begin j) (r ∷ outs_of past j)) ≡ true) (begin_of begin j) (outs_of past j) (fold_first (begin_of begin j) (r ∷ outs_of past j)) (λ q i. fold_each (begin_of begin j) (r ∷ outs_of past j) q (inr i))
 
-  to_public : (x : Revision) → sees (raised last r) x ≡ true → Public clusters None (event.Out k r ∷ past) x
+  to_public : (x : Revision) → sees (raised last r) x ≡ true → Public clusters begin (event.Out k r ∷ past) x
   to_public x h = by (seen_raised last r x h)
     where
-      by : (sees last x ≡ true) ⊎ ((x.cluster ≡ r.cluster) × (is_at_most x r ≡ true)) → Public clusters None (event.Out k r ∷ past) x
-      by (inl s) = let p = (root.public x).0 s in (p.0, at_most_trans x (published None past x.cluster) (published None (event.Out k r ∷ past) x.cluster) p.1 (grows x.cluster))
-      by (inr p) = subst (λ (j : ℕ). IsNode clusters j × (is_at_most x (published None (event.Out k r ∷ past) j) ≡ true)) (sym (p.0 ∙ of))
-          (node, at_most_trans x r (published None (event.Out k r ∷ past) k) p.1 (subst (λ (y : Revision). is_at_most r y ≡ true) (sym out_is) (fold_each (start_of k) (r ∷ outs_of past k) r (inl refl))))
+      by : (sees last x ≡ true) ⊎ ((x.cluster ≡ r.cluster) × (is_at_most x r ≡ true)) → Public clusters begin (event.Out k r ∷ past) x
+      by (inl s) = let p = (root.public x).0 s in (p.0, at_most_trans x (published begin past x.cluster) (published begin (event.Out k r ∷ past) x.cluster) p.1 (grows x.cluster))
+      by (inr p) = subst (λ (j : ℕ). IsNode clusters j × (is_at_most x (published begin (event.Out k r ∷ past) j) ≡ true)) (sym (p.0 ∙ of))
+          (node, at_most_trans x r (published begin (event.Out k r ∷ past) k) p.1 (subst (λ (y : Revision). is_at_most r y ≡ true) (sym out_is) (fold_each (begin_of begin k) (r ∷ outs_of past k) r (inl refl))))
 
-  from_public : (x : Revision) → Public clusters None (event.Out k r ∷ past) x → sees (raised last r) x ≡ true
+  from_public : (x : Revision) → Public clusters begin (event.Out k r ∷ past) x → sees (raised last r) x ≡ true
   from_public x p = by (k == x.cluster) refl
     where
-      from : x.cluster ≡ k → (is_at_most x r ≡ true) ⊎ (is_at_most x (published None past k) ≡ true) → sees (raised last r) x ≡ true
+      from : x.cluster ≡ k → (is_at_most x r ≡ true) ⊎ (is_at_most x (published begin past k) ≡ true) → sees (raised last r) x ≡ true
       from same (inl a) =
           let n = node.1 in
           raised_own last r x (subst (λ (j : ℕ). 1 ≤ j) (sym of) node.0) (subst (λ (j : ℕ). j ≤ 8) (sym of) (omega arith)) root.vector.eight (same ∙ sym of) a
-      from same (inr a) = raised_sees last r x ((root.public x).1 (p.0, subst (λ (j : ℕ). is_at_most x (published None past j) ≡ true) (sym same) a))
+      from same (inr a) = raised_sees last r x ((root.public x).1 (p.0, subst (λ (j : ℕ). is_at_most x (published begin past j) ≡ true) (sym same) a))
 
       by : (b : Bool) → (k == x.cluster) ≡ b → sees (raised last r) x ≡ true
-      by false h = raised_sees last r x ((root.public x).1 (p.0, subst (λ (b : Bool). is_at_most x (fold greater_of (start_of x.cluster) (cond b (r ∷ outs_of past x.cluster) (outs_of past x.cluster))) ≡ true) h p.1))
+      by false h = raised_sees last r x ((root.public x).1 (p.0, subst (λ (b : Bool). is_at_most x (fold greater_of (begin_of begin x.cluster) (cond b (r ∷ outs_of past x.cluster) (outs_of past x.cluster))) ≡ true) h p.1))
       by true h =
           let same : x.cluster ≡ k = sym (same_number k x.cluster h) in
-          from same (split x (subst (λ (y : Revision). is_at_most x y ≡ true) out_is (subst (λ (j : ℕ). is_at_most x (published None (event.Out k r ∷ past) j) ≡ true) same p.1)))
+          from same (split x (subst (λ (y : Revision). is_at_most x y ≡ true) out_is (subst (λ (j : ℕ). is_at_most x (published begin (event.Out k r ∷ past) j) ≡ true) same p.1)))
 
-  pub root_out : IsOnRoot None clusters (event.Out k r ∷ past) (raised last r) sweep
+  pub root_out : IsOnRoot begin clusters (event.Out k r ∷ past) (raised last r) sweep
   root_out = record {
     vector = record { eight = raised_length last r ∙ root.vector.eight; stands = raised_stands last r root.vector.stands };
     public = λ x. (to_public x, from_public x);
@@ -143,11 +143,11 @@ module _ (clusters : ℕ) (eight : clusters ≤ 8) (past : Past) (last sweep : R
   }
 
   -- r is public then
-  pub out_now : is_at_most r (published None (event.Out k r ∷ past) k) ≡ true
-  out_now = subst (λ (y : Revision). is_at_most r y ≡ true) (sym out_is) (fold_each (start_of k) (r ∷ outs_of past k) r (inl refl))
+  pub out_now : is_at_most r (published begin (event.Out k r ∷ past) k) ≡ true
+  out_now = subst (λ (y : Revision). is_at_most r y ≡ true) (sym out_is) (fold_each (begin_of begin k) (r ∷ outs_of past k) r (inl refl))
 
   -- r is public, and is swept now
-  pub root_swept : is_at_most r (published None past k) ≡ true → IsOnRoot None clusters past last (raised sweep r)
+  pub root_swept : is_at_most r (published begin past k) ≡ true → IsOnRoot begin clusters past last (raised sweep r)
   root_swept low = record {
     vector = root.vector;
     public = root.public;
@@ -160,7 +160,7 @@ module _ (clusters : ℕ) (eight : clusters ≤ 8) (past : Past) (last sweep : R
     where
       by : (x : Revision) → (sees sweep x ≡ true) ⊎ ((x.cluster ≡ r.cluster) × (is_at_most x r ≡ true)) → sees last x ≡ true
       by x (inl s) = root.pair.below x s
-      by x (inr p) = (root.public x).1 (subst (λ (j : ℕ). IsNode clusters j × (is_at_most x (published None past j) ≡ true)) (sym (p.0 ∙ of)) (node, at_most_trans x r (published None past k) p.1 low))
+      by x (inr p) = (root.public x).1 (subst (λ (j : ℕ). IsNode clusters j × (is_at_most x (published begin past j) ≡ true)) (sym (p.0 ∙ of)) (node, at_most_trans x r (published begin past k) p.1 low))
 
 -- ---- changes that leave both vectors
 
@@ -202,23 +202,23 @@ folded_vectors (c ∷ cs) d h = let b = both (leaves_vectors c) (list_all leaves
 
 -- ---- tables
 
-module _ (clusters : ℕ) (past : Past) (t : Table) (root : IsRootKept clusters past t) where
-  same_vectors : (u : Table) (d : Document) → nodes_in u [] ≡ Some d → vectors_of d ≡ vectors_of root.document → IsRootKept clusters past u
-  same_vectors u d there same = record { document = d; there = there; tells = subst (λ (p : RevVec × RevVec). IsOnRoot None clusters past p.0 p.1) (sym same) root.tells; begun = subst (λ (p : RevVec × RevVec). SeesStarts clusters p.1) (sym same) root.begun }
+module _ (clusters : ℕ) (begin : Begin) (past : Past) (t : Table) (root : IsRootKept begin clusters past t) where
+  same_vectors : (u : Table) (d : Document) → nodes_in u [] ≡ Some d → vectors_of d ≡ vectors_of root.document → IsRootKept begin clusters past u
+  same_vectors u d there same = record { document = d; there = there; tells = subst (λ (p : RevVec × RevVec). IsOnRoot begin clusters past p.0 p.1) (sym same) root.tells; begun = subst (λ (p : RevVec × RevVec). SeesStarts clusters p.1) (sym same) root.begun }
 
-  put_root : (p : Path) (d : Document) (n : ℕ) → ((e : Document) → nodes_in t p ≡ Some e → vectors_of d ≡ vectors_of e) → IsRootKept clusters past (with_document t (id.Node p) d n)
+  put_root : (p : Path) (d : Document) (n : ℕ) → ((e : Document) → nodes_in t p ≡ Some e → vectors_of d ≡ vectors_of e) → IsRootKept begin clusters past (with_document t (id.Node p) d n)
   put_root p d n same = by (eq_by_cmp path_cmp [] p) refl
     where
       at : nodes_in (with_document t (id.Node p) d n) [] ≡ cond (eq_by_cmp path_cmp [] p) (Some d) (nodes_in t [])
       at = put_is t (id.Node p) d n (id.Node []) ∙ ap (λ b. cond b (Some d) (nodes_in t [])) (same_node [] p)
 
-      by : (b : Bool) → eq_by_cmp path_cmp [] p ≡ b → IsRootKept clusters past (with_document t (id.Node p) d n)
+      by : (b : Bool) → eq_by_cmp path_cmp [] p ≡ b → IsRootKept begin clusters past (with_document t (id.Node p) d n)
       by true h = same_vectors (with_document t (id.Node p) d n) d (at ∙ ap (λ b. cond b (Some d) (nodes_in t [])) h)
           (same root.document (ap (nodes_in t) (sym (Rattle.core_clash.proofs.Basics.same_path [] p h)) ∙ root.there))
       by false h = same_vectors (with_document t (id.Node p) d n) root.document (at ∙ (ap (λ b. cond b (Some d) (nodes_in t [])) h ∙ root.there)) refl
 
   -- an update that leaves both vectors
-  pub update_root : (p : Path) (op : UpdateOp) → op.id ≡ id.Node p → list_all leaves_vectors op.changes ≡ true → IsRootKept clusters past (after_update t op)
+  pub update_root : (p : Path) (op : UpdateOp) → op.id ≡ id.Node p → list_all leaves_vectors op.changes ≡ true → IsRootKept begin clusters past (after_update t op)
   update_root p op at all = by (is_none (found t op.id) && not op.create) (is_met (found t op.id) op.cond) (refusal (found t op.id) op.cond)
     where
       made : Document
@@ -227,28 +227,28 @@ module _ (clusters : ℕ) (past : Past) (t : Table) (root : IsRootKept clusters 
       same : (e : Document) → found t op.id ≡ Some e → vectors_of made ≡ vectors_of e
       same e there = ap (λ (o : Option Document). vectors_of (after_changes o op (next_number t))) there ∙ folded_vectors op.changes e all
 
-      by : (a b : Bool) (g : OpFault) → IsRootKept clusters past (with_result t op.id (cond a (Err fault.Absent) (cond b (Ok made) (Err g))))
+      by : (a b : Bool) (g : OpFault) → IsRootKept begin clusters past (with_result t op.id (cond a (Err fault.Absent) (cond b (Ok made) (Err g))))
       by true b g = root
-      by false true g = subst (λ i. IsRootKept clusters past (with_document t i made (next_number t))) (sym at) (put_root p made (next_number t) (λ e there. same e (ap (found t) at ∙ there)))
+      by false true g = subst (λ i. IsRootKept begin clusters past (with_document t i made (next_number t))) (sym at) (put_root p made (next_number t) (λ e there. same e (ap (found t) at ∙ there)))
       by false false g = root
 
   -- an update of another document
-  pub update_elsewhere : (p : Path) (op : UpdateOp) → op.id ≡ id.Node p → eq_by_cmp path_cmp [] p ≡ false → IsRootKept clusters past (after_update t op)
+  pub update_elsewhere : (p : Path) (op : UpdateOp) → op.id ≡ id.Node p → eq_by_cmp path_cmp [] p ≡ false → IsRootKept begin clusters past (after_update t op)
   update_elsewhere p op at other = by (is_none (found t op.id) && not op.create) (is_met (found t op.id) op.cond) (refusal (found t op.id) op.cond)
     where
       made : Document
       made = after_changes (found t op.id) op (next_number t)
 
-      by : (a b : Bool) (g : OpFault) → IsRootKept clusters past (with_result t op.id (cond a (Err fault.Absent) (cond b (Ok made) (Err g))))
+      by : (a b : Bool) (g : OpFault) → IsRootKept begin clusters past (with_result t op.id (cond a (Err fault.Absent) (cond b (Ok made) (Err g))))
       by true b g = root
-      by false true g = subst (λ i. IsRootKept clusters past (with_document t i made (next_number t))) (sym at)
+      by false true g = subst (λ i. IsRootKept begin clusters past (with_document t i made (next_number t))) (sym at)
           (same_vectors (with_document t (id.Node p) made (next_number t)) root.document (put_is t (id.Node p) made (next_number t) (id.Node []) ∙ (ap (λ b. cond b (Some made) (nodes_in t [])) (same_node [] p ∙ other) ∙ root.there)) refl)
       by false false g = root
 
-  pub undo_root : (p : Path) (r : Revision) → IsRootKept clusters past (after_undo t (id.Node p) r)
+  pub undo_root : (p : Path) (r : Revision) → IsRootKept begin clusters past (after_undo t (id.Node p) r)
   undo_root p r = by (found t (id.Node p)) refl
     where
-      by : (o : Option Document) → found t (id.Node p) ≡ o → IsRootKept clusters past (after_undo t (id.Node p) r)
+      by : (o : Option Document) → found t (id.Node p) ≡ o → IsRootKept begin clusters past (after_undo t (id.Node p) r)
       by None is = same_vectors (after_undo t (id.Node p) r) root.document (ap (λ es. Rattle.oak_read.specs.Meaning.documents_in es (id.Node [])) (undo_none t p r is) ∙ root.there) refl
       by (Some d) is = at (eq_by_cmp path_cmp [] p) refl
         where
@@ -259,7 +259,7 @@ module _ (clusters : ℕ) (past : Past) (t : Table) (root : IsRootKept clusters 
           one e (Some f) = f
           one e None = e
 
-          at : (b : Bool) → eq_by_cmp path_cmp [] p ≡ b → IsRootKept clusters past (after_undo t (id.Node p) r)
+          at : (b : Bool) → eq_by_cmp path_cmp [] p ≡ b → IsRootKept begin clusters past (after_undo t (id.Node p) r)
           at true h = same_vectors (after_undo t (id.Node p) r) (undone d r (next_number t)) (now ∙ ap (λ b. cond b (Some (undone d r (next_number t))) (nodes_in t [])) h)
               (ap (λ (o : Option Document). vectors_of (one d o)) (sym is ∙ (ap (nodes_in t) (sym (Rattle.core_clash.proofs.Basics.same_path [] p h)) ∙ root.there)))
           at false h = same_vectors (after_undo t (id.Node p) r) root.document (now ∙ (ap (λ b. cond b (Some (undone d r (next_number t))) (nodes_in t [])) h ∙ root.there)) refl
@@ -297,5 +297,5 @@ pub starts_seen : (clusters : ℕ) → clusters ≤ 8 → SeesStarts clusters (s
 starts_seen clusters eight k node = ap (λ o. option_map_or (is_at_most (start_of k)) o false) (Rattle.core_nodes.proofs.Events.start_entry clusters k eight node) ∙ at_most_itself (start_of k)
 
 -- a vector that is raised sees what it saw
-pub starts_raised : (clusters : ℕ) (v : RevVec) (r : Revision) → SeesStarts clusters v → SeesStarts clusters (raised v r)
-starts_raised clusters v r begun k node = raised_sees v r (start_of k) (begun k node)
+pub starts_raised : (clusters : ℕ) (begin : Begin) (v : RevVec) (r : Revision) → SeesStarts clusters v → SeesStarts clusters (raised v r)
+starts_raised clusters begin v r begun k node = raised_sees v r (start_of k) (begun k node)

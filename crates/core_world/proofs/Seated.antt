@@ -38,7 +38,7 @@ use Rattle.core_nodes.specs.Nodes.{base_of_pin, cursor_owner, without_session}
 use Rattle.core_nodes.proofs.Pins.{lookup_beside, lookup_left}
 use Rattle.core_watch.proofs.Moments.{fed_keeps}
 use Rattle.core_world.specs.Kept.{AreLayersKept, IsPinned}
-use Rattle.core_world.specs.States.{State, actor_pin, memory_at, memory_of, node_of, nodes_in, reader_pin}
+use Rattle.core_world.specs.States.{State, actor_pin, memory_at, memory_of, node_of, nodes_in, reader_pin, origin}
 use Rattle.core_world.specs.Steps.{after_attach, after_checkpoint, after_detach, after_finish, after_last, after_mark, after_notes, after_release, after_unfound, after_update, lasted_by, marked_by, memories_with, pinned as pinned_now, settings_op, with_reader, with_result, with_observer}
 use Rattle.core_world.proofs.Checkpoints.{settings_there}
 use Rattle.core_world.proofs.Committers.{at_others, at_session}
@@ -83,7 +83,7 @@ module _ (starts : Starts) (says : Says) (proper : StartsProper starts) (w : Sta
   there_observes q r h = session_there starts says proper w kept.sessions q (observer_login starts says proper w kept.sessions q r h)
 
   apart : (s : ℕ) → w.reading s ≡ None → (q : ℕ) (r : Reader) → w.reading q ≡ Some r → (s == q) ≡ false
-  apart s none = apart_from w.past w.table w.formers w.reading kept.sessions.readers (reader_held starts says proper w kept.sessions) s none
+  apart s none = apart_from (origin w) w.past w.table w.formers w.reading kept.sessions.readers (reader_held starts says proper w kept.sessions) s none
 
   -- the memory of a session's node is another
   pub memory_pinned : (s : ℕ) → is_some (slice_get w.sessions s) ≡ true → (m : NodeState) (past : Past) (running : ℕ → Option Running) → ((q : ℕ) (r : Reader) → w.reading q ≡ Some r → is_attached past q ≡ is_attached w.past q)

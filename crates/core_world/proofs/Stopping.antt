@@ -15,7 +15,6 @@ use Rattle.oak_node.specs.Memory.{NodeState}
 use Rattle.oak_node.specs.Pins.{pin_of}
 use Rattle.oak_node.specs.Stops.{with_stop}
 use Rattle.oak_read.specs.Meaning.{documents_in}
-use Rattle.core_keep.proofs.Events.{kept_idle}
 use Rattle.core_keep.specs.Holding.{IsHoldingStep}
 use Rattle.core_clash.specs.Sessions.{Running}
 use Rattle.core_clash.proofs.Finished.{event_keeps}
@@ -25,7 +24,7 @@ use Rattle.core_nodes.proofs.Pins.{pins_kept}
 use Rattle.core_nodes.proofs.Recovering.{stop_kept}
 use Rattle.core_world.specs.Held.{holding_in}
 use Rattle.core_world.specs.Kept.{AreAtWork, AreCommitting, AreLayersKept, AreMemories, AreReading, AreSessionsKept, IsKept, IsPinned, has_written, AreObserving}
-use Rattle.core_world.specs.States.{State, core_in, memory_at, node_of, reader_pin, with_memory}
+use Rattle.core_world.specs.States.{State, core_in, memory_at, node_of, reader_pin, with_memory, origin}
 use Rattle.core_world.specs.Steps.{after_stop, without_node}
 use Rattle.core_world.proofs.Commits.{on_its_node}
 use Rattle.core_world.proofs.Held.{IsMemoryStep, holding, memory_still, same_kept}
@@ -36,6 +35,7 @@ use Rattle.core_world.proofs.Setting.{settings_quiet}
 use Rattle.core_world.proofs.Whole.{goes, layers_of}
 use Rattle.core_world.proofs.Letting.{lets_calm}
 use Rattle.core_world.proofs.Observers.{between_on, still_tells}
+use Rattle.core_begun.proofs.Events.{kept_idle}
 
 never : {A : Type 0} → false ≡ true → A
 never h = absurd (false≢true h)
@@ -83,23 +83,23 @@ module _ (starts : Starts) (says : Says) (proper : StartsProper starts) (w : Sta
   e = event.Stop k
 
   module _ (kept : AreSessionsKept starts says w) where
-    run : IsRunOf starts says w.clusters w.sessions None (event.Stop k ∷ w.past)
+    run : IsRunOf starts says w.clusters w.sessions w.begin (event.Stop k ∷ w.past)
     run = (first, kept.run)
 
     -- the node of a committer that is left is another
     apart : (s : ℕ) (x : Running) → w.running s ≡ Some x → is_of_node w.sessions k s ≡ false → (k == x.draw.revision.cluster) ≡ false
     apart s x here other = turned k x.draw.revision.cluster (sym (ap (λ o. option_map_or (λ m. m == k) o false) (on_its_node starts says proper w kept s x here)) ∙ other)
 
-    committing : AreCommitting (event.Stop k ∷ w.past) w.table (without_node w.sessions k w.running)
+    committing : AreCommitting (origin w) (event.Stop k ∷ w.past) w.table (without_node w.sessions k w.running)
     committing = record {
       writers = kept.committing.writers;
-      sound = event_keeps (core_in w.past w.table kept.committing.writers) (event.Stop k) refl kept.committing.sound;
+      sound = event_keeps (core_in (origin w) w.past w.table kept.committing.writers) (event.Stop k) refl kept.committing.sound;
       theirs = λ s x h.
           let l = left_over w.sessions k w.running s x h in
           let its = kept.committing.theirs s x l.1 in
           record { session = its.session; draw = its.draw; unended = its.unended; committed = its.committed; writer = its.writer };
       listed = λ s x h. kept.committing.listed s x (left_over w.sessions k w.running s x h).1;
-      kept = kept_idle (documents_in w.table.documents) w.past (λ r. has_written (kept.committing.writers r)) (event.Stop k) refl kept.committing.kept;
+      kept = kept_idle (origin w) (documents_in w.table.documents) w.past (λ r. has_written (kept.committing.writers r)) (event.Stop k) refl kept.committing.kept;
       unstopped = λ s x h.
           let l = left_over w.sessions k w.running s x h in
           ap (λ b. b || is_stopped w.past x.draw.revision.cluster) (apart s x l.1 l.0) ∙ kept.committing.unstopped s x l.1;
@@ -119,14 +119,14 @@ module _ (starts : Starts) (says : Says) (proper : StartsProper starts) (w : Sta
       halted = λ s stopped drawing. halted s (is_stopped_under w.sessions w.past s) refl (w.running s) refl drawing;
     }
 
-    memories : AreMemories w.clusters w.sessions (event.Stop k ∷ w.past) (with_memory w.memories k (with_stop (memory_at w.memories k)))
-    memories = step_on starts says w.clusters w.sessions kept.nodes w.past w.memories kept.memories k node (with_stop (memory_at w.memories k)) (event.Stop k ∷ w.past)
-        (stop_kept None w.clusters w.past k (memory_at w.memories k) (kept.memories.memory k node))
+    memories : AreMemories w.begin w.clusters w.sessions (event.Stop k ∷ w.past) (with_memory w.memories k (with_stop (memory_at w.memories k)))
+    memories = step_on starts says w.clusters w.sessions w.begin kept.nodes w.past w.memories kept.memories k node (with_stop (memory_at w.memories k)) (event.Stop k ∷ w.past)
+        (stop_kept w.begin w.clusters w.past k (memory_at w.memories k) (kept.memories.memory k node))
         (let has = kept.memories.pins k node in record { bases = has.bases; pairs = has.pairs })
-        (λ j on h. apart_run None starts says w.clusters w.sessions kept.nodes (event.Stop k) w.past j (memory_at w.memories j) run (ap not (turned k j h)) (kept.memories.memory j on))
+        (λ j on h. apart_run w.begin starts says w.clusters w.sessions kept.nodes (event.Stop k) w.past j (memory_at w.memories j) run (ap not (turned k j h)) (kept.memories.memory j on))
         (λ j on h. pins_kept w.sessions w.past j (memory_at w.memories j) (kept.memories.pins j on) (event.Stop k) refl)
 
-    readers : AreReading (event.Stop k ∷ w.past) w.table w.formers (without_node w.sessions k w.reading)
+    readers : AreReading (origin w) (event.Stop k ∷ w.past) w.table w.formers (without_node w.sessions k w.reading)
     readers =
         let all = reads_calm starts says proper w kept (event.Stop k) (λ q. refl) refl (λ s r h. refl) in
         record {
@@ -137,14 +137,14 @@ module _ (starts : Starts) (says : Says) (proper : StartsProper starts) (w : Sta
           pairs = λ s r h. all.pairs s r (left_over w.sessions k w.reading s r h).1;
         }
 
-    observers : AreObserving w.sessions (event.Stop k ∷ w.past) w.table w.formers (without_node w.sessions k w.observing)
+    observers : AreObserving (origin w) w.sessions (event.Stop k ∷ w.past) w.table w.formers (without_node w.sessions k w.observing)
     observers = record {
       goes = λ s r h. let l = left_over w.sessions k w.observing s r h in goes_on w.sessions w.past k s l.0 (kept.observers.goes s r l.1);
       apart = λ s r h. kept.observers.apart s r (left_over w.sessions k w.observing s r h).1;
-      between = λ s r h. between_on starts says w.clusters w.sessions kept.nodes w.past (event.Stop k) s r refl (λ o. refl) (λ o. refl) (kept.observers.between s r (left_over w.sessions k w.observing s r h).1);
-      tells = λ s r h. let here = (left_over w.sessions k w.observing s r h).1 in still_tells starts says w.clusters w.sessions kept.nodes proper w.past (event.Stop k) run w.table w.table w.formers w.formers w.observing kept.observers
-          (λ q y i. between_on starts says w.clusters w.sessions kept.nodes w.past (event.Stop k) q y refl (λ o. refl) (λ o. refl) (kept.observers.between q y i))
-          (λ q. has_written (committing.writers q)) committing.kept ((lets_calm w.table w.past (λ q. has_written (kept.committing.writers q)) kept.committing.kept (event.Stop k) (λ q. refl) refl).observes w.formers) s r here;
+      between = λ s r h. between_on starts says w.clusters w.sessions w.begin kept.nodes w.past (event.Stop k) s r refl (λ o. refl) (λ o. refl) (kept.observers.between s r (left_over w.sessions k w.observing s r h).1);
+      tells = λ s r h. let here = (left_over w.sessions k w.observing s r h).1 in still_tells starts says w.clusters w.sessions w.begin kept.nodes proper w.past (event.Stop k) run w.table w.table w.formers w.formers w.observing kept.observers
+          (λ q y i. between_on starts says w.clusters w.sessions w.begin kept.nodes w.past (event.Stop k) q y refl (λ o. refl) (λ o. refl) (kept.observers.between q y i))
+          (λ q. has_written (committing.writers q)) committing.kept ((lets_calm (origin w) w.table w.past (λ q. has_written (kept.committing.writers q)) kept.committing.kept (event.Stop k) (λ q. refl) refl).observes w.formers) s r here;
     }
 
     pub stop_sessions : AreSessionsKept starts says (after_stop w k)
@@ -154,7 +154,7 @@ module _ (starts : Starts) (says : Says) (proper : StartsProper starts) (w : Sta
     pub stop_layers : AreLayersKept starts says (after_stop w k)
     stop_layers = record {
       sessions = stop_sessions kept.sessions;
-      root = root_quiet w.clusters w.past w.table (event.Stop k) refl kept.root;
+      root = root_quiet w.clusters w.begin w.past w.table (event.Stop k) refl kept.root;
       settings = settings_quiet w.sessions w.past w.table w.table (event.Stop k) refl refl kept.settings;
     }
 
@@ -162,7 +162,7 @@ module _ (starts : Starts) (says : Says) (proper : StartsProper starts) (w : Sta
     within P j on here there = at_memory (λ (i : ℕ) (x : NodeState). P (memory_at w.memories i) x) w.memories k (with_stop (memory_at w.memories k)) j node.0 (subst (λ (n : ℕ). k ≤ n) (sym kept.sessions.memories.counted) node.1) on.0 here (λ f. there)
 
     pub stop_rises : IsHoldingStep (holding_in w) (holding_in (after_stop w k))
-    stop_rises = holding starts says proper w kept (after_stop w k) stop_layers (event.Stop k ∷ []) refl refl refl
+    stop_rises = holding starts says proper w kept (after_stop w k) stop_layers (event.Stop k ∷ []) refl refl refl refl
         (λ j on. within IsMemoryStep j on (memory_still _ _ refl refl) (memory_still _ _ refl refl))
         (same_kept starts says proper w kept w.table refl)
 
@@ -181,4 +181,4 @@ module _ (starts : Starts) (says : Says) (proper : StartsProper starts) (w : Sta
   pub stop_whole : IsKept starts says w → IsKept starts says (after_stop w k)
   stop_whole kept =
       let layers = layers_of starts says w kept in
-      goes starts says proper w kept (after_stop w k) refl (stop_layers layers) (λ r. refl) (λ r. refl) (stop_rises layers) (stop_pinned layers kept.pinned)
+      goes starts says proper w kept (after_stop w k) refl refl (stop_layers layers) (λ r. refl) (λ r. refl) (stop_rises layers) (stop_pinned layers kept.pinned)

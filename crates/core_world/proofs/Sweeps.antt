@@ -11,7 +11,7 @@ use Rattle.jr_rev.specs.Vectors.{Entries, entry, greater_entry, greatest, no_ent
 use Rattle.oak_doc.specs.declared.document.Document.{Document}
 use Rattle.oak_machine.specs.declared.event.Event.{Event}
 use Rattle.oak_machine.specs.declared.event.Event.TheVariants as event
-use Rattle.oak_machine.specs.History.{Past}
+use Rattle.oak_machine.specs.History.{Past, Begin, begin_of}
 use Rattle.oak_machine.specs.Heads.{greater_of, last_in, local, outs_of, published}
 use Rattle.oak_machine.specs.Laws.{Says, Starts}
 use Rattle.oak_machine.specs.Runs.{IsNode}
@@ -28,6 +28,11 @@ use Rattle.core_world.specs.Kept.{AreLayersKept}
 use Rattle.core_world.specs.States.{State, memory_at, nodes_in}
 use Rattle.core_world.specs.Sweeping.{target_of}
 use Rattle.core_world.proofs.Backs.{told_now}
+use Rattle.std.proofs.lemmas.Bool.Decides.{nat_tests}
+
+-- the start of a node is the least of it
+start_least : (r : Revision) → is_at_most (start_of r.cluster) r ≡ true
+start_least r = grind (arith, nat_tests)
 
 -- an entry is of the cluster node at which it stands
 entry_of_node : (v : Entries) (k : ℕ) (e : Revision) → stands_from 1 v ≡ true → entry v k ≡ Some e → e.cluster ≡ k
@@ -41,34 +46,34 @@ entry_is_seen v k e stands is =
 -- ---- published
 
 -- what is published rises
-published_rises : (e : Event) (past : Past) (k : ℕ) → is_at_most (published None past k) (published None (e ∷ past) k) ≡ true
-published_rises (event.Out m r) past k = by (m == k)
+published_rises : (begin : Begin) (e : Event) (past : Past) (k : ℕ) → is_at_most (published begin past k) (published begin (e ∷ past) k) ≡ true
+published_rises begin (event.Out m r) past k = by (m == k)
   where
-    by : (b : Bool) → is_at_most (fold greater_of (start_of k) (outs_of past k)) (fold greater_of (start_of k) (cond b (r ∷ outs_of past k) (outs_of past k))) ≡ true
-    by true = fold_has (λ x. is_at_most x (fold greater_of (start_of k) (r ∷ outs_of past k)) ≡ true) (start_of k) (outs_of past k) (fold_first (start_of k) (r ∷ outs_of past k)) (λ q i. fold_each (start_of k) (r ∷ outs_of past k) q (inr i))
-    by false = at_most_itself (fold greater_of (start_of k) (outs_of past k))
-published_rises e past k = at_most_itself (published None past k)
+    by : (b : Bool) → is_at_most (fold greater_of (begin_of begin k) (outs_of past k)) (fold greater_of (begin_of begin k) (cond b (r ∷ outs_of past k) (outs_of past k))) ≡ true
+    by true = fold_has (λ x. is_at_most x (fold greater_of (begin_of begin k) (r ∷ outs_of past k)) ≡ true) (begin_of begin k) (outs_of past k) (fold_first (begin_of begin k) (r ∷ outs_of past k)) (λ q i. fold_each (begin_of begin k) (r ∷ outs_of past k) q (inr i))
+    by false = at_most_itself (fold greater_of (begin_of begin k) (outs_of past k))
+published_rises begin e past k = at_most_itself (published begin past k)
 
-pub published_later : (e : Event) (past : Past) (k : ℕ) (r : Revision) → is_at_most r (published None past k) ≡ true → is_at_most r (published None (e ∷ past) k) ≡ true
-published_later e past k r low = at_most_trans r (published None past k) (published None (e ∷ past) k) low (published_rises e past k)
+pub published_later : (begin : Begin) (e : Event) (past : Past) (k : ℕ) (r : Revision) → is_at_most r (published begin past k) ≡ true → is_at_most r (published begin (e ∷ past) k) ≡ true
+published_later begin e past k r low = at_most_trans r (published begin past k) (published begin (e ∷ past) k) low (published_rises begin e past k)
 
 -- ---- the root
 
-target_at : (clusters : ℕ) (past : Past) (root : Document) → IsOnRoot None clusters past root.last_rev root.sweep_rev → (k : ℕ) (o : Option Revision) → entry root.last_rev k ≡ o → ((unwrap_or o (start_of k)).cluster ≡ k) × (is_at_most (unwrap_or o (start_of k)) (published None past k) ≡ true)
-target_at clusters past root on k None is = (refl, fold_first (start_of k) (outs_of past k))
-target_at clusters past root on k (Some e) is =
+target_at : (clusters : ℕ) (begin : Begin) (past : Past) (root : Document) (k : ℕ) → ((published begin past k).cluster ≡ k) → IsOnRoot begin clusters past root.last_rev root.sweep_rev → (o : Option Revision) → entry root.last_rev k ≡ o → ((unwrap_or o (start_of k)).cluster ≡ k) × (is_at_most (unwrap_or o (start_of k)) (published begin past k) ≡ true)
+target_at clusters begin past root k its on None is = (refl, subst (λ (j : ℕ). is_at_most (start_of j) (published begin past k) ≡ true) its (start_least (published begin past k)))
+target_at clusters begin past root k its on (Some e) is =
     let of = entry_of_node root.last_rev k e on.vector.stands is in
-    (of, subst (λ (j : ℕ). is_at_most e (published None past j) ≡ true) of ((on.public e).0 (entry_is_seen root.last_rev k e on.vector.stands is)).1)
+    (of, subst (λ (j : ℕ). is_at_most e (published begin past j) ≡ true) of ((on.public e).0 (entry_is_seen root.last_rev k e on.vector.stands is)).1)
 
 module _ (starts : Starts) (says : Says) (w : State) (kept : AreLayersKept starts says w) where
   -- what is read is of the cluster node, and published
-  pub target_is : (root : Document) → nodes_in w.table [] ≡ Some root → (k : ℕ) → ((target_of root k).cluster ≡ k) × (is_at_most (target_of root k) (published None w.past k) ≡ true)
-  target_is root is k = target_at w.clusters w.past root (told_now w.clusters w.past w.table kept.root root is) k (entry root.last_rev k) refl
+  pub target_is : (root : Document) → nodes_in w.table [] ≡ Some root → (k : ℕ) → ((target_of root k).cluster ≡ k) × (is_at_most (target_of root k) (published w.begin w.past k) ≡ true)
+  target_is root is k = target_at w.clusters w.begin w.past root k (published_is w.clusters w.sessions kept.sessions.nodes w.begin w.past (sound_run w.clusters w.sessions kept.sessions.nodes w.begin starts says w.past kept.sessions.run) k).0 (told_now w.clusters w.begin w.past w.table kept.root root is) (entry root.last_rev k) refl
 
   -- and what is published is at most the local revision
-  pub published_local : (k : ℕ) (r : Revision) → is_at_most r (published None w.past k) ≡ true → is_at_most r (local None w.past k) ≡ true
-  published_local k r low = at_most_trans r (published None w.past k) (local None w.past k) low
-      (published_is w.clusters w.sessions kept.sessions.nodes None w.past (sound_run w.clusters w.sessions kept.sessions.nodes None starts says w.past kept.sessions.run) k).1
+  pub published_local : (k : ℕ) (r : Revision) → is_at_most r (published w.begin w.past k) ≡ true → is_at_most r (local w.begin w.past k) ≡ true
+  published_local k r low = at_most_trans r (published w.begin w.past k) (local w.begin w.past k) low
+      (published_is w.clusters w.sessions kept.sessions.nodes w.begin w.past (sound_run w.clusters w.sessions kept.sessions.nodes w.begin starts says w.past kept.sessions.run) k).1
 
 -- ---- the memory
 
@@ -109,8 +114,8 @@ module _ (starts : Starts) (says : Says) (w : State) (kept : AreLayersKept start
   pub sweep_learned : (k : ℕ) → IsNode w.clusters k → (v : RevVec) → learned (memory_at w.memories k) no_entries v ≡ record (memory_at w.memories k) { sweep = greatest (memory_at w.memories k).sweep v }
   sweep_learned k node v = learned_alone (memory_at w.memories k) v eight is.memory
     where
-      is : IsMemoryOf None w.clusters w.past k (memory_at w.memories k)
+      is : IsMemoryOf w.begin w.clusters w.past k (memory_at w.memories k)
       is = kept.sessions.memories.memory k node
 
       eight : length (memory_at w.memories k).head ≡ 8
-      eight = ap length is.head ∙ (set_length (last_in w.clusters None w.past k) ((local None w.past k).cluster - 1) (Some (local None w.past k)) ∙ ((sound_run w.clusters w.sessions kept.sessions.nodes None starts says w.past kept.sessions.run).ins k node).eight)
+      eight = ap length is.head ∙ (set_length (last_in w.clusters w.begin w.past k) ((local w.begin w.past k).cluster - 1) (Some (local w.begin w.past k)) ∙ ((sound_run w.clusters w.sessions kept.sessions.nodes w.begin starts says w.past kept.sessions.run).ins k node).eight)

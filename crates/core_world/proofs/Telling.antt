@@ -18,10 +18,7 @@ use Rattle.oak_read.specs.Meaning.{commit_root_of, documents_in}
 use Rattle.oak_store.specs.Tables.{Table, next_number, with_document}
 use Rattle.core_read.specs.Committing.{is_marking}
 use Rattle.core_read.specs.Holds.{root_entry}
-use Rattle.core_read.specs.Told.{IsTold}
-use Rattle.core_keep.specs.Journal.{IsKeptWorld}
 use Rattle.core_keep.specs.Steps.{IsMainAt}
-use Rattle.core_keep.proofs.World.{kept_mark_op, kept_settings}
 use Rattle.core_watch.proofs.GoingOn.{on_mark, on_others}
 use Rattle.core_watch.proofs.StayingOn.{formers_mark, formers_others}
 use Rattle.core_world.proofs.Letting.{LetsRead, lets_change}
@@ -32,9 +29,14 @@ use Rattle.core_clash.specs.Sound.{Noticed, Sound, has_moved, marked_in}
 use Rattle.core_clash.specs.Views.{AreOrdered}
 use Rattle.core_clash.proofs.Basics.{at_document, same_path}
 use Rattle.core_world.specs.Kept.{AreCommitting}
-use Rattle.core_world.specs.States.{core_in, moved_in, nodes_in}
+use Rattle.core_world.specs.States.{core_in, moved_in, nodes_in, origin}
 use Rattle.core_world.proofs.Tables.{moved_stays, put_main, put_node}
 use Rattle.core_world.proofs.Working.{world_of}
+use Rattle.oak_machine.specs.declared.event.Start.{Start}
+use Rattle.core_begun.proofs.World.{kept_mark_op, kept_settings}
+use Rattle.core_begun.specs.Kept.{IsKeptSince}
+use Rattle.core_begun.specs.Told.{IsToldSince}
+use Rattle.jr_rev.specs.Vectors.{sees}
 
 -- what a document shows that has other vectors is what it showed
 same_shown : {X : Type 0} (F : Option Document → X) (docs : Docs) (p : Path) (d : Document) → F (Some d) ≡ F (docs p) → (q : Path) → F (Rattle.core_clash.specs.Core.with_document docs p d q) ≡ F (docs q)
@@ -81,6 +83,7 @@ module _ (k : Core) (sound : Sound k) (p : Path) (d : Document) (there : k.docs 
     ended_drawn = sound.ended_drawn;
     settled = sound.settled;
     start = sound.start;
+    new = sound.new;
     bounds = sound.bounds;
     moved = sound.moved;
     entries = λ r q m free w i. same_marks r q m ∙ sound.entries r q m free w i;
@@ -113,6 +116,7 @@ numbered_sound k sound n = record {
   ended_drawn = sound.ended_drawn;
   settled = sound.settled;
   start = sound.start;
+  new = sound.new;
   bounds = sound.bounds;
   moved = sound.moved;
   entries = sound.entries;
@@ -136,9 +140,9 @@ numbered_sound k sound n = record {
 }
 
 -- a table with the same documents of nodes
-module _ (past : Past) (t u : Table) (running : ℕ → Option Running) (a : AreCommitting past t running) (told : IsTold past) (same : (p : Path) → nodes_in u p ≡ nodes_in t p) (previous : (k : ℕ) (p : Path) → documents_in u.documents (id.Prev k p) ≡ documents_in t.documents (id.Prev k p)) where
-  pub same_world : IsKeptWorld (documents_in u.documents) past (λ r. Rattle.core_world.specs.Kept.has_written (a.writers r))
-  same_world = kept_settings (documents_in t.documents) (documents_in u.documents) past _ (world_of past t running a told) same previous
+module _ (start : Start) (past : Past) (t u : Table) (running : ℕ → Option Running) (a : AreCommitting start past t running) (told : IsToldSince start past) (same : (p : Path) → nodes_in u p ≡ nodes_in t p) (previous : (k : ℕ) (p : Path) → documents_in u.documents (id.Prev k p) ≡ documents_in t.documents (id.Prev k p)) where
+  pub same_world : IsKeptSince start (documents_in u.documents) past (λ r. Rattle.core_world.specs.Kept.has_written (a.writers r))
+  same_world = kept_settings start (documents_in t.documents) (documents_in u.documents) past _ (world_of start past t running a told) same previous
 
   -- what documents list stays
   same_moved : moved_in u ≡ moved_in t
@@ -147,22 +151,22 @@ module _ (past : Past) (t u : Table) (running : ℕ → Option Running) (a : Are
       ∙ ap (λ (o : Option Document). option_map_or (λ d. filter_map (λ e. documents_in t.documents (id.Prev e.number p)) d.prev) o []) (same p))
 
   -- readers read on
-  pub nodes_let : LetsRead t u past past
-  nodes_let = lets_change t u past told (λ pin held. on_others pin (documents_in t.documents) (documents_in u.documents) past _ (world_of past t running a told) held same previous)
-      (λ formers l. formers_others (documents_in t.documents) (documents_in u.documents) past _ (world_of past t running a told) same previous formers l)
+  pub nodes_let : LetsRead start t u past past
+  nodes_let = lets_change start t u past told (λ pin held. on_others start pin (documents_in t.documents) (documents_in u.documents) past _ (world_of start past t running a told) held same previous)
+      (λ formers l. formers_others start (documents_in t.documents) (documents_in u.documents) past _ (world_of start past t running a told) same previous formers l)
 
-  pub nodes_commit : AreCommitting past u running
+  pub nodes_commit : AreCommitting start past u running
   nodes_commit = record {
     writers = a.writers;
-    sound = subst (λ (docs : Docs). Sound (record { number = u.number; docs = docs; moved = moved_in u; past = past; writers = a.writers })) (sym (fun_ext same))
-        (subst (λ (moved : Path → List Document). Sound (record { number = u.number; docs = nodes_in t; moved = moved; past = past; writers = a.writers })) (sym same_moved) (numbered_sound (core_in past t a.writers) a.sound u.number));
+    sound = subst (λ (docs : Docs). Sound (record { old = sees start.at; number = u.number; docs = docs; moved = moved_in u; past = past; writers = a.writers })) (sym (fun_ext same))
+        (subst (λ (moved : Path → List Document). Sound (record { old = sees start.at; number = u.number; docs = nodes_in t; moved = moved; past = past; writers = a.writers })) (sym same_moved) (numbered_sound (core_in start past t a.writers) a.sound u.number));
     theirs = a.theirs;
     listed = a.listed;
     kept = same_world;
     unstopped = a.unstopped;
   }
 
-module _ (past : Past) (t : Table) (running : ℕ → Option Running) (a : AreCommitting past t running) (told : IsTold past) (p : Path) (d : Document) (there : nodes_in t p ≡ Some d) (op : UpdateOp) (at : op.id ≡ id.Node p) (all : list_all is_marking op.changes ≡ true)
+module _ (start : Start) (past : Past) (t : Table) (running : ℕ → Option Running) (a : AreCommitting start past t running) (told : IsToldSince start past) (p : Path) (d : Document) (there : nodes_in t p ≡ Some d) (op : UpdateOp) (at : op.id ≡ id.Node p) (all : list_all is_marking op.changes ≡ true)
     (l v : RevVec) (is : after_changes (Some d) op (next_number t) ≡ revectored d l v (next_number t)) where
   abbrev n : ℕ
   n = next_number t
@@ -180,16 +184,16 @@ module _ (past : Past) (t : Table) (running : ℕ → Option Running) (a : AreCo
   same_prev : (revectored d l v n).prev ≡ option_map_or (λ d. d.prev) (nodes_in t p) []
   same_prev = sym (ap (λ (o : Option Document). option_map_or (λ d. d.prev) o []) there)
 
-  world : IsKeptWorld (documents_in after.documents) past (λ r. Rattle.core_world.specs.Kept.has_written (a.writers r))
-  world = kept_mark_op (documents_in t.documents) (documents_in after.documents) past _ (world_of past t running a told) p op n at all main
+  world : IsKeptSince start (documents_in after.documents) past (λ r. Rattle.core_world.specs.Kept.has_written (a.writers r))
+  world = kept_mark_op start (documents_in t.documents) (documents_in after.documents) past _ (world_of start past t running a told) p op n at all main
 
   -- the committers are as they were
-  pub vectors_commit : AreCommitting past (with_document t (id.Node p) (revectored d l v (next_number t)) (next_number t)) running
+  pub vectors_commit : AreCommitting start past (with_document t (id.Node p) (revectored d l v (next_number t)) (next_number t)) running
   vectors_commit = record {
     writers = a.writers;
-    sound = subst (λ (docs : Docs). Sound (record { number = n; docs = docs; moved = moved_in after; past = past; writers = a.writers })) (sym (put_node t p (revectored d l v n) n))
-        (subst (λ (moved : Path → List Document). Sound (record { number = n; docs = Rattle.core_clash.specs.Core.with_document (nodes_in t) p (revectored d l v n); moved = moved; past = past; writers = a.writers }))
-        (sym (moved_stays t after p (revectored d l v n) (put_main t p (revectored d l v n) n) same_prev)) (vectors_sound (core_in past t a.writers) a.sound p d there l v n));
+    sound = subst (λ (docs : Docs). Sound (record { old = sees start.at; number = n; docs = docs; moved = moved_in after; past = past; writers = a.writers })) (sym (put_node t p (revectored d l v n) n))
+        (subst (λ (moved : Path → List Document). Sound (record { old = sees start.at; number = n; docs = Rattle.core_clash.specs.Core.with_document (nodes_in t) p (revectored d l v n); moved = moved; past = past; writers = a.writers }))
+        (sym (moved_stays t after p (revectored d l v n) (put_main t p (revectored d l v n) n) same_prev)) (vectors_sound (core_in start past t a.writers) a.sound p d there l v n));
     theirs = a.theirs;
     listed = a.listed;
     kept = world;
@@ -197,6 +201,6 @@ module _ (past : Past) (t : Table) (running : ℕ → Option Running) (a : AreCo
   }
 
   -- readers read on
-  pub vectors_let : LetsRead t (with_document t (id.Node p) (revectored d l v (next_number t)) (next_number t)) past past
-  vectors_let = lets_change t after past told (λ pin held. on_mark pin (documents_in t.documents) (documents_in after.documents) past _ (world_of past t running a told) held p op n at all main)
-      (λ formers k. formers_mark (documents_in t.documents) (documents_in after.documents) past _ (world_of past t running a told) p op n at all main formers k)
+  pub vectors_let : LetsRead start t (with_document t (id.Node p) (revectored d l v (next_number t)) (next_number t)) past past
+  vectors_let = lets_change start t after past told (λ pin held. on_mark start pin (documents_in t.documents) (documents_in after.documents) past _ (world_of start past t running a told) held p op n at all main)
+      (λ formers k. formers_mark start (documents_in t.documents) (documents_in after.documents) past _ (world_of start past t running a told) p op n at all main formers k)

@@ -4,8 +4,7 @@ use Rattle.oak_clash.specs.declared.mark.Mark.{Mark}
 use Rattle.core_clash.specs.Sound.{marked_in}
 use Rattle.oak_commit.specs.Looking.{whole}
 use Rattle.core_clash.proofs.Whole.{whole_from}
-use Rattle.core_world.specs.States.{moved_in}
-use Rattle.core_keep.proofs.Journal.{edit_is, reading}
+use Rattle.core_world.specs.States.{moved_in, origin}
 use Rattle.core_world.specs.Kept.{IsAboveBounds}
 use Rattle.core_world.proofs.Readers.{pair_held}
 use Rattle.std.proofs.Common.{◌≡◌, ◌⊎◌, inl, inr, ℕ, ◌+◌, ◌≤◌, Bool, true, false, not, ◌&&◌, cond, Some, None, Option, List, [], ◌∷◌, length, is_some, refl, sym, ap, subst, ◌∙◌, arith}
@@ -25,7 +24,7 @@ use Rattle.oak_doc.specs.declared.document.Document.{Document}
 use Rattle.oak_machine.specs.declared.event.Draw.{Draw}
 use Rattle.oak_machine.specs.declared.event.Event.{Event}
 use Rattle.oak_machine.specs.declared.event.Event.TheVariants as event
-use Rattle.oak_machine.specs.History.{Past}
+use Rattle.oak_machine.specs.History.{Past, Begin}
 use Rattle.oak_machine.specs.Commits.{IsClosed, IsSettled, are_clashing, draw_of, is_committed, is_drawn, is_ended, is_in_base, is_in_flight, is_refused, refusal_of, tree_at}
 use Rattle.oak_machine.specs.Laws.{Says, Starts, StartsProper}
 use Rattle.oak_machine.specs.Runs.{AreNodes, IsNode, IsRunOf}
@@ -33,8 +32,8 @@ use Rattle.oak_machine.specs.Sessions.{base_of, has_left, has_login, is_attached
 use Rattle.oak_node.specs.Heads.{IsInFlight, known_time}
 use Rattle.oak_node.specs.Pins.{pin_of}
 use Rattle.oak_read.specs.Meaning.{documents_in, found_node}
-use Rattle.core_read.specs.Holds.{edit_of, root_entry, the_start}
-use Rattle.core_read.proofs.Told.{base_is as base_sees, no_edit}
+use Rattle.core_read.specs.Holds.{root_entry, the_start}
+use Rattle.core_read.proofs.Told.{base_is as base_sees}
 use Rattle.core_read.proofs.Vectors.{time_before}
 use Rattle.core_heads.specs.Sound.{IsHeld}
 use Rattle.core_heads.proofs.Runs.{closed_run, fresh_run, held_in_use, held_settled, sound_run}
@@ -48,7 +47,7 @@ use Rattle.core_clash.proofs.Complete.{complete, meets_clashing}
 use Rattle.core_clash.proofs.Meetings.{meeting}
 use Rattle.core_clash.proofs.Pasts.{in_flight, refused_for}
 use Rattle.core_clash.proofs.Steps.{no_unseen_clash, told_root, undone_here}
-use Rattle.core_nodes.specs.Nodes.{IsPair, base_of_pin}
+use Rattle.core_nodes.specs.Nodes.{IsPair, base_of_pin, begin_time}
 use Rattle.core_nodes.proofs.Times.{known_events}
 use Rattle.core_nodes.proofs.Waits.{flying_is}
 use Rattle.core_world.specs.Kept.{IsFreeOf, AreSessionsKept}
@@ -57,18 +56,23 @@ use Rattle.core_world.proofs.Commits.{on_its_node}
 use Rattle.core_world.proofs.Draws.{base_is, its_base, its_pair, some_pin}
 use Rattle.core_world.proofs.Lives.{its_node, node_alive, session_there}
 use Rattle.core_world.proofs.Readers.{HasBase, based_is, pinned_held}
+use Rattle.core_begun.proofs.Told.{no_edit}
+use Rattle.core_begun.specs.Told.{edit_since}
+use Rattle.core_begun.proofs.Course.{reading_since}
+use Rattle.core_begun.proofs.Sound.{found as edit_is}
+use Rattle.core_begun.proofs.Runs.{tree_in}
 
 -- the commit root of a drawn revision stays, whatever follows
-pub root_stays : (starts : Starts) (says : Says) (clusters : ℕ) (sessions : List ℕ) → AreNodes clusters sessions → (e : Event) (past : Past) (r : Revision) → IsRunOf starts says clusters sessions None (e ∷ past) → is_drawn past r ≡ true → root_of (e ∷ past) r ≡ root_of past r
-root_stays starts says clusters sessions nodes (event.Draw d) past r run drawn = by (is_same r d.revision) refl
+pub root_stays : (starts : Starts) (says : Says) (clusters : ℕ) (sessions : List ℕ) (begin : Begin) → AreNodes clusters sessions → (e : Event) (past : Past) (r : Revision) → IsRunOf starts says clusters sessions begin (e ∷ past) → is_drawn past r ≡ true → root_of (e ∷ past) r ≡ root_of past r
+root_stays starts says clusters sessions begin nodes (event.Draw d) past r run drawn = by (is_same r d.revision) refl
   where
     fresh : draw_of past d.revision ≡ None
-    fresh = (fresh_run clusters sessions nodes None starts says d past run).fresh
+    fresh = (fresh_run clusters sessions nodes begin starts says d past run).fresh
 
     by : (b : Bool) → is_same r d.revision ≡ b → commit_root (option_map_or (λ (e : Draw). e.marks) (cond b (Some d) (draw_of past r)) []) ≡ root_of past r
     by false h = refl
     by true h = absurd (false≢true (sym (ap (λ (o : Option Draw). is_some o) (ap (draw_of past) (same_revision r d.revision h) ∙ fresh)) ∙ drawn))
-root_stays starts says clusters sessions nodes e past r run drawn = refl
+root_stays starts says clusters sessions begin nodes e past r run drawn = refl
 
 module _ (starts : Starts) (says : Says) (proper : StartsProper starts) (w : State) (kept : AreSessionsKept starts says w) where
   -- ---- pins
@@ -77,20 +81,20 @@ module _ (starts : Starts) (says : Says) (proper : StartsProper starts) (w : Sta
     based : HasBase w.past s pin.base
     based = based_is w.past s pin.base (sym (its_base starts says proper w kept s there (pinned_alive w.sessions w.past (node_of w s) (memory_of w s) (kept.memories.pins (node_of w s) (its_node starts says proper w kept s there)) s pin has_pin)) ∙ ap base_of_pin has_pin)
 
-    pub pin_held : IsHeld None w.past pin.base
-    pin_held = pinned_held starts says w.clusters w.sessions kept.nodes w.past kept.run s pin.base based.base
+    pub pin_held : IsHeld w.begin w.past pin.base
+    pin_held = pinned_held starts says w.clusters w.sessions w.begin kept.nodes w.past kept.run s pin.base based.base
 
     pub pin_settled : IsSettled w.past pin.base
-    pin_settled = held_settled None w.past pin.base pin_held
+    pin_settled = held_settled w.begin w.past pin.base pin_held
 
     pub pin_closed : IsClosed w.past pin.base
-    pin_closed = closed_run w.clusters w.sessions kept.nodes None starts says w.past kept.run pin.base pin_held
+    pin_closed = closed_run w.clusters w.sessions kept.nodes w.begin starts says w.past kept.run pin.base pin_held
 
-    pub pin_shows : IsAboveBounds w.past pin → (p : Path) → found_node (documents_in w.table.documents) pin.sweep pin.base p ≡ node_at (tree_at None w.past pin.base) p
+    pub pin_shows : IsAboveBounds (origin w) w.past pin → (p : Path) → found_node (documents_in w.table.documents) pin.sweep pin.base p ≡ node_at (tree_at w.begin w.past pin.base) p
     pin_shows above p =
-        let world = kept.committing.kept in
-        reading (documents_in w.table.documents) w.past pin.base pin.sweep world.keeps world.told world.separate world.bounded world.swept
-        (pair_held w.past pin (held_in_use None w.past pin.base pin_held) (its_pair starts says proper w kept s there pin has_pin) above) p
+        reading_since (origin w) (documents_in w.table.documents) w.past _ pin.base pin.sweep kept.committing.kept
+        (pair_held (origin w) w.past pin (held_in_use w.begin w.past pin.base pin_held) (its_pair starts says proper w kept s there pin has_pin) above) p
+        ∙ ap (λ t. node_at t p) (tree_in w.clusters w.begin w.past pin.base)
 
   -- a session that is there has a pin, at its base
   pub pin_there : (s : ℕ) → is_stopped_under w.sessions w.past s ≡ false → has_login w.past s ≡ true → has_left w.past s ≡ false → (pin : Pin) × (pin_of (memory_of w s) s ≡ Some pin) × (pin.base ≡ base_in w s) × (is_attached w.past s ≡ false → base_of w.past s ≡ Some (base_in w s)) × IsPair pin.base pin.sweep
@@ -120,15 +124,19 @@ module _ (starts : Starts) (says : Says) (proper : StartsProper starts) (w : Sta
         let node : IsNode w.clusters k = kept.nodes.node s k on in
         let flying = in_flight w.past x.draw.revision x.draw mine.draw mine.unended in
         subst (λ (j : ℕ). IsInFlight (memory_at w.memories j) x.draw.revision) (sym (ap (λ o. unwrap_or o 0) on))
-        ((flying_is None w.clusters w.sessions kept.nodes w.past (sound_run w.clusters w.sessions kept.nodes None starts says w.past kept.run) k node (memory_at w.memories k) (kept.memories.memory k node) x.draw.revision).1 (refl, flying))
+        ((flying_is w.begin w.clusters w.sessions kept.nodes w.past (sound_run w.clusters w.sessions kept.nodes w.begin starts says w.past kept.run) k node (memory_at w.memories k) (kept.memories.memory k node) x.draw.revision).1 (refl, flying))
 
     -- what it is to mark was drawn
     pub due_drawn : (f : Met) → In f x.writer.due → is_drawn w.past f.other ≡ true
     due_drawn f h = (kept.committing.sound.due x.draw.revision f (subst (λ (v : Writer). In f v.due) (sym mine.writer) h)).cause.other
 
     -- the base of its draw sees the start
-    sees_start : sees x.draw.base (start_of 1) ≡ true
-    sees_start = sym (base_sees w.past x.draw.revision x.draw mine.draw (start_of 1)) ∙ kept.committing.sound.start x.draw.revision (ap (λ (o : Option Draw). is_some o) mine.draw)
+    sees_start : (o : Revision) → sees (origin w).at o ≡ true → sees x.draw.base o ≡ true
+    sees_start o old = sym (base_sees w.past x.draw.revision x.draw mine.draw o) ∙ kept.committing.sound.start x.draw.revision (ap (λ (o : Option Draw). is_some o) mine.draw) o old
+
+    new_outside : (o : Revision) → sees x.draw.base o ≡ false → (b : Bool) → sees (origin w).at o ≡ b → b ≡ false
+    new_outside o outside false h = refl
+    new_outside o outside true h = absurd (false≢true (sym outside ∙ sees_start o h))
 
     -- whom the base doesn't see no bound has swept
     fresh : (o : Revision) → sees x.draw.base o ≡ false → (b : Bool) → is_swept w.past o ≡ b → b ≡ false
@@ -138,8 +146,8 @@ module _ (starts : Starts) (says : Says) (proper : StartsProper starts) (w : Sta
 
     -- a document that has a mark of whom it doesn't see tells the commit root
     outside_rooted : (p : Path) (o : Revision) (m : Mark) → sees x.draw.base o ≡ false → marked_in (nodes_in w.table p) (moved_in w.table p) o m ≡ true → IsRooted (nodes_in w.table p) o (root_of w.past o)
-    outside_rooted p o m outside mark = told_root (core_in w.past w.table kept.committing.writers) o p m kept.committing.sound (fresh o outside (is_swept w.past o) refl)
-        (λ e. false≢true (sym outside ∙ (ap (sees x.draw.base) e ∙ sees_start))) mark
+    outside_rooted p o m outside mark = told_root (core_in (origin w) w.past w.table kept.committing.writers) o p m kept.committing.sound (fresh o outside (is_swept w.past o) refl)
+        (new_outside o outside (sees (origin w).at o) refl) mark
 
     -- the document in which it meets another, there or in a previous one, tells the other's commit root
     pub met_rooted : (p : Path) (f : Met) → In f (found x.draw.base x.draw.revision p x.draw.marks (whole p (nodes_in w.table p) (moved_in w.table p))) → IsRooted (nodes_in w.table p) f.other (root_of w.past f.other)
@@ -155,7 +163,7 @@ module _ (starts : Starts) (says : Says) (proper : StartsProper starts) (w : Sta
   -- ---- commits
 
   pub no_clash_unseen : (r o : Revision) → (r ≡ o → ⊥) → is_committed w.past r ≡ true → is_committed w.past o ≡ true → are_clashing w.past r o ≡ true → (is_in_base w.past r o ≡ true) ⊎ (is_in_base w.past o r ≡ true)
-  no_clash_unseen r o apart cr co clash = no_unseen_clash (core_in w.past w.table kept.committing.writers) r o kept.committing.sound apart cr co clash
+  no_clash_unseen r o apart cr co clash = no_unseen_clash (core_in (origin w) w.past w.table kept.committing.writers) r o kept.committing.sound apart cr co clash
 
   pub has_cause : (r : Revision) (item : Item) (o : Revision) → refusal_of w.past r ≡ Some (item, o) → Cause w.past r item o
   has_cause r item o h = kept.committing.sound.refusal r item o h
@@ -172,7 +180,7 @@ module _ (starts : Starts) (says : Says) (proper : StartsProper starts) (w : Sta
 
       going : (kept.committing.writers r).wants ≡ false → (b : Bool) → is_stopped w.past r.cluster ≡ b → (is_committed w.past r ≡ true) ⊎ (((kept.committing.writers r).wants ≡ true) × (is_refused w.past r ≡ false)) ⊎ (is_stopped w.past r.cluster ≡ true)
       going h true e = inr (inr e)
-      going h false e = inl (complete (core_in w.past w.table kept.committing.writers) r kept.committing.sound ended e h apart)
+      going h false e = inl (complete (core_in (origin w) w.past w.table kept.committing.writers) r kept.committing.sound ended e h apart)
 
       by : ((kept.committing.writers r).wants ≡ true) ⊎ ((kept.committing.writers r).wants ≡ false) → (is_committed w.past r ≡ true) ⊎ (((kept.committing.writers r).wants ≡ true) × (is_refused w.past r ≡ false)) ⊎ (is_stopped w.past r.cluster ≡ true)
       by (inl h) = inr (inl (h, unrefused (is_refused w.past r) refl))
@@ -183,17 +191,11 @@ module _ (starts : Starts) (says : Says) (proper : StartsProper starts) (w : Sta
     drawn : (d : Draw) × (draw_of w.past r ≡ Some d)
     drawn = some_of (draw_of w.past r) (kept.committing.sound.ended_drawn r ended)
 
-    positive : 1 ≤ r.time
-    positive = ((sound_run w.clusters w.sessions kept.nodes None starts says w.past kept.run).draws r drawn.0 drawn.1).positive
+    no_start : sees (origin w).at r ≡ false
+    no_start = kept.committing.sound.new r (kept.committing.sound.ended_drawn r ended)
 
-    after_start : is_before the_start r ≡ true
-    after_start = time_before the_start r (let a = positive in omega arith)
-
-    no_start : r ≡ start_of 1 → ⊥
-    no_start e = let t = ap (λ (x : Revision). x.time) e in let a = positive in omega arith
-
-    none : edit_of w.past r ≡ None
-    none = no_edit w.past r after_start uncommitted
+    none : edit_since w.past r ≡ None
+    none = no_edit w.past r uncommitted
 
     grounded : is_in_flight w.past r ≡ false
     grounded = ap (λ b. is_drawn w.past r && not b) ended ∙ and_no (is_drawn w.past r)
@@ -204,15 +206,12 @@ module _ (starts : Starts) (says : Says) (proper : StartsProper starts) (w : Sta
 
     pub leaves_nothing : (p : Path) (d : Document) → nodes_in w.table p ≡ Some d → IsFreeOf r d
     leaves_nothing p d is = record {
-      marks = λ m. subst (λ (o : Option Document). marked o r m ≡ false) is (undone_here (core_in w.past w.table kept.committing.writers) r p m kept.committing.sound no_start ended uncommitted);
-      root = ap (λ (o : Option ℕ). is_some o) (subst (λ (o : Option Document). root_entry o r ≡ None) is ((kept.committing.kept.keeps p).no_root r (edit_is w.past kept.committing.kept.told r ∙ none) refl grounded));
-      said = subst (λ (o : Option Document). Rattle.core_read.specs.Holds.has_revision o r ≡ false) is ((kept.committing.kept.keeps p).unsaid r (edit_is w.past kept.committing.kept.told r ∙ none) refl);
+      marks = λ m. subst (λ (o : Option Document). marked o r m ≡ false) is (undone_here (core_in (origin w) w.past w.table kept.committing.writers) r p m kept.committing.sound no_start ended uncommitted);
+      root = ap (λ (o : Option ℕ). is_some o) (subst (λ (o : Option Document). root_entry o r ≡ None) is ((kept.committing.kept.keeps p).no_root r (edit_is w.past r ∙ none) no_start grounded));
+      said = subst (λ (o : Option Document). Rattle.core_read.specs.Holds.has_revision o r ≡ false) is ((kept.committing.kept.keeps p).unsaid r (edit_is w.past r ∙ none) no_start);
     }
 
   -- ---- times
 
-  pub time_known : (k : ℕ) → IsNode w.clusters k → known_time (memory_at w.memories k) ≤ length w.past
-  time_known k node =
-      let most : known_time (memory_at w.memories k) ≤ 0 + length w.past =
-      known_events None w.clusters w.sessions kept.nodes starts says w.past kept.run k (memory_at w.memories k) node (kept.memories.memory k node) in
-      omega arith
+  pub time_known : (k : ℕ) → IsNode w.clusters k → known_time (memory_at w.memories k) ≤ begin_time w.begin + length w.past
+  time_known k node = known_events w.begin w.clusters w.sessions kept.nodes starts says w.past kept.run k (memory_at w.memories k) node (kept.memories.memory k node)

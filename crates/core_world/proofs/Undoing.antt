@@ -21,11 +21,7 @@ use Rattle.oak_machine.specs.Commits.{draw_of, is_ended, is_in_flight}
 use Rattle.oak_read.specs.Meaning.{Documents, documents_in}
 use Rattle.oak_store.specs.Tables.{Table, after_undo, next_number}
 use Rattle.core_read.specs.Committing.{IsPartly, IsUnwritten}
-use Rattle.core_read.specs.Holds.{edit_of}
-use Rattle.core_read.specs.Told.{IsTold}
-use Rattle.core_keep.specs.Journal.{with_progress, IsKeptWorld}
-use Rattle.core_keep.proofs.Events.{kept_idle}
-use Rattle.core_keep.proofs.World.{kept_undo_op}
+use Rattle.core_keep.specs.Journal.{with_progress}
 use Rattle.core_watch.proofs.GoingOn.{on_undo}
 use Rattle.core_watch.proofs.StayingOn.{formers_undo}
 use Rattle.core_world.proofs.Letting.{LetsRead, lets_event, lets_then, lets_change, lets_same}
@@ -35,7 +31,6 @@ use Rattle.core_clash.specs.Views.{AreOrdered, In, Once}
 use Rattle.core_clash.proofs.Basics.{In-left, decide, same_path, writer_other}
 use Rattle.core_clash.proofs.Finished.{event_keeps}
 use Rattle.core_clash.proofs.Pasts.{in_flight}
-use Rattle.core_read.proofs.Told.{no_edit}
 use Rattle.core_clash.proofs.Undone.{clear_keeps, undo_keeps}
 use Rattle.core_world.specs.States.{core_in, nodes_in, with_session}
 use Rattle.core_world.specs.Steps.{paths_to_write}
@@ -45,6 +40,12 @@ use Rattle.core_world.proofs.Progress.{among_less, is_among, progress_with}
 use Rattle.core_world.proofs.Freed.{effect, sound_undone}
 use Rattle.core_world.proofs.Tables.{undo_main, undo_none}
 use Rattle.core_world.proofs.Working.{flies, mine, pending, world_by, world_of}
+use Rattle.oak_machine.specs.declared.event.Start.{Start}
+use Rattle.core_begun.proofs.Told.{no_edit}
+use Rattle.core_begun.proofs.World.{kept_undo_op}
+use Rattle.core_begun.proofs.Events.{kept_idle}
+use Rattle.core_begun.specs.Kept.{IsKeptSince}
+use Rattle.core_begun.specs.Told.{edit_since, IsToldSince}
 
 once_first : (p : Path) (rest left : List Path) → Once ((p ∷ rest) ++ left) → In p rest → ⊥
 once_first p rest left once h = once.0 (In-left p rest left h)
@@ -66,7 +67,7 @@ module _ (ds : Documents) (r : Revision) (ws : List Write) (root p : Path) (done
       by q false k h = part.left q h
 
 -- a revision in flight that isn't committed is undone in a document
-module _ (past : Past) (t : Table) (running : ℕ → Option Running) (a : AreCommitting past t running) (told : IsTold past) (d : Draw) (drawn : draw_of past d.revision ≡ Some d) (flying : is_in_flight past d.revision ≡ true) (open_ : edit_of past d.revision ≡ None) (p : Path) where
+module _ (start : Start) (past : Past) (t : Table) (running : ℕ → Option Running) (a : AreCommitting start past t running) (told : IsToldSince start past) (d : Draw) (drawn : draw_of past d.revision ≡ Some d) (flying : is_in_flight past d.revision ≡ true) (open_ : edit_since past d.revision ≡ None) (p : Path) where
   abbrev r : Revision
   r = d.revision
 
@@ -83,40 +84,40 @@ module _ (past : Past) (t : Table) (running : ℕ → Option Running) (a : AreCo
   abbrev pub less_at : Path → Bool
   less_at q = not (eq_by_cmp path_cmp q p) && is_among (a.writers r).written q
 
-  pub undone_world : IsKeptWorld (documents_in now.documents) past (with_progress (λ q. is_among (a.writers q).written) r less_at)
+  pub undone_world : IsKeptSince start (documents_in now.documents) past (with_progress (λ q. is_among (a.writers q).written) r less_at)
   undone_world = by (nodes_in t p) refl
     where
-      by : (o : Option Document) → nodes_in t p ≡ o → IsKeptWorld (documents_in now.documents) past (with_progress (λ q. is_among (a.writers q).written) r less_at)
-      by None is = subst (λ (es : List (DocId × Document)). IsKeptWorld (documents_in es) past (with_progress (λ q. is_among (a.writers q).written) r less_at)) (sym (undo_none t p r is))
-          (record { keeps = a.kept.keeps; told = told; separate = a.kept.separate; bounded = a.kept.bounded; swept = a.kept.swept; partly = λ q f at flying none. each q f at flying none (is_same q r) refl })
+      by : (o : Option Document) → nodes_in t p ≡ o → IsKeptSince start (documents_in now.documents) past (with_progress (λ q. is_among (a.writers q).written) r less_at)
+      by None is = subst (λ (es : List (DocId × Document)). IsKeptSince start (documents_in es) past (with_progress (λ q. is_among (a.writers q).written) r less_at)) (sym (undo_none t p r is))
+          (record { first = a.kept.first; keeps = a.kept.keeps; told = told; separate = a.kept.separate; bounded = a.kept.bounded; swept = a.kept.swept; partly = λ q f at flying none. each q f at flying none (is_same q r) refl })
         where
-          each : (q : Revision) (f : Draw) → draw_of past q ≡ Some f → is_in_flight past q ≡ true → edit_of past q ≡ None → (b : Bool) → is_same q r ≡ b → IsPartly (documents_in t.documents) q f.edit.writes (commit_root f.marks) (λ y. cond b (less_at y) (is_among (a.writers q).written y))
+          each : (q : Revision) (f : Draw) → draw_of past q ≡ Some f → is_in_flight past q ≡ true → edit_since past q ≡ None → (b : Bool) → is_same q r ≡ b → IsPartly (documents_in t.documents) q f.edit.writes (commit_root f.marks) (λ y. cond b (less_at y) (is_among (a.writers q).written y))
           each q f at flying none false k = a.kept.partly q f at flying none
           each q f at flying none true k = subst (λ (v : Revision). IsPartly (documents_in t.documents) q f.edit.writes (commit_root f.marks) (λ y. not (eq_by_cmp path_cmp y p) && is_among (a.writers v).written y)) (Rattle.core_clash.proofs.Basics.same_revision q r k)
               (less (documents_in t.documents) q f.edit.writes (commit_root f.marks) p (is_among (a.writers q).written) is (a.kept.partly q f at flying none))
-      by (Some f) is = kept_undo_op (documents_in t.documents) (documents_in now.documents) past _ (world_of past t running a told) r d drawn flying open_ p (undo_op r p) n
+      by (Some f) is = kept_undo_op start (documents_in t.documents) (documents_in now.documents) past _ (world_of start past t running a told) r d drawn flying open_ p (undo_op r p) n
           f is (sorted_at f is).1 refl (undo_main t p r f is)
 
   -- readers read on
-  undone_lets : LetsRead t now past past
+  undone_lets : LetsRead start t now past past
   undone_lets = by (nodes_in t p) refl
     where
-      by : (o : Option Document) → nodes_in t p ≡ o → LetsRead t now past past
-      by None is = lets_same t now past (undo_none t p r is)
+      by : (o : Option Document) → nodes_in t p ≡ o → LetsRead start t now past past
+      by None is = lets_same start t now past (undo_none t p r is)
       by (Some f) is =
-          lets_change t now past told (λ pin held. on_undo pin (documents_in t.documents) (documents_in now.documents) past _ (world_of past t running a told) held r d drawn flying open_ p f (undo_op r p) n is (sorted_at f is).1 refl (undo_main t p r f is))
-          (λ formers l. formers_undo (documents_in t.documents) (documents_in now.documents) past _ (world_of past t running a told) r d drawn flying open_ p f (undo_op r p) n is (sorted_at f is).1 refl (undo_main t p r f is) formers l)
+          lets_change start t now past told (λ pin held. on_undo start pin (documents_in t.documents) (documents_in now.documents) past _ (world_of start past t running a told) held r d drawn flying open_ p f (undo_op r p) n is (sorted_at f is).1 refl (undo_main t p r f is))
+          (λ formers l. formers_undo start (documents_in t.documents) (documents_in now.documents) past _ (world_of start past t running a told) r d drawn flying open_ p f (undo_op r p) n is (sorted_at f is).1 refl (undo_main t p r f is) formers l)
 
   -- whichever session's event it is
-  pub lets_undone : (s : ℕ) → LetsRead t now past (event.Went s kind.Undo ∷ past)
-  lets_undone s = lets_then t now now past (event.Went s kind.Undo ∷ past) _ undone_world undone_lets (lets_event now past _ undone_world (event.Went s kind.Undo) (λ q. refl) (λ q. refl) (λ q. refl))
+  pub lets_undone : (s : ℕ) → LetsRead start t now past (event.Went s kind.Undo ∷ past)
+  lets_undone s = lets_then start t now now past (event.Went s kind.Undo ∷ past) _ undone_world undone_lets (lets_event start now past _ undone_world (event.Went s kind.Undo) (λ q. refl) (λ q. refl) (λ q. refl))
 
-  pub world_undone : (s : ℕ) → IsKeptWorld (documents_in now.documents) (event.Went s kind.Undo ∷ past) (with_progress (λ q. is_among (a.writers q).written) r less_at)
-  world_undone s = kept_idle (documents_in now.documents) past _ (event.Went s kind.Undo) refl undone_world
+  pub world_undone : (s : ℕ) → IsKeptSince start (documents_in now.documents) (event.Went s kind.Undo ∷ past) (with_progress (λ q. is_among (a.writers q).written) r less_at)
+  world_undone s = kept_idle start (documents_in now.documents) past _ (event.Went s kind.Undo) refl undone_world
 
--- ---- by its committer
+-- ---- by its start committer
 
-module _ (past : Past) (t : Table) (running : ℕ → Option Running) (a : AreCommitting past t running) (told : IsTold past) (s : ℕ) (x : Running) (here : running s ≡ Some x) (uncommitted : x.committed ≡ false) (undoing : x.writer.undoing ≡ true)
+module _ (start : Start) (past : Past) (t : Table) (running : ℕ → Option Running) (a : AreCommitting start past t running) (told : IsToldSince start past) (s : ℕ) (x : Running) (here : running s ≡ Some x) (uncommitted : x.committed ≡ false) (undoing : x.writer.undoing ≡ true)
     (p : Path) (rest : List Path) (next : x.writer.written ≡ p ∷ rest) where
   abbrev o : Revision
   o = x.draw.revision
@@ -131,15 +132,15 @@ module _ (past : Past) (t : Table) (running : ℕ → Option Running) (a : AreCo
   left_table = after_undo t (id.Node p) x.draw.revision
 
   its : IsTheirs past a.writers s x
-  its = mine past t running a told s x here
+  its = mine start past t running a told s x here
 
-  open_draw : edit_of past o ≡ None
-  open_draw = pending past t running a told s x here uncommitted
+  open_draw : edit_since past o ≡ None
+  open_draw = pending start past t running a told s x here uncommitted
 
   in_air : is_in_flight past o ≡ true
-  in_air = flies past t running a told s x here
+  in_air = flies start past t running a told s x here
 
-  may : MayUndo (core_in past t a.writers) x.draw p rest
+  may : MayUndo (core_in start past t a.writers) x.draw p rest
   may = record { draw = its.draw; unended = its.unended; undoing = ap (λ (w : Writer). w.undoing) its.writer ∙ undoing; next = ap (λ (w : Writer). w.written) its.writer ∙ next }
 
   -- p stands once
@@ -150,19 +151,19 @@ module _ (past : Past) (t : Table) (running : ℕ → Option Running) (a : AreCo
   shrinks : (q : Path) → (not (eq_by_cmp path_cmp q p) && is_among (a.writers o).written q) ≡ is_among rest q
   shrinks q = ap (λ (ps : List Path). not (eq_by_cmp path_cmp q p) && is_among ps q) may.next ∙ among_less rest p q gone
 
-  pub undo_commits : AreCommitting later left_table (with_session running s (Some (record { draw = x.draw; writer = less_done x.writer; committed = x.committed })))
+  pub undo_commits : AreCommitting start later left_table (with_session running s (Some (record { draw = x.draw; writer = less_done x.writer; committed = x.committed })))
   undo_commits = record {
     writers = with_writer a.writers o (less_done (a.writers o));
-    sound = sound_undone t a.sound.ordered p x.draw.revision later _
-        (undo_keeps (core_in past t a.writers) x.draw p rest (next_number t) _ a.sound may (effect t a.sound.ordered p x.draw.revision));
+    sound = sound_undone t a.sound.ordered p x.draw.revision start later _
+        (undo_keeps (core_in start past t a.writers) x.draw p rest (next_number t) _ a.sound may (effect t a.sound.ordered p x.draw.revision));
     theirs = theirs_step past a.writers running a.theirs s x here (less_done (a.writers o)) (less_done x.writer) (ap less_done its.writer) x.committed later (λ q. refl) (λ q. refl) (λ q k. refl) its.committed;
     listed = at_session (λ q (y : Running). y.writer.paths ≡ paths_to_write y.draw.marks) running s _ (a.listed s x here) (λ q y f h. a.listed q y h);
-    kept = world_by (documents_in left_table.documents) later _ (λ q. is_among (with_writer a.writers o (less_done (a.writers o)) q).written) (progress_with a.writers o (less_done (a.writers o)) _ shrinks) (world_undone past t running a told x.draw its.draw in_air open_draw p x.draw.session);
+    kept = world_by start (documents_in left_table.documents) later _ (λ q. is_among (with_writer a.writers o (less_done (a.writers o)) q).written) (progress_with a.writers o (less_done (a.writers o)) _ shrinks) (world_undone start past t running a told x.draw its.draw in_air open_draw p x.draw.session);
     unstopped = at_session (λ q (y : Running). is_stopped past y.draw.revision.cluster ≡ false) running s _ (a.unstopped s x here) (λ q y f h. a.unstopped q y h);
   }
 
-  pub undo_lets : LetsRead t left_table past later
-  undo_lets = lets_undone past t running a told x.draw its.draw in_air open_draw p x.draw.session
+  pub undo_lets : LetsRead start t left_table past later
+  undo_lets = lets_undone start past t running a told x.draw its.draw in_air open_draw p x.draw.session
 
 -- ---- by a recovery
 
@@ -189,7 +190,7 @@ among_without p (x ∷ ps) q = by (eq_by_cmp path_cmp x p) refl (eq_by_cmp path_
     by false e false f more = more ∙ sym (ap (λ b. b || is_among (without_path p ps) q) f)
 
 -- no committer at work is that of a stopped node
-module _ (past : Past) (t : Table) (running : ℕ → Option Running) (a : AreCommitting past t running) (d : Draw) (dead : IsDead past d) where
+module _ (start : Start) (past : Past) (t : Table) (running : ℕ → Option Running) (a : AreCommitting start past t running) (d : Draw) (dead : IsDead past d) where
   pub not_dead : (q : ℕ) (y : Running) → running q ≡ Some y → is_same y.draw.revision d.revision ≡ false
   not_dead q y h = by (decide y.draw.revision d.revision)
     where
@@ -197,15 +198,15 @@ module _ (past : Past) (t : Table) (running : ℕ → Option Running) (a : AreCo
       by (inl e) = absurd (false≢true (sym (a.unstopped q y h) ∙ (ap (λ (r : Revision). is_stopped past r.cluster) e ∙ dead.stopped)))
       by (inr f) = f
 
-module _ (past : Past) (t : Table) (running : ℕ → Option Running) (a : AreCommitting past t running) (told : IsTold past) (d : Draw) (dead : IsDead past d) (unended : is_ended past d.revision ≡ false) (p : Path) (s : ℕ) where
+module _ (start : Start) (past : Past) (t : Table) (running : ℕ → Option Running) (a : AreCommitting start past t running) (told : IsToldSince start past) (d : Draw) (dead : IsDead past d) (unended : is_ended past d.revision ≡ false) (p : Path) (s : ℕ) where
   abbrev v : Revision
   v = d.revision
 
   flew : is_in_flight past v ≡ true
   flew = in_flight past v d dead.draw unended
 
-  never_said : edit_of past v ≡ None
-  never_said = no_edit past v (told.draws v d dead.draw).after dead.uncommitted
+  never_said : edit_since past v ≡ None
+  never_said = no_edit past v dead.uncommitted
 
   abbrev clear_table : Table
   clear_table = after_undo t (id.Node p) d.revision
@@ -216,19 +217,19 @@ module _ (past : Past) (t : Table) (running : ℕ → Option Running) (a : AreCo
   abbrev clear_writers : Revision → Writer
   clear_writers = with_writer a.writers v (cleared (a.writers v) p)
 
-  pub clear_commits : AreCommitting clear_past clear_table running
+  pub clear_commits : AreCommitting start clear_past clear_table running
   clear_commits = record {
     writers = clear_writers;
-    sound = sound_undone t a.sound.ordered p d.revision clear_past clear_writers
+    sound = sound_undone t a.sound.ordered p d.revision start clear_past clear_writers
         (event_keeps _ (event.Went s kind.Undo) refl
-        (clear_keeps (core_in past t a.writers) d a.sound dead p (next_number t) _ (effect t a.sound.ordered p d.revision)));
+        (clear_keeps (core_in start past t a.writers) d a.sound dead p (next_number t) _ (effect t a.sound.ordered p d.revision)));
     theirs = λ q y h.
         let theirs = a.theirs q y h in
-        record { session = theirs.session; draw = theirs.draw; unended = theirs.unended; committed = theirs.committed; writer = writer_other a.writers v (cleared (a.writers v) p) y.draw.revision (not_dead past t running a d dead q y h) ∙ theirs.writer };
+        record { session = theirs.session; draw = theirs.draw; unended = theirs.unended; committed = theirs.committed; writer = writer_other a.writers v (cleared (a.writers v) p) y.draw.revision (not_dead start past t running a d dead q y h) ∙ theirs.writer };
     listed = a.listed;
-    kept = world_by (documents_in clear_table.documents) clear_past _ (λ q. is_among (clear_writers q).written) (progress_with a.writers v (cleared (a.writers v) p) _ (among_without p (a.writers v).written)) (world_undone past t running a told d dead.draw flew never_said p s);
+    kept = world_by start (documents_in clear_table.documents) clear_past _ (λ q. is_among (clear_writers q).written) (progress_with a.writers v (cleared (a.writers v) p) _ (among_without p (a.writers v).written)) (world_undone start past t running a told d dead.draw flew never_said p s);
     unstopped = a.unstopped;
   }
 
-  pub clear_lets : LetsRead t clear_table past clear_past
-  clear_lets = lets_undone past t running a told d dead.draw flew never_said p s
+  pub clear_lets : LetsRead start t clear_table past clear_past
+  clear_lets = lets_undone start past t running a told d dead.draw flew never_said p s

@@ -3,13 +3,13 @@ use Rattle.core_clash.specs.Sessions.{Running}
 use Rattle.core_nodes.specs.Nodes.{cursor_owner, base_of_pin}
 use Rattle.core_world.specs.Kept.{AreLayersKept, IsAboveBounds, WereOnRoot, IsBetweenPins, SeesStarts}
 use Rattle.core_world.specs.Start.{start_state}
-use Rattle.core_world.specs.States.{State, actor_pin, base_in, history_in, memory_of, node_of, reader_pin, memory_at}
+use Rattle.core_world.specs.States.{State, actor_pin, base_in, history_in, memory_of, node_of, reader_pin, memory_at, origin}
 use Rattle.core_world.specs.Steps.{IsThrough, after_attach, after_back, after_checkpoint, after_detach, after_draw, after_finish, after_last, after_learn, after_learn_swept, after_leave, after_login, after_mark, after_observe, after_out, after_pending, after_refresh, after_release, after_said, after_sweep, after_undoing, after_unfound, after_want, after_went, after_write, after_write_in_want, back_op, draw_in, sweep_op, with_reader, with_observer}
 use Rattle.jr_path.specs.Names.{path_cmp}
 use Rattle.jr_path.specs.declared.path.Path.{Path}
 use Rattle.jr_path.specs.Lists.{Text}
 use Rattle.jr_rev.specs.Revisions.{is_at_most}
-use Rattle.jr_rev.specs.Vectors.{sees, is_below, start_of}
+use Rattle.jr_rev.specs.Vectors.{sees, is_below, start_of, start}
 use Rattle.jr_rev.specs.declared.revision.Revision.{Revision}
 use Rattle.jr_rev.specs.declared.vector.Pin.{Pin}
 use Rattle.jr_rev.specs.declared.vector.RevVec.{RevVec}
@@ -18,19 +18,19 @@ use Rattle.oak_clash.specs.declared.mark.MarkAt.{MarkAt}
 use Rattle.oak_commit.specs.Clashing.{Met}
 use Rattle.oak_doc.specs.declared.document.Document.{Document}
 use Rattle.oak_machine.specs.Heads.{local, published}
-use Rattle.oak_machine.specs.History.{Past}
+use Rattle.oak_machine.specs.History.{Past, Begin}
 use Rattle.oak_machine.specs.Laws.{Says, Starts, StartsProper, StartsWrite}
 use Rattle.oak_machine.specs.Runs.{AreNodes, IsNode}
 use Rattle.oak_machine.specs.Sessions.{has_left, has_login, has_reader, is_attached, is_stopped_under, kept_checkpoint, next_index, cursor_at, session_base}
 use Rattle.oak_machine.specs.Steps.{is_kind}
 use Rattle.oak_machine.specs.declared.event.StepKind.{StepKind}
 use Rattle.oak_node.specs.Heads.{learned}
-use Rattle.oak_node.specs.Pins.{pin_of}
+use Rattle.oak_node.specs.Pins.{pin_of, pin_now}
 use Rattle.oak_read.specs.Reading.{IsTable, answer, children_reader, due, fed, node_reader}
 use Rattle.oak_read.specs.declared.reader.Reader.{Reader}
-use Rattle.std.proofs.Common.{Bool, List, None, Option, Some, [], ap, cond, false, is_some, refl, subst, sym, true, ℕ, ◌∙◌, ◌∷◌, ◌≡◌}
+use Rattle.std.proofs.Common.{Bool, List, None, Option, Some, [], ap, cond, false, is_some, refl, subst, sym, true, ℕ, ◌∙◌, ◌∷◌, ◌≡◌, ◌||◌, not}
 use Rattle.std.specs.BTreeMap.{is_at}
-use Rattle.std.specs.Map.{lookup}
+use Rattle.std.specs.Map.{lookup, values_of}
 use Rattle.std.specs.Option.{option_and_then, option_map_or}
 use Rattle.std.specs.Ordering.{eq_by_cmp, nat_cmp}
 use Rattle.std.specs.Prelude.{Err, IsFalse, IsSome, IsTrue, Ok, slice_get}
@@ -47,8 +47,8 @@ use Rattle.oak_doc.specs.declared.update.OpFault.{OpFault}
 use Rattle.oak_doc.specs.declared.update.Kept.TheVariants as keeps
 use Rattle.oak_node.specs.Heads.{finished}
 use Rattle.core_keep.specs.Journal.{is_bounded, is_swept}
-use Rattle.core_world.specs.Held.{after_bound, holding_in, MayTakeBound}
-use Rattle.core_world.proofs.Held.{in_back, kept_now, pins_alive, head_is}
+use Rattle.core_world.specs.Held.{after_bound, holding_in, MayTakeBound, is_node_in, no_pin}
+use Rattle.core_world.proofs.Held.{in_back, kept_now, pins_alive, head_is, node_is}
 use Rattle.core_world.proofs.Seated.{attach_pinned, attach_unfound_pinned, checkpoint_pinned, detach_pinned, drawn_pinned, finish_pinned, gone_pinned, last_pinned, left_pinned, loaded_pinned, mark_pinned, memory_pinned, moved_pinned, observed_pinned, quiet_pinned, read_pinned, release_pinned, release_unfound_pinned, noticed_pinned, unnoticed_pinned}
 use Rattle.core_world.proofs.Setting.{undo_apart, update_apart}
 use Rattle.core_world.proofs.Lives.{no_reader, reader_login, no_observer, observer_login, on_node}
@@ -57,8 +57,7 @@ use Rattle.core_world.specs.Steps.{swept_to}
 use Rattle.oak_node.specs.Notes.{without_seen}
 use Rattle.oak_commit.specs.Writing.{write_op}
 use Rattle.core_world.specs.Kept.{IsPinned}
-use Rattle.std.specs.Map.{values_of}
-use Rattle.core_world.specs.Kept.{AreAboveBounds, IsAboveBounds, IsKept}
+use Rattle.core_world.specs.Kept.{AreAboveBounds, IsKept}
 use Rattle.core_world.specs.Steps.{lasted_by, marked_by}
 use Rattle.core_heads.proofs.Below.{below_seen}
 use Rattle.core_keep.specs.Holding.{Holding, IsBelowAll, IsHoldingStep, IsPairBelow}
@@ -81,20 +80,31 @@ use Rattle.core_world.proofs.Loads.{changes_given}
 use Rattle.oak_node.specs.Memory.{NodeState}
 use Rattle.core_world.proofs.Begun.{begun_at}
 use Rattle.core_world.proofs.Roots.{starts_seen}
+use Rattle.oak_machine.specs.declared.event.Start.{Start}
+use Rattle.core_begun.specs.Kept.{bounded_since, swept_since}
+use Rattle.core_clash.proofs.Basics.{or_right}
+use Rattle.core_begun.specs.Told.{start_in}
+use Rattle.core_read.specs.Told.{IsIn}
 
 -- what is held rises, so it stays above the bounds so far
-above_goes : (past later : Past) (a b : Holding) → IsHoldingStep a b → ((r : Revision) → is_bounded later r ≡ is_bounded past r) → ((r : Revision) → is_swept later r ≡ is_swept past r) → AreAboveBounds past a → AreAboveBounds later b
-above_goes past later a b step bounds sweeps above = record {
+above_goes : (start : Start) (past later : Past) (a b : Holding) → IsHoldingStep a b → ((r : Revision) → is_bounded later r ≡ is_bounded past r) → ((r : Revision) → is_swept later r ≡ is_swept past r) → AreAboveBounds start past a → AreAboveBounds start later b
+above_goes start past later a b step bounds sweeps above = record {
   heads = λ k g. at_last (λ r h. below_seen (a.heads k).base (b.heads k).base r (step.heads k).0 ((above.heads k (before k g)).base r h)) (λ r h. below_seen (a.heads k).sweep (b.heads k).sweep r (step.heads k).1 ((above.heads k (before k g)).sweep r h));
-  pins = λ k g x i. elim (step.pins k x g i) [ inl j ↦ moved x (above.pins k (before k g) x j) | inr e ↦ subst (λ (y : Pin). IsAboveBounds later y) (sym e) (moved (a.heads k) (above.heads k (before k g))) ];
+  pins = λ k g x i. elim (step.pins k x g i) [ inl j ↦ moved x (above.pins k (before k g) x j) | inr e ↦ subst (λ (y : Pin). IsAboveBounds start later y) (sym e) (moved (a.heads k) (above.heads k (before k g))) ];
   kept = λ x i. elim (step.kept x i) [ inl j ↦ moved x (above.kept x j) | inr j ↦ moved x (above.pins j.0 j.1 x j.2) ];
 }
   where
-    at_last : {x : Pin} → ((r : Revision) → is_bounded past r ≡ true → sees x.base r ≡ true) → ((r : Revision) → is_swept past r ≡ true → sees x.sweep r ≡ true) → IsAboveBounds later x
-    at_last base sweep = record { base = λ r h. base r (sym (bounds r) ∙ h); sweep = λ r h. sweep r (sym (sweeps r) ∙ h) }
+    bounded : (r : Revision) → bounded_since start later r ≡ bounded_since start past r
+    bounded r = ap (λ c. sees start.at r || c) (bounds r)
 
-    moved : (x : Pin) → IsAboveBounds past x → IsAboveBounds later x
-    moved x up = record { base = λ r h. up.base r (sym (bounds r) ∙ h); sweep = λ r h. up.sweep r (sym (sweeps r) ∙ h) }
+    swept : (r : Revision) → swept_since start later r ≡ swept_since start past r
+    swept r = ap (λ c. sees start.at r || c) (sweeps r)
+
+    at_last : {x : Pin} → ((r : Revision) → bounded_since start past r ≡ true → sees x.base r ≡ true) → ((r : Revision) → swept_since start past r ≡ true → sees x.sweep r ≡ true) → IsAboveBounds start later x
+    at_last base sweep = record { base = λ r h. base r (sym (bounded r) ∙ h); sweep = λ r h. sweep r (sym (swept r) ∙ h) }
+
+    moved : (x : Pin) → IsAboveBounds start past x → IsAboveBounds start later x
+    moved x up = record { base = λ r h. up.base r (sym (bounded r) ∙ h); sweep = λ r h. up.sweep r (sym (swept r) ∙ h) }
 
     before : (k : ℕ) → b.gone k ≡ false → a.gone k ≡ false
     before k g = by (a.gone k) refl
@@ -104,15 +114,15 @@ above_goes past later a b step bounds sweeps above = record {
         by true h = absurd (false≢true (sym g ∙ step.gone k h))
 
 -- a bound that is at most what is held leaves it above
-above_bound : (past : Past) (m t : RevVec) (h : Holding) → IsBelowAll (record { base = m; sweep = t }) h → AreAboveBounds past h → AreAboveBounds (event.Bound m t ∷ past) h
-above_bound past m t h below above = record {
+above_bound : (start : Start) (past : Past) (m t : RevVec) (h : Holding) → IsBelowAll (record { base = m; sweep = t }) h → AreAboveBounds start past h → AreAboveBounds start (event.Bound m t ∷ past) h
+above_bound start past m t h below above = record {
   heads = λ k g. one (h.heads k) (below.head k g) (above.heads k g);
   pins = λ k g x i. one x (below.pins k g x i) (above.pins k g x i);
   kept = λ x i. one x (below.kept x i) (above.kept x i);
 }
   where
-    one : (x : Pin) → IsPairBelow (record { base = m; sweep = t }) x → IsAboveBounds past x → IsAboveBounds (event.Bound m t ∷ past) x
-    one = above_one past m t
+    one : (x : Pin) → IsPairBelow (record { base = m; sweep = t }) x → IsAboveBounds start past x → IsAboveBounds start (event.Bound m t ∷ past) x
+    one = above_one start past m t
 
 pub start_whole : (starts : Starts) (says : Says) (clusters : ℕ) (sessions : List ℕ) → AreNodes clusters sessions → IsKept starts says (start_state clusters sessions)
 start_whole starts says clusters sessions nodes =
@@ -122,13 +132,34 @@ start_whole starts says clusters sessions nodes =
       root = layers.root;
       settings = layers.settings;
       above = record {
-        heads = λ k g. record { base = λ r h. absurd (false≢true h); sweep = λ r h. absurd (false≢true h) };
-        pins = λ k g x i. record { base = λ r h. absurd (false≢true h); sweep = λ r h. absurd (false≢true h) };
-        kept = λ x i. record { base = λ r h. absurd (false≢true h); sweep = λ r h. absurd (false≢true h) };
+        heads = λ k g. subst (IsAboveBounds (start_in clusters None) []) (sym (head_begun k g)) both;
+        pins = λ k g x i. absurd (subst (λ (m : NodeState). IsIn x (values_of m.pins)) (begun_at clusters k (node k g)) i);
+        kept = λ x i. absurd i;
       };
       pinned = record { reads = λ s r h. absurd (false≢true (ap is_some h)); observes = λ s r h. absurd (false≢true (ap is_some h)) };
       begun = λ k node. subst (λ (m : NodeState). SeesStarts clusters m.sweep) (sym (begun_at clusters k node)) (starts_seen clusters nodes.eight);
     }
+  where
+    only : (b : Bool) → (b || false) ≡ true → b ≡ true
+    only true h = refl
+    only false h = absurd (false≢true h)
+
+    -- what a node begins with is above what there is then
+    both : IsAboveBounds (start_in clusters None) [] (record { base = start clusters; sweep = start clusters })
+    both = record { base = λ r h. only (sees (start clusters) r) h; sweep = λ r h. only (sees (start clusters) r) h }
+
+    taking : (a b : Bool) → (not a || b) ≡ false → a ≡ true
+    taking true b h = refl
+    taking false b h = absurd (false≢true (sym h))
+
+    is_one : (k : ℕ) → (holding_in (start_state clusters sessions)).gone k ≡ false → is_node_in clusters k ≡ true
+    is_one k g = taking (is_node_in clusters k) _ g
+
+    node : (k : ℕ) → (holding_in (start_state clusters sessions)).gone k ≡ false → IsNode clusters k
+    node k g = node_is clusters k (is_one k g)
+
+    head_begun : (k : ℕ) → (holding_in (start_state clusters sessions)).gone k ≡ false → (holding_in (start_state clusters sessions)).heads k ≡ record { base = start clusters; sweep = start clusters }
+    head_begun k g = ap (λ b. cond b (pin_now (memory_at (start_state clusters sessions).memories k)) no_pin) (is_one k g) ∙ ap pin_now (begun_at clusters k (node k g))
 
 abbrev pub layers_of : (starts : Starts) (says : Says) (w : State) → IsKept starts says w → AreLayersKept starts says w
 layers_of starts says w kept = record { sessions = kept.sessions; root = kept.root; settings = kept.settings }
@@ -147,13 +178,13 @@ module _ (starts : Starts) (says : Says) (proper : StartsProper starts) (w : Sta
       (subst (λ (x : Pin). is_below (memory_at w.memories k).sweep x.sweep ≡ true) new (subst (λ (x : Pin). is_below x.sweep ((holding_in u).heads k).sweep ≡ true) old (rises.heads k).1))
       (kept.begun k was j (subst (λ (n : ℕ). IsNode n j) same other))
 
-  pub goes : (u : State) → u.clusters ≡ w.clusters → AreLayersKept starts says u → ((r : Revision) → is_bounded u.past r ≡ is_bounded w.past r) → ((r : Revision) → is_swept u.past r ≡ is_swept w.past r) → IsHoldingStep (holding_in w) (holding_in u) → IsPinned u → IsKept starts says u
-  goes u same later bounds sweeps rises pins = record {
+  pub goes : (u : State) → u.clusters ≡ w.clusters → origin u ≡ origin w → AreLayersKept starts says u → ((r : Revision) → is_bounded u.past r ≡ is_bounded w.past r) → ((r : Revision) → is_swept u.past r ≡ is_swept w.past r) → IsHoldingStep (holding_in w) (holding_in u) → IsPinned u → IsKept starts says u
+  goes u same from later bounds sweeps rises pins = record {
     pinned = pins;
     sessions = later.sessions;
     root = later.root;
     settings = later.settings;
-    above = above_goes w.past u.past (holding_in w) (holding_in u) rises bounds sweeps kept.above;
+    above = subst (λ (s : Start). AreAboveBounds s u.past (holding_in u)) (sym from) (above_goes (origin w) w.past u.past (holding_in w) (holding_in u) rises bounds sweeps kept.above);
     begun = begun_goes u same later rises;
   }
 
@@ -165,6 +196,15 @@ module _ (starts : Starts) (says : Says) (proper : StartsProper starts) (w : Sta
   last_clusters s x (Ok d) = refl
   last_clusters s x (Err (fault.Unmet c (keeps.Entry o item))) = refl
   last_clusters s x (Err g) = refl
+
+  mark_origin : (s : ℕ) (x : Running) (f : Met) (rest : List Met) (o : Result Document OpFault) → origin (marked_by w s x f rest o) ≡ origin w
+  mark_origin s x f rest (Ok d) = refl
+  mark_origin s x f rest (Err g) = refl
+
+  last_origin : (s : ℕ) (x : Running) (o : Result Document OpFault) → origin (lasted_by w s x o) ≡ origin w
+  last_origin s x (Ok d) = refl
+  last_origin s x (Err (fault.Unmet c (keeps.Entry o item))) = refl
+  last_origin s x (Err g) = refl
 
   -- what a step tells in one of two ways is no bound
   abbrev TellsNoBound : Past → Type 0
@@ -191,23 +231,23 @@ module _ (starts : Starts) (says : Says) (proper : StartsProper starts) (w : Sta
       let alive = node_alive starts says proper w kept.sessions s there on in
       let pin = some_pin starts says proper w kept.sessions s alive login stays in
       ap (λ (x : Option Pin). sees (option_map_or (λ (p : Pin). p.base) x (memory_of w s).head) o) pin.1
-      ∙ (kept.above.pins (node_of w s) (takes_part starts says proper w layers (node_of w s) node alive) pin.0 (found_in (is_at (nat_cmp s)) _ pin.0 pin.1)).base o h
+      ∙ (kept.above.pins (node_of w s) (takes_part starts says proper w layers (node_of w s) node alive) pin.0 (found_in (is_at (nat_cmp s)) _ pin.0 pin.1)).base o (or_right (sees (origin w).at o) _ h)
 
   -- so do the pins of a session
-  pub pin_above : (s : ℕ) → is_some (slice_get w.sessions s) ≡ true → (pin : Pin) → pin_of (memory_of w s) s ≡ Some pin → IsAboveBounds w.past pin
+  pub pin_above : (s : ℕ) → is_some (slice_get w.sessions s) ≡ true → (pin : Pin) → pin_of (memory_of w s) s ≡ Some pin → IsAboveBounds (origin w) w.past pin
   pin_above s there pin has =
       let node = its_node starts says proper w kept.sessions s there in
       let i = found_in (is_at (nat_cmp s)) _ pin has in
       kept.above.pins (node_of w s) (takes_part starts says proper w layers (node_of w s) node (pins_alive starts says proper w layers (node_of w s) node pin i)) pin i
 
   -- and the pair at which it reads
-  pub actor_above : (s : ℕ) (pin : Pin) → has_login w.past s ≡ true → has_left w.past s ≡ false → actor_pin w s ≡ Some pin → IsAboveBounds w.past pin
+  pub actor_above : (s : ℕ) (pin : Pin) → has_login w.past s ≡ true → has_left w.past s ≡ false → actor_pin w s ≡ Some pin → IsAboveBounds (origin w) w.past pin
   actor_above s pin login stays has = by (is_attached w.past s) has
     where
       there : is_some (slice_get w.sessions s) ≡ true
       there = session_there starts says proper w kept.sessions s login
 
-      by : (b : Bool) → cond b (reader_pin w.table s) (pin_of (memory_of w s) s) ≡ Some pin → IsAboveBounds w.past pin
+      by : (b : Bool) → cond b (reader_pin w.table s) (pin_of (memory_of w s) s) ≡ Some pin → IsAboveBounds (origin w) w.past pin
       by true k = kept.above.kept pin (kept_now starts says proper w layers pin (in_back pin (values_of kept.settings.document.checkpoints) (values_of kept.settings.document.readers)
           (found_in (is_at (nat_cmp s)) kept.settings.document.readers pin (sym (ap (λ (o : Option Document). option_and_then (λ d. lookup (is_at (nat_cmp s)) d.readers) o) kept.settings.there) ∙ k))))
       by false k = pin_above s there pin k
@@ -221,119 +261,119 @@ module _ (starts : Starts) (says : Says) (proper : StartsProper starts) (w : Sta
       (cursor_owned w.sessions w.past (node_of w s) s (on_node starts says proper w kept.sessions s there) few ∙ at)
 
   pub login_whole : (s : ℕ) → IsFalse (is_stopped_under w.sessions w.past s) → IsTrue (is_some (slice_get w.sessions s)) → IsFalse (has_login w.past s) → IsKept starts says (after_login w s)
-  login_whole s on there first = goes (after_login w s) refl (login_layers starts says proper w layers s on there first) (λ r. refl) (λ r. refl) (login_rises starts says proper w layers s on there first)
+  login_whole s on there first = goes (after_login w s) refl refl (login_layers starts says proper w layers s on there first) (λ r. refl) (λ r. refl) (login_rises starts says proper w layers s on there first)
       (moved_pinned starts says proper w layers kept.pinned s there (no_reader starts says proper w kept.sessions s first) (no_observer starts says proper w kept.sessions s first) (event.Login s (memory_of w s).head ∷ w.past) (λ q f. ap (λ b. cond b false (is_attached w.past q)) f))
 
   pub refresh_whole : (s : ℕ) → IsFalse (is_stopped_under w.sessions w.past s) → IsTrue (has_login w.past s) → IsFalse (has_left w.past s) → w.running s ≡ None → w.reading s ≡ None → w.observing s ≡ None → IsKept starts says (after_refresh w s)
-  refresh_whole s on login stays none unread unobserved = goes (after_refresh w s) refl (refresh_layers starts says proper w layers s on login stays none unread unobserved) (λ r. refl) (λ r. refl) (refresh_rises starts says proper w layers s login on stays none unread unobserved)
+  refresh_whole s on login stays none unread unobserved = goes (after_refresh w s) refl refl (refresh_layers starts says proper w layers s on login stays none unread unobserved) (λ r. refl) (λ r. refl) (refresh_rises starts says proper w layers s login on stays none unread unobserved)
       (moved_pinned starts says proper w layers kept.pinned s (session_there starts says proper w kept.sessions s login) unread unobserved (event.Refresh s (memory_of w s).head ∷ w.past) (λ q f. ap (λ b. cond b false (is_attached w.past q)) f))
 
   pub leave_whole : (s : ℕ) → IsFalse (is_stopped_under w.sessions w.past s) → slice_get w.sessions (cursor_owner s) ≡ None → IsTrue (has_login w.past s) → IsFalse (has_left w.past s) → w.running s ≡ None → w.reading s ≡ None → w.observing s ≡ None → IsKept starts says (after_leave w s)
-  leave_whole s on few login stays none unread unobserved = goes (after_leave w s) refl (leave_layers starts says proper w layers s on few login stays none unread unobserved) (λ r. refl) (λ r. refl) (leave_rises starts says proper w layers s login on few stays none unread unobserved)
+  leave_whole s on few login stays none unread unobserved = goes (after_leave w s) refl refl (leave_layers starts says proper w layers s on few login stays none unread unobserved) (λ r. refl) (λ r. refl) (leave_rises starts says proper w layers s login on few stays none unread unobserved)
       (left_pinned starts says proper w layers kept.pinned s (session_there starts says proper w kept.sessions s login) few unread unobserved)
 
   pub observe_whole : (s : ℕ) (pin : Pin) → slice_get w.sessions (cursor_owner s) ≡ None → IsTrue (has_login w.past s) → IsFalse (has_left w.past s) → w.reading s ≡ None → w.observing s ≡ None → pin_of (memory_of w s) s ≡ Some pin → IsKept starts says (after_observe w s pin)
-  observe_whole s pin few login stays unread unobserved has = goes (after_observe w s pin) refl (observe_layers starts says proper w layers s pin few login stays unread unobserved has) (λ r. refl) (λ r. refl) (observe_rises starts says proper w layers s login pin few stays unread unobserved has)
+  observe_whole s pin few login stays unread unobserved has = goes (after_observe w s pin) refl refl (observe_layers starts says proper w layers s pin few login stays unread unobserved has) (λ r. refl) (λ r. refl) (observe_rises starts says proper w layers s login pin few stays unread unobserved has)
       (observed_pinned starts says proper w layers kept.pinned s (session_there starts says proper w kept.sessions s login) few pin)
 
   pub said_whole : (s i : ℕ) (text : Text) → i ≡ next_index w.past s → says (history_in w) s i text → IsKept starts says (after_said w s i text)
-  said_whole s i text next lawful = goes (after_said w s i text) refl (said_layers starts says proper w layers s i text next lawful) (λ r. refl) (λ r. refl) (said_rises starts says proper w layers s i text next lawful)
+  said_whole s i text next lawful = goes (after_said w s i text) refl refl (said_layers starts says proper w layers s i text next lawful) (λ r. refl) (λ r. refl) (said_rises starts says proper w layers s i text next lawful)
       (quiet_pinned starts says proper w layers kept.pinned (after_said w s i text) refl refl refl refl (λ q. refl) (refl))
 
   pub went_whole : (s : ℕ) (k : StepKind) → IsFalse (is_kind k kind.End) → IsFalse (is_kind k kind.Pin) → IsTrue (has_login w.past s) → IsFalse (has_left w.past s) → IsKept starts says (after_went w s k)
-  went_whole s k other apart login stays = goes (after_went w s k) refl (went_layers starts says proper w layers s k other apart login stays) (λ r. refl) (λ r. refl) (went_rises starts says proper w layers s login k other apart stays)
+  went_whole s k other apart login stays = goes (after_went w s k) refl refl (went_layers starts says proper w layers s k other apart login stays) (λ r. refl) (λ r. refl) (went_rises starts says proper w layers s login k other apart stays)
       (quiet_pinned starts says proper w layers kept.pinned (after_went w s k) refl refl refl refl (λ q. refl) (refl))
 
   pub load_whole : (s : ℕ) (a : Global) (pin : Pin) (p : Path) → IsFalse (is_stopped_under w.sessions w.past s) → IsTrue (has_login w.past s) → IsFalse (has_left w.past s) → actor_pin w s ≡ Some pin → IsKept starts says (with_reader w s (Some (node_reader a pin p)))
-  load_whole s a pin p on login stays has = goes (with_reader w s (Some (node_reader a pin p))) refl (load_layers starts says proper w layers s a pin p on login stays has (actor_above s pin login stays has)) (λ r. refl) (λ r. refl) (reader_rises starts says proper w layers s (Some (node_reader a pin p)))
+  load_whole s a pin p on login stays has = goes (with_reader w s (Some (node_reader a pin p))) refl refl (load_layers starts says proper w layers s a pin p on login stays has (actor_above s pin login stays has)) (λ r. refl) (λ r. refl) (reader_rises starts says proper w layers s (Some (node_reader a pin p)))
       (loaded_pinned starts says proper w layers kept.pinned s (node_reader a pin p) has)
 
   pub list_whole : (s : ℕ) (a : Global) (pin : Pin) (p : Path) → IsFalse (is_stopped_under w.sessions w.past s) → IsTrue (has_login w.past s) → IsFalse (has_left w.past s) → actor_pin w s ≡ Some pin → IsKept starts says (with_reader w s (Some (children_reader a pin p)))
-  list_whole s a pin p on login stays has = goes (with_reader w s (Some (children_reader a pin p))) refl (list_layers starts says proper w layers s a pin p on login stays has (actor_above s pin login stays has)) (λ r. refl) (λ r. refl) (reader_rises starts says proper w layers s (Some (children_reader a pin p)))
+  list_whole s a pin p on login stays has = goes (with_reader w s (Some (children_reader a pin p))) refl refl (list_layers starts says proper w layers s a pin p on login stays has (actor_above s pin login stays has)) (λ r. refl) (λ r. refl) (reader_rises starts says proper w layers s (Some (children_reader a pin p)))
       (loaded_pinned starts says proper w layers kept.pinned s (children_reader a pin p) has)
 
   pub read_whole : (s : ℕ) (r : Reader) → w.reading s ≡ Some r → IsTable w.table.documents → IsKept starts says (with_reader w s (Some (fed r (answer w.table.documents (due r)))))
-  read_whole s r here table = goes (with_reader w s (Some (fed r (answer w.table.documents (due r))))) refl (read_layers starts says proper w layers s r here table) (λ r. refl) (λ r. refl) (reader_rises starts says proper w layers s (Some (fed r (answer w.table.documents (due r)))))
+  read_whole s r here table = goes (with_reader w s (Some (fed r (answer w.table.documents (due r))))) refl refl (read_layers starts says proper w layers s r here table) (λ r. refl) (λ r. refl) (reader_rises starts says proper w layers s (Some (fed r (answer w.table.documents (due r)))))
       (read_pinned starts says proper w layers kept.pinned s r here)
 
   pub gone_whole : (s : ℕ) → IsKept starts says (with_reader w s None)
-  gone_whole s = goes (with_reader w s None) refl (gone_layers starts says proper w layers s) (λ r. refl) (λ r. refl) (reader_rises starts says proper w layers s None)
+  gone_whole s = goes (with_reader w s None) refl refl (gone_layers starts says proper w layers s) (λ r. refl) (λ r. refl) (reader_rises starts says proper w layers s None)
       (gone_pinned starts says proper w layers kept.pinned s)
 
   pub write_whole : (s : ℕ) (x : Running) (p : Path) (rest : List Path) → w.running s ≡ Some x → IsFalse x.committed → IsFalse x.writer.undoing → x.writer.due ≡ [] → x.writer.left ≡ p ∷ rest → IsKept starts says (after_write w s x p rest)
-  write_whole s x p rest here uncommitted going unmet next = goes (after_write w s x p rest) refl (write_layers starts says proper w layers s x p rest here uncommitted going unmet next) (λ r. refl) (λ r. refl) (write_rises starts says proper w layers s x here uncommitted going p rest unmet next)
+  write_whole s x p rest here uncommitted going unmet next = goes (after_write w s x p rest) refl refl (write_layers starts says proper w layers s x p rest here uncommitted going unmet next) (λ r. refl) (λ r. refl) (write_rises starts says proper w layers s x here uncommitted going p rest unmet next)
       (quiet_pinned starts says proper w layers kept.pinned (after_write w s x p rest) refl refl refl refl (λ q. refl) (update_apart w.table p (write_op x.draw.revision x.draw.edit.writes x.draw.marks p) refl))
 
   pub write_in_want_whole : (s : ℕ) (x : Running) (p : Path) (rest : List Path) → w.running s ≡ Some x → IsFalse x.committed → IsFalse x.writer.undoing → x.writer.due ≡ [] → x.writer.left ≡ p ∷ rest → IsKept starts says (after_write_in_want w s x p rest)
-  write_in_want_whole s x p rest here uncommitted going unmet next = goes (after_write_in_want w s x p rest) refl (write_in_want_layers starts says proper w layers s x p rest here uncommitted going unmet next) (λ r. refl) (λ r. refl) (write_in_want_rises starts says proper w layers s x here uncommitted going p rest unmet next)
+  write_in_want_whole s x p rest here uncommitted going unmet next = goes (after_write_in_want w s x p rest) refl refl (write_in_want_layers starts says proper w layers s x p rest here uncommitted going unmet next) (λ r. refl) (λ r. refl) (write_in_want_rises starts says proper w layers s x here uncommitted going p rest unmet next)
       (quiet_pinned starts says proper w layers kept.pinned (after_write_in_want w s x p rest) refl refl refl refl (λ q. refl) (update_apart w.table p (write_op x.draw.revision x.draw.edit.writes x.draw.marks p) refl))
 
   pub mark_whole : (s : ℕ) (x : Running) (f : Met) (rest : List Met) → w.running s ≡ Some x → IsFalse x.committed → IsFalse x.writer.undoing → x.writer.due ≡ f ∷ rest → IsKept starts says (after_mark w s x f rest)
-  mark_whole s x f rest here uncommitted going next = goes (after_mark w s x f rest) (mark_clusters s x f rest _) (mark_layers starts says proper w layers s x f rest here uncommitted going next) (mark_bounds s x f rest _).0 (mark_bounds s x f rest _).1 (mark_rises starts says proper w layers s x here uncommitted going f rest next)
+  mark_whole s x f rest here uncommitted going next = goes (after_mark w s x f rest) (mark_clusters s x f rest _) (mark_origin s x f rest _) (mark_layers starts says proper w layers s x f rest here uncommitted going next) (mark_bounds s x f rest _).0 (mark_bounds s x f rest _).1 (mark_rises starts says proper w layers s x here uncommitted going f rest next)
       (mark_pinned starts says proper w layers kept.pinned s x f rest)
 
   pub last_whole : (s : ℕ) (x : Running) → w.running s ≡ Some x → IsFalse x.committed → IsFalse x.writer.undoing → x.writer.due ≡ [] → x.writer.left ≡ [] → IsKept starts says (after_last w s x)
-  last_whole s x here uncommitted going unmet none_left = goes (after_last w s x) (last_clusters s x _) (last_layers starts says proper w layers s x here uncommitted going unmet none_left) (last_bounds s x _).0 (last_bounds s x _).1 (last_rises starts says proper w layers s x here uncommitted going unmet none_left)
+  last_whole s x here uncommitted going unmet none_left = goes (after_last w s x) (last_clusters s x _) (last_origin s x _) (last_layers starts says proper w layers s x here uncommitted going unmet none_left) (last_bounds s x _).0 (last_bounds s x _).1 (last_rises starts says proper w layers s x here uncommitted going unmet none_left)
       (last_pinned starts says proper w layers kept.pinned s x)
 
   pub want_whole : (s : ℕ) (x : Running) → w.running s ≡ Some x → IsFalse x.committed → IsFalse x.writer.undoing → IsKept starts says (after_want w s x)
-  want_whole s x here uncommitted going = goes (after_want w s x) refl (want_layers starts says proper w layers s x here uncommitted going) (λ r. refl) (λ r. refl) (want_rises starts says proper w layers s x)
+  want_whole s x here uncommitted going = goes (after_want w s x) refl refl (want_layers starts says proper w layers s x here uncommitted going) (λ r. refl) (λ r. refl) (want_rises starts says proper w layers s x)
       (quiet_pinned starts says proper w layers kept.pinned (after_want w s x) refl refl refl refl (λ q. refl) (refl))
 
   pub undo_whole : (s : ℕ) (x : Running) (p : Path) (rest : List Path) → w.running s ≡ Some x → IsFalse x.committed → IsTrue x.writer.undoing → x.writer.written ≡ p ∷ rest → IsKept starts says (after_undoing w s x p rest)
-  undo_whole s x p rest here uncommitted undoing next = goes (after_undoing w s x p rest) refl (undo_layers starts says proper w layers s x p rest here uncommitted undoing next) (λ r. refl) (λ r. refl) (undo_rises starts says proper w layers s x here p rest uncommitted undoing next)
+  undo_whole s x p rest here uncommitted undoing next = goes (after_undoing w s x p rest) refl refl (undo_layers starts says proper w layers s x p rest here uncommitted undoing next) (λ r. refl) (λ r. refl) (undo_rises starts says proper w layers s x here p rest uncommitted undoing next)
       (quiet_pinned starts says proper w layers kept.pinned (after_undoing w s x p rest) refl refl refl refl (λ q. refl) (undo_apart w.table p x.draw.revision))
 
   pub finish_whole : (s : ℕ) (x : Running) → w.running s ≡ Some x → IsThrough x → IsKept starts says (after_finish w s x)
-  finish_whole s x here through = goes (after_finish w s x) refl (finish_layers starts says proper w layers s x here through) (finish_bounds s x _).0 (finish_bounds s x _).1 (finish_rises starts says proper w layers s x here through)
+  finish_whole s x here through = goes (after_finish w s x) refl refl (finish_layers starts says proper w layers s x here through) (finish_bounds s x _).0 (finish_bounds s x _).1 (finish_rises starts says proper w layers s x here through)
       (finish_pinned starts says proper w layers kept.pinned s x (ap is_some (on_its_node starts says proper w kept.sessions s x here)))
 
   pub pending_keeps : (s : ℕ) → has_login w.past s ≡ true → has_left w.past s ≡ false → IsKept starts says (after_pending w s)
-  pending_keeps s login stays = goes (after_pending w s) refl (pending_layers starts says proper w layers s login stays) (λ r. refl) (λ r. refl) (pending_rises starts says proper w layers s login stays)
+  pending_keeps s login stays = goes (after_pending w s) refl refl (pending_layers starts says proper w layers s login stays) (λ r. refl) (λ r. refl) (pending_rises starts says proper w layers s login stays)
       (memory_pinned starts says proper w layers kept.pinned s (session_there starts says proper w kept.sessions s login) (without_seen (memory_of w s)) (after_pending w s).past w.running (λ q r h. refl) (λ q r h. refl) (λ q r h. refl))
 
   pub back_keeps : (s : ℕ) → has_login w.past s ≡ true → has_left w.past s ≡ false → (p : Path) (r : Revision) → eq_by_cmp path_cmp [] p ≡ false → IsKept starts says (after_back w s p r)
-  back_keeps s login stays p r other = goes (after_back w s p r) refl (back_layers starts says proper w layers s login stays p r other) (λ r. refl) (λ r. refl) (back_rises starts says proper w layers s login p r stays other)
+  back_keeps s login stays p r other = goes (after_back w s p r) refl refl (back_layers starts says proper w layers s login stays p r other) (λ r. refl) (λ r. refl) (back_rises starts says proper w layers s login p r stays other)
       (quiet_pinned starts says proper w layers kept.pinned (after_back w s p r) refl refl refl refl (λ q. refl) (update_apart w.table p (back_op p r) refl))
 
-  pub out_keeps : (s : ℕ) → has_login w.past s ≡ true → (r : Revision) → r.cluster ≡ node_of w s → is_at_most r (local None w.past (node_of w s)) ≡ true → IsKept starts says (after_out w s r)
-  out_keeps s login r of low = goes (after_out w s r) refl (out_layers starts says proper w layers s login r of low) (λ r. refl) (λ r. refl) (out_rises starts says proper w layers s login r of low)
+  pub out_keeps : (s : ℕ) → has_login w.past s ≡ true → (r : Revision) → r.cluster ≡ node_of w s → is_at_most r (local w.begin w.past (node_of w s)) ≡ true → IsKept starts says (after_out w s r)
+  out_keeps s login r of low = goes (after_out w s r) refl refl (out_layers starts says proper w layers s login r of low) (λ r. refl) (λ r. refl) (out_rises starts says proper w layers s login r of low)
       (quiet_pinned starts says proper w layers kept.pinned (after_out w s r) refl refl refl refl (λ q. refl) (update_apart w.table [] (back_op [] r) refl))
 
-  pub learn_keeps : (s : ℕ) → is_stopped_under w.sessions w.past s ≡ false → has_login w.past s ≡ true → (last sweep : RevVec) → WereOnRoot w.clusters w.past last sweep → IsKept starts says (after_learn w s last sweep)
-  learn_keeps s on login last sweep were = goes (after_learn w s last sweep) refl (learn_layers starts says proper w layers s login on last sweep were) (λ r. refl) (λ r. refl) (learn_rises starts says proper w layers s login on last sweep were)
+  pub learn_keeps : (s : ℕ) → is_stopped_under w.sessions w.past s ≡ false → has_login w.past s ≡ true → (last sweep : RevVec) → WereOnRoot w.begin w.clusters w.past last sweep → IsKept starts says (after_learn w s last sweep)
+  learn_keeps s on login last sweep were = goes (after_learn w s last sweep) refl refl (learn_layers starts says proper w layers s login on last sweep were) (λ r. refl) (λ r. refl) (learn_rises starts says proper w layers s login on last sweep were)
       (memory_pinned starts says proper w layers kept.pinned s (session_there starts says proper w kept.sessions s login) (learned (memory_of w s) last sweep) (after_learn w s last sweep).past w.running (λ q r h. refl) (λ q r h. refl) (λ q r h. refl))
 
-  pub sweep_keeps : (s : ℕ) → has_login w.past s ≡ true → (r : Revision) → r.cluster ≡ node_of w s → is_at_most r (published None w.past (node_of w s)) ≡ true → IsKept starts says (after_sweep w s r)
-  sweep_keeps s login r of low = goes (after_sweep w s r) refl (sweep_layers starts says proper w layers s login r of low) (λ r. refl) (λ r. refl) (sweep_rises starts says proper w layers s login r of low)
+  pub sweep_keeps : (s : ℕ) → has_login w.past s ≡ true → (r : Revision) → r.cluster ≡ node_of w s → is_at_most r (published w.begin w.past (node_of w s)) ≡ true → IsKept starts says (after_sweep w s r)
+  sweep_keeps s login r of low = goes (after_sweep w s r) refl refl (sweep_layers starts says proper w layers s login r of low) (λ r. refl) (λ r. refl) (sweep_rises starts says proper w layers s login r of low)
       (quiet_pinned starts says proper w layers kept.pinned (after_sweep w s r) refl refl refl refl (λ q. refl) (update_apart w.table [] (sweep_op r) refl))
 
-  pub learn_swept_keeps : (s : ℕ) → has_login w.past s ≡ true → has_left w.past s ≡ false → (r : Revision) → r.cluster ≡ node_of w s → is_at_most r (local None w.past (node_of w s)) ≡ true → IsKept starts says (after_learn_swept w s r)
-  learn_swept_keeps s login stays r of low = goes (after_learn_swept w s r) refl (learn_swept_layers starts says proper w layers s login stays r of low) (λ r. refl) (λ r. refl) (learn_swept_rises starts says proper w layers s login r stays of low)
+  pub learn_swept_keeps : (s : ℕ) → has_login w.past s ≡ true → has_left w.past s ≡ false → (r : Revision) → r.cluster ≡ node_of w s → is_at_most r (local w.begin w.past (node_of w s)) ≡ true → IsKept starts says (after_learn_swept w s r)
+  learn_swept_keeps s login stays r of low = goes (after_learn_swept w s r) refl refl (learn_swept_layers starts says proper w layers s login stays r of low) (λ r. refl) (λ r. refl) (learn_swept_rises starts says proper w layers s login r stays of low)
       (memory_pinned starts says proper w layers kept.pinned s (session_there starts says proper w kept.sessions s login) (swept_to (memory_of w s) r) (after_learn_swept w s r).past w.running (λ q y h. refl) (λ q y h. refl) (λ q r h. refl))
 
   pub checkpoint_keeps : (s : ℕ) (i : Text) (pin : Pin) → is_stopped_under w.sessions w.past s ≡ false → has_login w.past s ≡ true → has_left w.past s ≡ false → is_attached w.past s ≡ false → pin_of (memory_of w s) s ≡ Some pin → IsKept starts says (after_checkpoint w s i pin)
-  checkpoint_keeps s i pin on login stays detached has = goes (after_checkpoint w s i pin) refl (checkpoint_layers starts says proper w layers s i pin on login stays detached has) (λ r. refl) (λ r. refl) (checkpoint_rises starts says proper w layers s login i pin on stays detached has)
+  checkpoint_keeps s i pin on login stays detached has = goes (after_checkpoint w s i pin) refl refl (checkpoint_layers starts says proper w layers s i pin on login stays detached has) (λ r. refl) (λ r. refl) (checkpoint_rises starts says proper w layers s login i pin on stays detached has)
       (checkpoint_pinned starts says proper w layers kept.pinned s i pin)
 
   pub release_keeps : (i : Text) → IsSome (kept_checkpoint w.past i) → IsKept starts says (after_release w i)
-  release_keeps i there = goes (after_release w i) refl (release_layers starts says proper w layers i there) (λ r. refl) (λ r. refl) (release_rises starts says proper w layers i there)
+  release_keeps i there = goes (after_release w i) refl refl (release_layers starts says proper w layers i there) (λ r. refl) (λ r. refl) (release_rises starts says proper w layers i there)
       (release_pinned starts says proper w layers kept.pinned i)
 
   pub attach_keeps : (s : ℕ) → is_stopped_under w.sessions w.past s ≡ false → has_login w.past s ≡ true → has_left w.past s ≡ false → (i : Text) (v : RevVec) → is_attached w.past s ≡ false → w.reading s ≡ None → kept_checkpoint w.past i ≡ Some v → IsKept starts says (after_attach w s i)
-  attach_keeps s on login stays i v detached unread there = goes (after_attach w s i) refl (attach_layers starts says proper w layers s login stays on i v detached unread there) (λ r. refl) (λ r. refl) (attach_rises starts says proper w layers s login i v on stays detached unread there)
+  attach_keeps s on login stays i v detached unread there = goes (after_attach w s i) refl refl (attach_layers starts says proper w layers s login stays on i v detached unread there) (λ r. refl) (λ r. refl) (attach_rises starts says proper w layers s login i v on stays detached unread there)
       (attach_pinned starts says proper w layers kept.pinned s i unread)
 
   pub detach_keeps : (s : ℕ) → has_login w.past s ≡ true → has_left w.past s ≡ false → is_attached w.past s ≡ false → has_reader w.past s ≡ true → IsKept starts says (after_detach w s)
-  detach_keeps s login stays detached reads = goes (after_detach w s) refl (detach_layers starts says proper w layers s login stays detached reads) (λ r. refl) (λ r. refl) (detach_rises starts says proper w layers s login stays detached reads)
+  detach_keeps s login stays detached reads = goes (after_detach w s) refl refl (detach_layers starts says proper w layers s login stays detached reads) (λ r. refl) (λ r. refl) (detach_rises starts says proper w layers s login stays detached reads)
       (detach_pinned starts says proper w layers kept.pinned s detached)
 
   pub attach_unfound_keeps : (s : ℕ) → has_login w.past s ≡ true → has_left w.past s ≡ false → (i : Text) → kept_checkpoint w.past i ≡ None → IsKept starts says (after_unfound w s (change.Attach s i))
-  attach_unfound_keeps s login stays i none = goes (after_unfound w s (change.Attach s i)) refl (attach_unfound_layers starts says proper w layers s login stays i none) (λ r. refl) (λ r. refl) (attach_unfound_rises starts says proper w layers s login i stays none)
+  attach_unfound_keeps s login stays i none = goes (after_unfound w s (change.Attach s i)) refl refl (attach_unfound_layers starts says proper w layers s login stays i none) (λ r. refl) (λ r. refl) (attach_unfound_rises starts says proper w layers s login i stays none)
       (attach_unfound_pinned starts says proper w layers kept.pinned s i none)
 
   pub release_unfound_keeps : (s : ℕ) → has_login w.past s ≡ true → has_left w.past s ≡ false → (i : Text) → kept_checkpoint w.past i ≡ None → IsKept starts says (after_unfound w s (change.Release i))
-  release_unfound_keeps s login stays i none = goes (after_unfound w s (change.Release i)) refl (release_unfound_layers starts says proper w layers s login stays i none) (λ r. refl) (λ r. refl) (release_unfound_rises starts says proper w layers s login i stays none)
+  release_unfound_keeps s login stays i none = goes (after_unfound w s (change.Release i)) refl refl (release_unfound_layers starts says proper w layers s login stays i none) (λ r. refl) (λ r. refl) (release_unfound_rises starts says proper w layers s login i stays none)
       (release_unfound_pinned starts says proper w layers kept.pinned s i)
 
   -- a reader of changes begins at the cursor of its session, up to its own pin
@@ -344,7 +384,7 @@ module _ (starts : Starts) (says : Says) (proper : StartsProper starts) (w : Sta
       let alive = node_alive starts says proper w kept.sessions s there on in
       let cursor = its_cursor_pin s from on few login at in
       let node = its_node starts says proper w kept.sessions s there in
-      let between : IsBetweenPins w.past s (changes_reader a from pin) = record {
+      let between : IsBetweenPins (origin w) w.past s (changes_reader a from pin) = record {
         cursor = at;
         own = sym (its_base starts says proper w kept.sessions s there alive) ∙ ap base_of_pin has;
         pair = its_pair starts says proper w kept.sessions s there pin has;
@@ -352,30 +392,30 @@ module _ (starts : Starts) (says : Says) (proper : StartsProper starts) (w : Sta
         above_cursor = λ o h. subst (λ (v : RevVec). sees v o ≡ true) cursor.2
             ((kept.above.pins (node_of w s) (takes_part starts says proper w layers (node_of w s) node alive) cursor.0 (found_in (is_at (nat_cmp (cursor_owner s))) _ cursor.0 cursor.1)).base o h);
       } in
-      goes (with_observer w s (Some (changes_reader a from pin))) refl (notice_layers starts says proper w layers s a from pin on few between) (λ r. refl) (λ r. refl) (observer_rises starts says proper w layers s (Some (changes_reader a from pin)))
+      goes (with_observer w s (Some (changes_reader a from pin))) refl refl (notice_layers starts says proper w layers s a from pin on few between) (λ r. refl) (λ r. refl) (observer_rises starts says proper w layers s (Some (changes_reader a from pin)))
       (noticed_pinned starts says proper w layers kept.pinned s (changes_reader a from pin) has)
 
   -- it is fed what the documents answer
   pub feed_whole : StartsWrite starts → (s : ℕ) (r : ChangesReader) → w.observing s ≡ Some r → IsTable w.table.documents → IsKept starts says (with_observer w s (Some (fed_changes r (answer w.table.documents (due_changes r)))))
   feed_whole writes s r here table =
       let x = answer w.table.documents (due_changes r) in
-      goes (with_observer w s (Some (fed_changes r x))) refl (feed_layers starts says proper w layers writes s r here table) (λ q. refl) (λ q. refl) (observer_rises starts says proper w layers s (Some (fed_changes r x)))
+      goes (with_observer w s (Some (fed_changes r x))) refl refl (feed_layers starts says proper w layers writes s r here table) (λ q. refl) (λ q. refl) (observer_rises starts says proper w layers s (Some (fed_changes r x)))
       (noticed_pinned starts says proper w layers kept.pinned s (fed_changes r x) (kept.pinned.observes s r here ∙ ap (λ (p : Pin). Some p) (sym (reply_keeps r x).1)))
 
   -- and is taken away
   pub unnotice_whole : (s : ℕ) → IsKept starts says (with_observer w s None)
-  unnotice_whole s = goes (with_observer w s None) refl (unnotice_layers starts says proper w layers s) (λ r. refl) (λ r. refl) (observer_rises starts says proper w layers s None) (unnoticed_pinned starts says proper w layers kept.pinned s)
+  unnotice_whole s = goes (with_observer w s None) refl refl (unnotice_layers starts says proper w layers s) (λ r. refl) (λ r. refl) (observer_rises starts says proper w layers s None) (unnoticed_pinned starts says proper w layers kept.pinned s)
 
   -- while it reads, its session's cursor and its own pin stay
   pub lies_whole : (s : ℕ) (r : ChangesReader) → w.observing s ≡ Some r → (cursor_at w.past s ≡ Some r.from) × (session_base w.past s ≡ Some r.pin.base)
   lies_whole s r here = let is = kept.sessions.observers.between s r here in (is.cursor, is.own)
 
   -- what it gives are the changes between the two
-  pub changes_whole : (s : ℕ) (r : ChangesReader) (o : List CommitChanges) → w.observing s ≡ Some r → r.step ≡ observed.Done o → o ≡ changes_between None w.past r.from r.pin.base
+  pub changes_whole : (s : ℕ) (r : ChangesReader) (o : List CommitChanges) → w.observing s ≡ Some r → r.step ≡ observed.Done o → o ≡ changes_between w.begin w.past r.from r.pin.base
   changes_whole s r o here ends = changes_given starts says proper w kept.sessions s r here o ends
 
   pub draw_whole : (s : ℕ) (edit : Edit) (marks : List MarkAt) (paths : List Path) → IsFalse (is_stopped_under w.sessions w.past s) → IsTrue (has_login w.past s) → IsFalse (has_left w.past s) → IsFalse (is_attached w.past s) → w.running s ≡ None → starts (history_in w) s edit marks → IsKept starts says (after_draw w s edit marks paths)
-  draw_whole s edit marks paths on login stays detached none lawful = goes (after_draw w s edit marks paths) refl (draw_layers starts says proper w layers s edit marks paths on login stays detached none lawful (base_above s on login stays)) (λ r. refl) (λ r. refl)
+  draw_whole s edit marks paths on login stays detached none lawful = goes (after_draw w s edit marks paths) refl refl (draw_layers starts says proper w layers s edit marks paths on login stays detached none lawful (base_above s on login stays)) (λ r. refl) (λ r. refl)
       (draw_rises starts says proper w layers s edit marks paths on login stays detached none lawful (base_above s on login stays))
       (drawn_pinned starts says proper w layers kept.pinned s (session_there starts says proper w kept.sessions s login) (draw_in w s edit marks).revision paths (after_draw w s edit marks paths).past (after_draw w s edit marks paths).running (λ q. refl))
 
@@ -411,4 +451,4 @@ module _ (starts : Starts) (says : Says) (proper : StartsProper starts) (w : Sta
   pub bound_keeps : (m t : RevVec) → MayTakeBound w m t → IsKept starts says (after_bound w m t)
   bound_keeps m t takes =
       let later = bound_layers starts says proper w layers m t takes (λ s r h. actor_below m t takes.below s r.pin (reader_login starts says proper w kept.sessions s r h) (kept.pinned.reads s r h)) (observer_below m t takes.below) in
-      record { sessions = later.sessions; root = later.root; settings = later.settings; above = above_bound w.past m t (holding_in w) takes.below kept.above; pinned = quiet_pinned starts says proper w layers kept.pinned (after_bound w m t) refl refl refl refl (λ q. refl) (refl); begun = kept.begun }
+      record { sessions = later.sessions; root = later.root; settings = later.settings; above = above_bound (origin w) w.past m t (holding_in w) takes.below kept.above; pinned = quiet_pinned starts says proper w layers kept.pinned (after_bound w m t) refl refl refl refl (λ q. refl) (refl); begun = kept.begun }

@@ -23,14 +23,11 @@ use Rattle.oak_read.specs.Meaning.{documents_in}
 use Rattle.oak_store.specs.Tables.{Table, next_number, with_document}
 use Rattle.core_read.specs.Committing.{IsWriteOp, is_marking}
 use Rattle.core_read.specs.Holds.{IsSameBut}
-use Rattle.core_read.specs.Told.{IsTold}
 use Rattle.core_read.proofs.Committing.{op_all}
 use Rattle.core_read.proofs.Entries.{first, second, both}
 use Rattle.core_read.proofs.Roots.{below_root}
 use Rattle.core_read.proofs.Updates.{update_same}
-use Rattle.core_keep.specs.Journal.{with_progress, IsKeptWorld}
-use Rattle.core_keep.proofs.Events.{kept_idle}
-use Rattle.core_keep.proofs.World.{kept_write_op}
+use Rattle.core_keep.specs.Journal.{with_progress}
 use Rattle.core_clash.specs.Core.{Docs, MayWrite, with_writer}
 use Rattle.oak_commit.specs.Looking.{whole}
 use Rattle.core_clash.specs.Sessions.{Running}
@@ -51,6 +48,12 @@ use Rattle.core_world.proofs.Paths.{HasMark, path_marked}
 use Rattle.core_world.proofs.Progress.{among_more, is_among, not_among, progress_with}
 use Rattle.core_world.proofs.Tables.{moved_stays, put_main, put_node}
 use Rattle.core_world.proofs.Working.{flies, goes, kept_name, mine, pending, world_by, world_of}
+use Rattle.oak_machine.specs.declared.event.Start.{Start}
+use Rattle.core_begun.proofs.World.{kept_write_op}
+use Rattle.core_begun.proofs.Events.{kept_idle}
+use Rattle.core_begun.specs.Kept.{IsKeptSince}
+use Rattle.core_begun.specs.Told.{IsToldSince}
+use Rattle.jr_rev.specs.Vectors.{sees}
 
 -- ---- marks that are entries of no item
 
@@ -73,7 +76,7 @@ markings_mark r p ms = all_flat is_marking (marking_of r) (marking_mark r) (mark
 
 -- ---- the write
 
-module _ (past : Past) (t : Table) (running : ℕ → Option Running) (a : AreCommitting past t running) (told : IsTold past) (s : ℕ) (x : Running) (here : running s ≡ Some x) (uncommitted : x.committed ≡ false) (going : x.writer.undoing ≡ false)
+module _ (start : Start) (past : Past) (t : Table) (running : ℕ → Option Running) (a : AreCommitting start past t running) (told : IsToldSince start past) (s : ℕ) (x : Running) (here : running s ≡ Some x) (uncommitted : x.committed ≡ false) (going : x.writer.undoing ≡ false)
     (p : Path) (rest : List Path) (unmet : x.writer.due ≡ []) (next : x.writer.left ≡ p ∷ rest) where
   abbrev r : Revision
   r = x.draw.revision
@@ -97,11 +100,11 @@ module _ (past : Past) (t : Table) (running : ℕ → Option Running) (a : AreCo
   abbrev later : Past
   later = event.Went x.draw.session kind.Write ∷ past
 
-  may : MayWrite (core_in past t a.writers) x.draw p rest
+  may : MayWrite (core_in start past t a.writers) x.draw p rest
   may = record {
-    going = goes past t running a told s x here uncommitted going;
-    unmet = ap (λ (w : Writer). w.due) (mine past t running a told s x here).writer ∙ unmet;
-    next = ap (λ (w : Writer). w.left) (mine past t running a told s x here).writer ∙ next;
+    going = goes start past t running a told s x here uncommitted going;
+    unmet = ap (λ (w : Writer). w.due) (mine start past t running a told s x here).writer ∙ unmet;
+    next = ap (λ (w : Writer). w.left) (mine start past t running a told s x here).writer ∙ next;
   }
 
   made : after_update t op ≡ now
@@ -115,7 +118,7 @@ module _ (past : Past) (t : Table) (running : ℕ → Option Running) (a : AreCo
   listing = a.sound.listed r (a.unstopped s x here)
 
   marked : HasMark x.draw.marks p
-  marked = path_marked x.draw.marks p (subst (λ (ps : List Path). In p ps) (listing.all ∙ (ap (λ (w : Writer). w.paths) (mine past t running a told s x here).writer ∙ a.listed s x here))
+  marked = path_marked x.draw.marks p (subst (λ (ps : List Path). In p ps) (listing.all ∙ (ap (λ (w : Writer). w.paths) (mine start past t running a told s x here).writer ∙ a.listed s x here))
       (In-right p listing.gone _ (In-right p (a.writers r).written (a.writers r).left in_left)))
 
   new : is_among (a.writers r).written p ≡ false
@@ -125,37 +128,37 @@ module _ (past : Past) (t : Table) (running : ℕ → Option Running) (a : AreCo
   wop = record { at = refl; changes = refl; marking = markings_mark r p x.draw.marks; below = below_root x.draw.marks (mark_at p marked.mark) (is_in (mark_at p marked.mark) x.draw.marks marked.in_marks) }
 
   same_but : IsSameBut r p (nodes_in t p) doc
-  same_but = update_same r p (nodes_in t p) op n refl (kept_name (documents_in t.documents) past _ a.kept p)
-      (op_all op r x.draw.edit.writes (commit_root x.draw.marks) p (markings_at r p x.draw.marks) (nodes_in t p) n wop (kept_name (documents_in t.documents) past _ a.kept p) ((a.kept.partly r x.draw may.going.draw (flies past t running a told s x here) (pending past t running a told s x here uncommitted)).left p new))
+  same_but = update_same r p (nodes_in t p) op n refl (kept_name start (documents_in t.documents) past _ a.kept p)
+      (op_all op r x.draw.edit.writes (commit_root x.draw.marks) p (markings_at r p x.draw.marks) (nodes_in t p) n wop (kept_name start (documents_in t.documents) past _ a.kept p) ((a.kept.partly r x.draw may.going.draw (flies start past t running a told s x here) (pending start past t running a told s x here uncommitted)).left p new))
 
-  sound : Sound (core_in later now (with_writer a.writers r (wrote (a.writers r))))
-  sound = subst (λ (docs : Docs). Sound (record { number = n; docs = docs; moved = moved_in now; past = later; writers = with_writer a.writers r (wrote (a.writers r)) })) (sym (put_node t p doc n))
-      (subst (λ (moved : Path → List Document). Sound (record { number = n; docs = Rattle.core_clash.specs.Core.with_document (nodes_in t) p doc; moved = moved; past = later; writers = with_writer a.writers r (wrote (a.writers r)) })) (sym (moved_stays t now p doc (put_main t p doc n) same_but.whole))
-      (write_keeps (core_in past t a.writers) x.draw p rest n (Rattle.core_clash.specs.Core.with_document (nodes_in t) p doc) (found x.draw.base r p x.draw.marks (whole p (nodes_in t p) (moved_in t p))) a.sound may
+  sound : Sound (core_in start later now (with_writer a.writers r (wrote (a.writers r))))
+  sound = subst (λ (docs : Docs). Sound (record { old = sees start.at; number = n; docs = docs; moved = moved_in now; past = later; writers = with_writer a.writers r (wrote (a.writers r)) })) (sym (put_node t p doc n))
+      (subst (λ (moved : Path → List Document). Sound (record { old = sees start.at; number = n; docs = Rattle.core_clash.specs.Core.with_document (nodes_in t) p doc; moved = moved; past = later; writers = with_writer a.writers r (wrote (a.writers r)) })) (sym (moved_stays t now p doc (put_main t p doc n) same_but.whole))
+      (write_keeps (core_in start past t a.writers) x.draw p rest n (Rattle.core_clash.specs.Core.with_document (nodes_in t) p doc) (found x.draw.base r p x.draw.marks (whole p (nodes_in t p) (moved_in t p))) a.sound may
       (writes (nodes_in t) x.draw p n (a.sound.ordered p) (a.sound.edits r x.draw may.going.draw)) (meeting x.draw.base r p x.draw.marks (whole p (nodes_in t p) (moved_in t p)))))
 
-  written_world : IsKeptWorld (documents_in now.documents) past (with_progress (λ q. is_among (a.writers q).written) r (λ q. eq_by_cmp path_cmp q p || is_among (a.writers r).written q))
-  written_world = kept_write_op (documents_in t.documents) (documents_in now.documents) past _ (world_of past t running a told) r x.draw may.going.draw (flies past t running a told s x here) (pending past t running a told s x here uncommitted) p op n (markings_at r p x.draw.marks)
+  written_world : IsKeptSince start (documents_in now.documents) past (with_progress (λ q. is_among (a.writers q).written) r (λ q. eq_by_cmp path_cmp q p || is_among (a.writers r).written q))
+  written_world = kept_write_op start (documents_in t.documents) (documents_in now.documents) past _ (world_of start past t running a told) r x.draw may.going.draw (flies start past t running a told s x here) (pending start past t running a told s x here uncommitted) p op n (markings_at r p x.draw.marks)
       wop
       new (put_main t p doc n)
 
   -- readers read on
-  pub write_lets : LetsRead t (after_update t op) past later
-  write_lets = subst (λ (u : Table). LetsRead t u past later) (sym made)
-      (lets_then t now now past later _ written_world
-      (lets_change t now past told (λ pin held. on_write pin (documents_in t.documents) (documents_in now.documents) past _ (world_of past t running a told) held r x.draw may.going.draw (flies past t running a told s x here) (pending past t running a told s x here uncommitted) p (markings_at r p x.draw.marks) op n wop new (put_main t p doc n))
-      (λ formers l. formers_write (documents_in t.documents) (documents_in now.documents) past _ (world_of past t running a told) r x.draw may.going.draw (flies past t running a told s x here) (pending past t running a told s x here uncommitted) p (markings_at r p x.draw.marks) op n wop new (put_main t p doc n) formers l))
-      (lets_event now past _ written_world (event.Went x.draw.session kind.Write) (λ q. refl) (λ q. refl) (λ q. refl)))
+  pub write_lets : LetsRead start t (after_update t op) past later
+  write_lets = subst (λ (u : Table). LetsRead start t u past later) (sym made)
+      (lets_then start t now now past later _ written_world
+      (lets_change start t now past told (λ pin held. on_write start pin (documents_in t.documents) (documents_in now.documents) past _ (world_of start past t running a told) held r x.draw may.going.draw (flies start past t running a told s x here) (pending start past t running a told s x here uncommitted) p (markings_at r p x.draw.marks) op n wop new (put_main t p doc n))
+      (λ formers l. formers_write start (documents_in t.documents) (documents_in now.documents) past _ (world_of start past t running a told) r x.draw may.going.draw (flies start past t running a told s x here) (pending start past t running a told s x here uncommitted) p (markings_at r p x.draw.marks) op n wop new (put_main t p doc n) formers l))
+      (lets_event start now past _ written_world (event.Went x.draw.session kind.Write) (λ q. refl) (λ q. refl) (λ q. refl)))
 
-  readable : IsKeptWorld (documents_in now.documents) later (with_progress (λ q. is_among (a.writers q).written) r (λ q. eq_by_cmp path_cmp q p || is_among (a.writers r).written q))
-  readable = kept_idle (documents_in now.documents) past _ (event.Went x.draw.session kind.Write) refl written_world
+  readable : IsKeptSince start (documents_in now.documents) later (with_progress (λ q. is_among (a.writers q).written) r (λ q. eq_by_cmp path_cmp q p || is_among (a.writers r).written q))
+  readable = kept_idle start (documents_in now.documents) past _ (event.Went x.draw.session kind.Write) refl written_world
 
-  pub write_commits : AreCommitting later (after_update t op) (with_session running s (Some (record { draw = x.draw; writer = wrote x.writer; committed = x.committed })))
-  write_commits = subst (λ (u : Table). AreCommitting later u (with_session running s (Some (record { draw = x.draw; writer = wrote x.writer; committed = x.committed })))) (sym made) (record {
+  pub write_commits : AreCommitting start later (after_update t op) (with_session running s (Some (record { draw = x.draw; writer = wrote x.writer; committed = x.committed })))
+  write_commits = subst (λ (u : Table). AreCommitting start later u (with_session running s (Some (record { draw = x.draw; writer = wrote x.writer; committed = x.committed })))) (sym made) (record {
     writers = with_writer a.writers r (wrote (a.writers r));
     sound = sound;
-    theirs = theirs_step past a.writers running a.theirs s x here (wrote (a.writers r)) (wrote x.writer) (ap wrote (mine past t running a told s x here).writer) x.committed later (λ q. refl) (λ q. refl) (λ q k. refl) (mine past t running a told s x here).committed;
+    theirs = theirs_step past a.writers running a.theirs s x here (wrote (a.writers r)) (wrote x.writer) (ap wrote (mine start past t running a told s x here).writer) x.committed later (λ q. refl) (λ q. refl) (λ q k. refl) (mine start past t running a told s x here).committed;
     listed = at_session (λ q (y : Running). y.writer.paths ≡ paths_to_write y.draw.marks) running s _ (a.listed s x here) (λ q y f h. a.listed q y h);
-    kept = world_by (documents_in now.documents) later _ (λ q. is_among (with_writer a.writers r (wrote (a.writers r)) q).written) (progress_with a.writers r (wrote (a.writers r)) _ (λ q. sym (among_more (a.writers r).written p q))) readable;
+    kept = world_by start (documents_in now.documents) later _ (λ q. is_among (with_writer a.writers r (wrote (a.writers r)) q).written) (progress_with a.writers r (wrote (a.writers r)) _ (λ q. sym (among_more (a.writers r).written p q))) readable;
     unstopped = at_session (λ q (y : Running). is_stopped past y.draw.revision.cluster ≡ false) running s _ (a.unstopped s x here) (λ q y f h. a.unstopped q y h);
   })

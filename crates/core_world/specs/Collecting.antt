@@ -25,16 +25,17 @@ use Rattle.oak_machine.specs.declared.event.StepKind.{StepKind}
 use Rattle.oak_machine.specs.declared.event.StepKind.TheVariants as kind
 use Rattle.oak_read.specs.Meaning.{Documents, documents_in, is_committed}
 use Rattle.oak_store.specs.Tables.{Table, next_number, with_document}
-use Rattle.core_read.specs.Holds.{edit_of}
 use Rattle.core_keep.specs.Dropping.{DropsGarbage}
 use Rattle.core_keep.specs.Garbage.{is_garbage_document}
 use Rattle.core_keep.specs.Splits.{main_write, previous_write, IsInOrder}
 use Rattle.core_read.specs.Writes.{IsOrderedDocument}
 use Rattle.core_keep.specs.Formers.{former_now, with_former}
-use Rattle.core_keep.specs.Journal.{course_of}
 use Rattle.core_keep.specs.Steps.{IsUnlisted}
 use Rattle.core_clash.specs.Collecting.{IsBoundOf}
-use Rattle.core_world.specs.States.{State}
+use Rattle.core_world.specs.States.{State, origin}
+use Rattle.core_keep.specs.Keeps.{is_done}
+use Rattle.core_keep.specs.From.{course_from}
+use Rattle.core_begun.specs.Told.{edit_since}
 
 -- the documents without one
 abbrev pub without : Table → DocId → Table
@@ -59,7 +60,7 @@ abbrev pub after_split : State → ℕ → Documents → Pin → Path → Docume
 after_split w s read pin p old e =
     let t = with_document w.table (id.Node p) (split_now w read pin old e) (next_number w.table) in
     record (after_change w s kind.Split t) {
-      formers = with_former w.formers p e.number (former_now (course_of w.past) old);
+      formers = with_former w.formers p e.number (former_now (course_from (origin w) w.past) old);
     }
 
 -- a document has the number that the split has read, and what counts in the documents that it has
@@ -72,7 +73,7 @@ pub record MaySplit (w : State) (read : Documents) (pin : Pin) (p : Path) (old :
   pub counted : (n : Name) (r : Revision)
       → IsTrue (is_some (of_revision (values_of_property old.props n) r))
       → IsTrue (sees pin.base r && is_committed read pin.sweep old r)
-      → IsTrue (is_some (edit_of w.past r))
+      → IsTrue (is_done (course_from (origin w) w.past) r)
   pub first : ℕ
   pub copied : documents_in w.table.documents (id.Prev e.number p)
       ≡ Some (after_changes None (previous_write read pin old) first)

@@ -13,10 +13,10 @@ use Rattle.oak_read.specs.Meaning.{documents_in}
 use Rattle.oak_store.specs.Tables.{Table}
 use Rattle.core_keep.specs.Bounds.{kept_pairs}
 use Rattle.core_keep.specs.Holding.{Holding, IsBelowAll}
-use Rattle.core_read.specs.Holds.{IsClosedSight}
 use Rattle.jr_rev.specs.Vectors.{is_below, sees}
 use Rattle.std.specs.Prelude.{IsTrue}
 use Rattle.core_world.specs.States.{State, memory_at}
+use Rattle.core_begun.specs.Told.{IsClosedSince}
 
 -- the pairs that the settings keep: of checkpoints and of attached sessions
 abbrev pub kept_in : Table → List Pin
@@ -49,4 +49,4 @@ after_bound w m t = record w { past = event.Bound m t ∷ w.past }
 pub record MayTakeBound (w : State) (m t : RevVec) : Type 0 where
   pub below : IsBelowAll (record { base = m; sweep = t }) (holding_in w)
   pub swept : IsTrue (is_below t m)
-  pub closed : IsClosedSight w.past (sees m)
+  pub closed : IsClosedSince w.past (sees m)

@@ -17,7 +17,8 @@ use Rattle.jr_rev.specs.declared.vector.RevVec.{RevVec}
 use Rattle.oak_clash.specs.declared.mark.Mark.{Mark}
 use Rattle.oak_commit.specs.Clashing.{Writer, has, has_mark}
 use Rattle.oak_doc.specs.declared.document.Document.{Document}
-use Rattle.oak_machine.specs.History.{Past}
+use Rattle.oak_machine.specs.declared.event.Start.{Start}
+use Rattle.oak_machine.specs.History.{Begin, Past}
 use Rattle.oak_machine.specs.Commits.{is_committed, is_in_flight}
 use Rattle.oak_machine.specs.Laws.{Says, Starts}
 use Rattle.oak_machine.specs.Runs.{AreNodes, IsNode, IsRunOf}
@@ -38,9 +39,10 @@ use Rattle.core_changes.specs.Observing.{IsObserving}
 use Rattle.jr_rev.specs.Vectors.{sees, start_of}
 use Rattle.core_read.specs.Told.{IsIn}
 use Rattle.core_keep.specs.Holding.{Holding}
-use Rattle.core_keep.specs.Journal.{course_of, is_bounded, is_swept, IsKeptWorld}
+use Rattle.core_begun.specs.Kept.{bounded_since, swept_since, IsKeptSince}
+use Rattle.core_keep.specs.From.{course_from}
 use Rattle.core_world.specs.Held.{holding_in}
-use Rattle.core_world.specs.States.{State, actor_pin, core_in, memory_at, memory_of, nodes_in}
+use Rattle.core_world.specs.States.{State, origin, actor_pin, core_in, memory_at, memory_of, nodes_in}
 use Rattle.core_world.specs.Steps.{paths_to_write}
 
 -- ---- documents and committers
@@ -50,17 +52,18 @@ abbrev pub has_written : Writer → Path → Bool
 has_written w p = list_any (eq_by_cmp path_cmp p) w.written
 
 -- the committers of all sessions, over the documents
-pub record AreCommitting (past : Past) (t : Table) (running : ℕ → Option Running) : Type 0 where
+pub record AreCommitting (start : Start) (past : Past) (t : Table) (running : ℕ → Option Running)
+    : Type 0 where
   -- the writers of all draws, also of those that have ended, with which the core is sound
   pub writers : Revision → Writer
-  pub sound : Sound (core_in past t writers)
+  pub sound : Sound (core_in start past t writers)
   -- the committers at work are those of their draws, and each writes the marked documents
   pub theirs : (s : ℕ) (x : Running) → running s ≡ Some x → IsTheirs past writers s x
   pub listed : (s : ℕ) (x : Running) → running s ≡ Some x
       → x.writer.paths ≡ paths_to_write x.draw.marks
   -- the documents keep what the past tells, and each draw in flight that isn't committed is written
   -- just where its writer has written
-  pub kept : IsKeptWorld (documents_in t.documents) past (λ r. has_written (writers r))
+  pub kept : IsKeptSince start (documents_in t.documents) past (λ r. has_written (writers r))
   -- none at work is of a cluster node that was stopped
   pub unstopped : (s : ℕ) (x : Running) → running s ≡ Some x
       → IsFalse (is_stopped past x.draw.revision.cluster)
@@ -84,10 +87,10 @@ pub record AreAtWork (sessions : List ℕ) (past : Past) (running : ℕ → Opti
 
 -- there is a memory for each cluster node, which is that of the past, with the pins of the node's
 -- sessions
-pub record AreMemories (clusters : ℕ) (sessions : List ℕ) (past : Past) (memories : List NodeState)
-    : Type 0 where
+pub record AreMemories (begin : Begin) (clusters : ℕ) (sessions : List ℕ) (past : Past)
+    (memories : List NodeState) : Type 0 where
   pub counted : length memories ≡ clusters
-  pub memory : (k : ℕ) → IsNode clusters k → IsMemoryOf None clusters past k (memory_at memories k)
+  pub memory : (k : ℕ) → IsNode clusters k → IsMemoryOf begin clusters past k (memory_at memories k)
   pub pins : (k : ℕ) → IsNode clusters k → ArePinsOf sessions past k (memory_at memories k)
 
 -- ---- readers
@@ -96,21 +99,21 @@ pub record AreMemories (clusters : ℕ) (sessions : List ℕ) (past : Past) (mem
 abbrev pub live_base : Past → ℕ → Option RevVec
 live_base past s = cond (has_login past s && not (has_left past s)) (base_of past s) None
 
--- a pair sees what the bounds so far see, in both vectors
-pub record IsAboveBounds (past : Past) (x : Pin) : Type 0 where
-  pub base : (r : Revision) → IsTrue (is_bounded past r) → IsTrue (sees x.base r)
-  pub sweep : (r : Revision) → IsTrue (is_swept past r) → IsTrue (sees x.sweep r)
+-- a pair sees what there was from the beginning and what the bounds so far see, in both vectors
+pub record IsAboveBounds (start : Start) (past : Past) (x : Pin) : Type 0 where
+  pub base : (r : Revision) → IsTrue (bounded_since start past r) → IsTrue (sees x.base r)
+  pub sweep : (r : Revision) → IsTrue (swept_since start past r) → IsTrue (sees x.sweep r)
 
 -- the readers of all sessions
-pub record AreReading (past : Past) (t : Table) (formers : Formers) (reading : ℕ → Option Reader)
-    : Type 0 where
+pub record AreReading (start : Start) (past : Past) (t : Table) (formers : Formers)
+    (reading : ℕ → Option Reader) : Type 0 where
   -- what is told of former documents is so
-  pub told : AreFormers (documents_in t.documents) (course_of past) formers
+  pub told : AreFormers (documents_in t.documents) (course_from start past) formers
   -- each reads the tree
   pub reads : (s : ℕ) (r : Reader) → reading s ≡ Some r
-      → IsReading (documents_in t.documents) past formers r
+      → IsReading start (documents_in t.documents) past formers r
   -- its pair is above the bounds so far
-  pub above : (s : ℕ) (r : Reader) → reading s ≡ Some r → IsAboveBounds past r.pin
+  pub above : (s : ℕ) (r : Reader) → reading s ≡ Some r → IsAboveBounds start past r.pin
   -- it reads at the base of its session, with a sweep vector that goes with it
   pub at_base : (s : ℕ) (r : Reader) → reading s ≡ Some r → live_base past s ≡ Some r.pin.base
   pub pairs : (s : ℕ) (r : Reader) → reading s ≡ Some r → IsPair r.pin.base r.pin.sweep
@@ -118,28 +121,29 @@ pub record AreReading (past : Past) (t : Table) (formers : Formers) (reading : �
 -- ---- readers of changes
 
 -- a reader of changes of session s tells the commits between the session's cursor and its own pin
-pub record IsBetweenPins (past : Past) (s : ℕ) (r : ChangesReader) : Type 0 where
+pub record IsBetweenPins (start : Start) (past : Past) (s : ℕ) (r : ChangesReader) : Type 0 where
   pub cursor : cursor_at past s ≡ Some r.from
   pub own : session_base past s ≡ Some r.pin.base
   -- the pin's sweep vector goes with its base
   pub pair : IsPair r.pin.base r.pin.sweep
-  -- the pin sees what the bounds so far see, and so does the cursor
-  pub above : IsAboveBounds past r.pin
-  pub above_cursor : (o : Revision) → IsTrue (is_bounded past o) → IsTrue (sees r.from o)
+  -- the pin sees what there was from the beginning and what the bounds so far see, and so does the
+  -- cursor
+  pub above : IsAboveBounds start past r.pin
+  pub above_cursor : (o : Revision) → IsTrue (bounded_since start past o) → IsTrue (sees r.from o)
 
 -- what is kept of all readers of changes
-pub record AreObserving (sessions : List ℕ) (past : Past) (t : Table) (formers : Formers)
-    (observing : ℕ → Option ChangesReader) : Type 0 where
+pub record AreObserving (start : Start) (sessions : List ℕ) (past : Past) (t : Table)
+    (formers : Formers) (observing : ℕ → Option ChangesReader) : Type 0 where
   -- of a stopped cluster node no session has one
   pub goes : (s : ℕ) (r : ChangesReader) → observing s ≡ Some r
       → IsFalse (is_stopped_under sessions past s)
   -- the owner of its cursor is no session
   pub apart : (s : ℕ) (r : ChangesReader) → observing s ≡ Some r
       → slice_get sessions (cursor_owner s) ≡ None
-  pub between : (s : ℕ) (r : ChangesReader) → observing s ≡ Some r → IsBetweenPins past s r
+  pub between : (s : ℕ) (r : ChangesReader) → observing s ≡ Some r → IsBetweenPins start past s r
   -- what it has told so far are the changes at the documents that it has passed
   pub tells : (s : ℕ) (r : ChangesReader) → observing s ≡ Some r
-      → IsObserving (documents_in t.documents) past formers r
+      → IsObserving start (documents_in t.documents) past formers r
 
 -- ---- the root
 
@@ -149,15 +153,16 @@ SeesStarts clusters sweep = (k : ℕ) → IsNode clusters k → IsTrue (sees swe
 
 -- the root's document is there; it tells what is public, and how far each cluster node has swept,
 -- from its start on
-pub record IsRootKept (clusters : ℕ) (past : Past) (t : Table) : Type 0 where
+pub record IsRootKept (begin : Begin) (clusters : ℕ) (past : Past) (t : Table) : Type 0 where
   pub document : Document
   pub there : nodes_in t [] ≡ Some document
-  pub tells : IsOnRoot None clusters past document.last_rev document.sweep_rev
+  pub tells : IsOnRoot begin clusters past document.last_rev document.sweep_rev
   pub begun : SeesStarts clusters document.sweep_rev
 
 -- the root told these vectors at some moment so far
-abbrev pub WereOnRoot : ℕ → Past → RevVec → RevVec → Type 0
-WereOnRoot clusters past last sweep = (n : ℕ) × IsOnRoot None clusters (drop n past) last sweep
+abbrev pub WereOnRoot : Begin → ℕ → Past → RevVec → RevVec → Type 0
+WereOnRoot begin clusters past last sweep =
+    (n : ℕ) × IsOnRoot begin clusters (drop n past) last sweep
 
 -- ---- the settings
 
@@ -193,24 +198,26 @@ pub record AreSettingsKept (sessions : List ℕ) (past : Past) (t : Table) : Typ
 -- what sessions, their commits, readers and memories keep
 pub record AreSessionsKept (starts : Starts) (says : Says) (w : State) : Type 0 where
   pub nodes : AreNodes w.clusters w.sessions
-  pub run : IsRunOf starts says w.clusters w.sessions None w.past
-  pub committing : AreCommitting w.past w.table w.running
+  pub run : IsRunOf starts says w.clusters w.sessions w.begin w.past
+  pub committing : AreCommitting (origin w) w.past w.table w.running
   pub working : AreAtWork w.sessions w.past w.running w.reading
-  pub memories : AreMemories w.clusters w.sessions w.past w.memories
-  pub readers : AreReading w.past w.table w.formers w.reading
-  pub observers : AreObserving w.sessions w.past w.table w.formers w.observing
+  pub memories : AreMemories w.begin w.clusters w.sessions w.past w.memories
+  pub readers : AreReading (origin w) w.past w.table w.formers w.reading
+  pub observers : AreObserving (origin w) w.sessions w.past w.table w.formers w.observing
 
 -- what is kept of sessions, of the root and of the settings
 pub record AreLayersKept (starts : Starts) (says : Says) (w : State) : Type 0 where
   pub sessions : AreSessionsKept starts says w
-  pub root : IsRootKept w.clusters w.past w.table
+  pub root : IsRootKept w.begin w.clusters w.past w.table
   pub settings : AreSettingsKept w.sessions w.past w.table
 
--- all that is held is above the bounds so far: heads, pins, and what the settings keep
-pub record AreAboveBounds (past : Past) (h : Holding) : Type 0 where
-  pub heads : (k : ℕ) → IsFalse (h.gone k) → IsAboveBounds past (h.heads k)
-  pub pins : (k : ℕ) → IsFalse (h.gone k) → (x : Pin) → IsIn x (h.pins k) → IsAboveBounds past x
-  pub kept : (x : Pin) → IsIn x h.kept → IsAboveBounds past x
+-- all that is held is above the beginning and the bounds so far: heads, pins, and what the settings
+-- keep
+pub record AreAboveBounds (start : Start) (past : Past) (h : Holding) : Type 0 where
+  pub heads : (k : ℕ) → IsFalse (h.gone k) → IsAboveBounds start past (h.heads k)
+  pub pins : (k : ℕ) → IsFalse (h.gone k) → (x : Pin) → IsIn x (h.pins k)
+      → IsAboveBounds start past x
+  pub kept : (x : Pin) → IsIn x h.kept → IsAboveBounds start past x
 
 -- each reader at work reads at a pin of its session
 pub record IsPinned (w : State) : Type 0 where
@@ -226,11 +233,11 @@ pub record IsKept (starts : Starts) (says : Says) (w : State) : Type 0 where
   -- journal's, and readers read
   pub sessions : AreSessionsKept starts says w
   -- the root tells what is public
-  pub root : IsRootKept w.clusters w.past w.table
+  pub root : IsRootKept w.begin w.clusters w.past w.table
   -- the settings have the checkpoints that are kept, and who is attached
   pub settings : AreSettingsKept w.sessions w.past w.table
-  -- all that is held sees what the bounds so far see
-  pub above : AreAboveBounds w.past (holding_in w)
+  -- all that is held sees what there was from the beginning and what the bounds so far see
+  pub above : AreAboveBounds (origin w) w.past (holding_in w)
   -- each reader reads at a pin of its session
   pub pinned : IsPinned w
   -- the sweep vector of each memory sees each start

@@ -15,8 +15,12 @@ use Rattle.oak_read.specs.Meaning.{Documents, documents_in}
 use Rattle.oak_store.specs.Tables.{Table, next_number}
 use Rattle.core_keep.specs.Formers.{Former, Formers}
 use Rattle.core_keep.specs.Splits.{IsInOrder}
-use Rattle.core_read.specs.Holds.{edit_of, has_revision}
+use Rattle.core_read.specs.Holds.{has_revision}
 use Rattle.core_world.specs.States.{nodes_in}
+use Rattle.core_keep.specs.Keeps.{is_done}
+use Rattle.core_keep.specs.From.{course_from}
+use Rattle.oak_machine.specs.declared.event.Start.{Start}
+use Rattle.core_begun.specs.Told.{edit_since}
 
 -- the last number, at which numbers stay
 abbrev pub last_number : ℕ
@@ -54,17 +58,18 @@ pub record IsReadIn (t : Table) (i : DocId) (old : Document) : Type 0 where
 -- vector sees there and what they say is committed; and where a previous document of its number was
 -- listed meanwhile, it is the former document, and what is committed that the pin sees was
 -- committed then
-pub record IsSplitting (past : Past) (t : Table) (formers : Formers) (known : Documents) (pin : Pin)
+pub record IsSplitting (start : Start) (past : Past) (t : Table) (formers : Formers)
+    (known : Documents) (pin : Pin)
     (p : Path) (old : Document) : Type 0 where
   pub named : old.id ≡ id.Node p
   pub order : IsInOrder old
   pub read : IsReadIn t (id.Node p) old
   pub swept : (n : Name) (r : Revision)
       → IsTrue (is_some (of_revision (values_of_property old.props n) r))
-      → IsTrue (sees pin.sweep r) → IsTrue (is_some (edit_of past r))
+      → IsTrue (sees pin.sweep r) → IsTrue (is_done (course_from start past) r)
   pub said : (q : Path) (d : Document) → known (id.Node q) ≡ Some d → (r : Revision)
-      → IsTrue (has_revision (Some d) r) → IsTrue (is_some (edit_of past r))
+      → IsTrue (has_revision (Some d) r) → IsTrue (is_done (course_from start past) r)
   pub former : (f : Former) → formers p old.mod_count ≡ Some f
       → (f.document ≡ old)
-      × ((r : Revision) → IsTrue (sees pin.base r) → IsTrue (is_some (edit_of past r))
+      × ((r : Revision) → IsTrue (sees pin.base r) → IsTrue (is_done (course_from start past) r)
       → IsTrue (f.done r))

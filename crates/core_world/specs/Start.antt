@@ -64,6 +64,7 @@ abbrev pub start_state : ℕ → List ℕ → State
 start_state clusters sessions = record {
   clusters = clusters;
   sessions = sessions;
+  begin = None;
   past = [];
   table = start_table clusters (length sessions);
   memories = map (λ k. begun k (start clusters)) (range_with_len 1 clusters);

@@ -11,12 +11,14 @@ use Rattle.jr_path.specs.declared.path.Path.{Path}
 use Rattle.jr_path.specs.declared.path.DocId.TheVariants as id
 use Rattle.jr_rev.specs.declared.revision.Revision.{Revision}
 use Rattle.jr_rev.specs.declared.vector.RevVec.{RevVec}
-use Rattle.jr_rev.specs.Vectors.{no_entries}
+use Rattle.jr_rev.specs.Vectors.{no_entries, sees}
 use Rattle.oak_changes.specs.declared.changes.ChangesReader.{ChangesReader}
 use Rattle.oak_commit.specs.Clashing.{Writer}
 use Rattle.oak_doc.specs.declared.document.Document.{Document}
 use Rattle.oak_doc.specs.declared.document.PrevEntry.{PrevEntry}
-use Rattle.oak_machine.specs.History.{History, Past}
+use Rattle.oak_machine.specs.declared.event.Start.{Start}
+use Rattle.oak_machine.specs.History.{Begin, History, Past}
+use Rattle.core_begun.specs.Told.{start_in}
 use Rattle.oak_node.specs.Memory.{NodeState, begun}
 use Rattle.oak_node.specs.Pins.{pin_of}
 use Rattle.oak_read.specs.declared.reader.Reader.{Reader}
@@ -31,6 +33,8 @@ pub record State : Type 0 where
   -- the number of cluster nodes, and the cluster node of each session
   pub clusters : ℕ
   pub sessions : List ℕ
+  -- what the journal begins with
+  pub begin : Begin
   -- the events so far, the newest first
   pub past : Past
   pub table : Table
@@ -47,7 +51,12 @@ pub record State : Type 0 where
 
 -- what the journal of a state tells
 abbrev pub history_in : State → History
-history_in w = record { clusters = w.clusters; sessions = w.sessions; begin = None; past = w.past }
+history_in w =
+    record { clusters = w.clusters; sessions = w.sessions; begin = w.begin; past = w.past }
+
+-- the start of its journal
+abbrev pub origin : State → Start
+origin w = start_in w.clusters w.begin
 
 -- of the sessions, s has this now, and the others have what they had
 abbrev pub with_session : {X : Type 0} → (ℕ → Option X) → ℕ → Option X → ℕ → Option X
@@ -69,13 +78,14 @@ moved_in t p =
     option_map_or (λ d. filter_map (λ e. documents_in t.documents (id.Prev e.number p)) d.prev)
     (nodes_in t p) []
 
--- the core of many committers: the documents with the previous ones that they list, the events so
--- far, and the writer of each draw
-abbrev pub core_in : Past → Table → (Revision → Writer) → Core
-core_in past t writers = record {
+-- the core of many committers: the documents with the previous ones that they list, what there was
+-- from the beginning, the events so far, and the writer of each draw
+abbrev pub core_in : Start → Past → Table → (Revision → Writer) → Core
+core_in start past t writers = record {
   number = t.number;
   docs = nodes_in t;
   moved = moved_in t;
+  old = sees start.at;
   past = past;
   writers = writers;
 }

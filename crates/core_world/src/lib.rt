@@ -29,7 +29,9 @@ ghost use Rattle.jr_path.specs.Names.{name_cmp, path_cmp};
 ghost use Rattle.jr_rev.specs.declared.vector.RevVec.{RevVec};
 ghost use Rattle.jr_rev.specs.Revisions.{is_at_most};
 ghost use Rattle.jr_rev.specs.Vectors.{is_below, sees};
-ghost use Rattle.oak_machine.specs.History.{Past};
+ghost use Rattle.oak_machine.specs.declared.event.Start.{Start};
+ghost use Rattle.oak_machine.specs.History.{Begin, Past};
+ghost use Rattle.core_keep.specs.Keeps.{is_done};
 ghost use Rattle.oak_machine.specs.Heads.{local, published};
 ghost use Rattle.oak_node.specs.Memory.{own_entry};
 ghost use Rattle.jr_tree.specs.declared.edit.Edit.{Edit};
@@ -75,9 +77,8 @@ ghost use Rattle.core_keep.specs.Keeps.{Course};
 ghost use Rattle.core_keep.specs.Bounds.{root_pair};
 ghost use Rattle.core_keep.specs.Splits.{previous_write, IsInOrder};
 ghost use Rattle.core_keep.specs.Holding.{IsHoldingStep};
-ghost use Rattle.core_keep.specs.Journal.{course_of, is_swept, IsHeld, IsKeptWorld};
-ghost use Rattle.core_read.specs.Holds.{edit_of};
-ghost use Rattle.core_read.specs.Told.{IsIn, IsTold};
+ghost use Rattle.core_keep.specs.Journal.{is_swept};
+ghost use Rattle.core_read.specs.Told.{IsIn};
 ghost use Rattle.core_read.specs.World.{Progress};
 ghost use Rattle.std.specs.FinMap.{is_sorted};
 ghost use Rattle.jr_path.specs.Ids.{id_cmp};
@@ -90,16 +91,19 @@ ghost use Rattle.core_keep.specs.Dropping.{is_number_of};
 ghost use Rattle.core_keep.specs.Garbage.{is_garbage_previous, pruning};
 ghost use Rattle.core_read.specs.Writes.{IsOrderedDocument};
 ghost use Rattle.core_keep.specs.Steps.{IsChangeAt, IsMainAt, IsPreviousAt, IsUnlisted};
-ghost use Rattle.core_nodes.specs.Nodes.{IsPair, base_of_pin, cursor_owner};
+ghost use Rattle.core_nodes.specs.Nodes.{IsPair, base_of_pin, begin_time, cursor_owner};
 ghost use Rattle.core_watch.specs.Standing.{AreChildrenOf, IsNodeOf, path_read};
 ghost use Rattle.core_world.specs.Collecting.{MayPrune, MayRemove, MayRemovePrevious, MaySplit, after_copied, after_pruned, after_removed, after_split, without};
 ghost use Rattle.core_world.specs.Freed.{HasNothing, brings_nothing};
 ghost use Rattle.core_world.specs.Held.{after_bound, holding_in, MayTakeBound};
 ghost use Rattle.core_world.specs.Kept.{IsClearedOf, IsFreeOf, IsKept, SeesStarts, WereOnRoot, has_written};
 ghost use Rattle.core_world.specs.Start.{start_state, start_table};
-ghost use Rattle.core_world.specs.States.{State, actor_pin, base_in, history_in, memory_at, memory_of, moved_in, node_of, nodes_in};
+ghost use Rattle.core_world.specs.States.{State, actor_pin, base_in, history_in, memory_at, memory_of, moved_in, node_of, nodes_in, origin};
 ghost use Rattle.core_world.specs.Steps.{IsThrough, LeavesOthers, after_attach, after_back, after_checkpoint, after_clear, after_detach, after_drop_readers, after_publish, after_recover, after_stop, after_release, after_learn, after_learn_swept, after_out, after_pending, after_sweep, after_draw, after_finish, after_unfound, after_last, after_leave, after_login, after_mark, after_observe, after_refresh, after_said, after_undoing, after_update, after_want, after_went, after_write, after_write_in_want, with_observer, with_reader};
 ghost use Rattle.core_world.specs.Sweeping.{target_of};
+ghost use Rattle.core_begun.specs.Told.{IsToldSince};
+ghost use Rattle.core_begun.specs.Kept.{IsHeldSince, IsKeptSince};
+ghost use Rattle.core_keep.specs.From.{course_from};
 
 use oak_machine::Law;
 
@@ -211,14 +215,14 @@ pub fn committers_find_what_they_need<L: Law>(law: &L)
         → w.running s ≡ Some x → IsTrue (list_any (has_moved o (mark.Prop n)) (moved_in w.table p))
         → IsFalse (sees x.draw.base o)
         → (q : Revision) × IsTrue (is_before o q) × IsFalse (sees x.draw.base q)
-        × ((q ≡ start_of 1) ⊎ IsTrue (is_committed w.past q))
+        × (IsTrue (sees (origin w).at q) ⊎ IsTrue (is_committed w.past q))
         × IsTrue (marked (nodes_in w.table p) q (mark.Prop n)) }
     ensures due { let kept = IsKept (L.may_start law.now) (L.may_say law.now) in
         (w : State) (s : ℕ) (x : Running) (f : Met) → kept w → w.running s ≡ Some x
         → In f x.writer.due → IsTrue (is_drawn w.past f.other) }
     ensures roots { (w : State) (e : Event) (r : Revision) → AreNodes w.clusters w.sessions
-        → IsRunOf (L.may_start law.now) (L.may_say law.now) w.clusters w.sessions None (e ∷ w.past)
-        → IsTrue (is_drawn w.past r) → root_of (e ∷ w.past) r ≡ root_of w.past r }
+        → IsRunOf (L.may_start law.now) (L.may_say law.now) w.clusters w.sessions w.begin (e
+        ∷ w.past) → IsTrue (is_drawn w.past r) → root_of (e ∷ w.past) r ≡ root_of w.past r }
 {}
 
 /// A session that has logged in and hasn't left has a pin, at its base. The base of each session's
@@ -242,18 +246,18 @@ pub fn pins_show_the_tree<L: Law>(law: &L)
         (w : State) (s : ℕ) (pin : Pin) (p : Path) → kept w
         → IsTrue (is_some (slice_get w.sessions s)) → pin_of (memory_of w s) s ≡ Some pin
         → found_node (documents_in w.table.documents) pin.sweep pin.base p
-        ≡ node_at (tree_at None w.past pin.base) p }
+        ≡ node_at (tree_at w.begin w.past pin.base) p }
     ensures node { let kept = IsKept (L.may_start law.now) (L.may_say law.now) in
         (w : State) (s : ℕ) (r : Reader) (o : ReadOut) → kept w → w.reading s ≡ Some r
         → r.parent ≡ None → r.step ≡ step.Done o
-        → IsNodeOf (tree_at None w.past r.pin.base) (path_read r) o }
+        → IsNodeOf (tree_at w.begin w.past r.pin.base) (path_read r) o }
     ensures children { let kept = IsKept (L.may_start law.now) (L.may_say law.now) in
         (w : State) (s : ℕ) (r : Reader) (p : Path) (o : ReadOut) → kept w → w.reading s ≡ Some r
         → r.parent ≡ Some p → r.step ≡ step.Done o
-        → AreChildrenOf (tree_at None w.past r.pin.base) p o }
+        → AreChildrenOf (tree_at w.begin w.past r.pin.base) p o }
     ensures times { let kept = IsKept (L.may_start law.now) (L.may_say law.now) in
         (w : State) (k : ℕ) → kept w → IsNode w.clusters k
-        → known_time (memory_at w.memories k) ≤ length w.past }
+        → known_time (memory_at w.memories k) ≤ begin_time w.begin + length w.past }
 {}
 
 /// A reader of changes that is made from the cursor of a session up to the pin of its node's
@@ -280,7 +284,7 @@ pub fn changes_are_observed<L: Law>(law: &L)
     ensures gives { let kept = IsKept (L.may_start law.now) (L.may_say law.now) in
         (w : State) (s : ℕ) (r : ChangesReader) (o : List CommitChanges) → kept w
         → w.observing s ≡ Some r → r.step ≡ observed.Done o
-        → o ≡ changes_between None w.past r.from r.pin.base }
+        → o ≡ changes_between w.begin w.past r.from r.pin.base }
 {}
 
 /// Background work and sweeps keep the world: the taking of notes from memory, a document that is
@@ -299,37 +303,38 @@ pub fn background_work_keeps_the_world<L: Law>(law: &L)
         → kept (after_back w s p r) }
     ensures out { let kept = IsKept (L.may_start law.now) (L.may_say law.now) in
         (w : State) (s : ℕ) (r : Revision) → kept w → IsTrue (has_login w.past s)
-        → r.cluster ≡ node_of w s → IsTrue (is_at_most r (local None w.past (node_of w s)))
+        → r.cluster ≡ node_of w s → IsTrue (is_at_most r (local w.begin w.past (node_of w s)))
         → kept (after_out w s r) }
     ensures learn { let kept = IsKept (L.may_start law.now) (L.may_say law.now) in
         (w : State) (s : ℕ) (last sweep : RevVec) → kept w
         → IsFalse (is_stopped_under w.sessions w.past s) → IsTrue (has_login w.past s)
-        → WereOnRoot w.clusters w.past last sweep → kept (after_learn w s last sweep) }
+        → WereOnRoot w.begin w.clusters w.past last sweep → kept (after_learn w s last sweep) }
     ensures swept { let kept = IsKept (L.may_start law.now) (L.may_say law.now) in
         (w : State) (s : ℕ) (r : Revision) → kept w → IsTrue (has_login w.past s)
-        → r.cluster ≡ node_of w s → IsTrue (is_at_most r (published None w.past (node_of w s)))
+        → r.cluster ≡ node_of w s → IsTrue (is_at_most r (published w.begin w.past (node_of w s)))
         → kept (after_sweep w s r) }
     ensures learn_swept { let kept = IsKept (L.may_start law.now) (L.may_say law.now) in
         (w : State) (s : ℕ) (r : Revision) → kept w → IsTrue (has_login w.past s)
         → IsFalse (has_left w.past s) → r.cluster ≡ node_of w s
-        → IsTrue (is_at_most r (local None w.past (node_of w s))) → kept (after_learn_swept w s r) }
+        → IsTrue (is_at_most r (local w.begin w.past (node_of w s))) → kept (after_learn_swept w s r) }
     ensures heard { let kept = IsKept (L.may_start law.now) (L.may_say law.now) in
         (w : State) (s : ℕ) (last sweep : RevVec) (r : Revision) → kept w
-        → IsTrue (has_login w.past s) → WereOnRoot w.clusters w.past last sweep
+        → IsTrue (has_login w.past s) → WereOnRoot w.begin w.clusters w.past last sweep
         → IsTrue (sees last r) → IsTrue (sees (learned (memory_of w s) last sweep).head r) }
     ensures told { let kept = IsKept (L.may_start law.now) (L.may_say law.now) in
         (w : State) (d : Document) → kept w → nodes_in w.table [] ≡ Some d
-        → WereOnRoot w.clusters w.past d.last_rev d.sweep_rev }
-    ensures lasts { (clusters : ℕ) (e : Event) (past : Past) (last sweep : RevVec)
-        → WereOnRoot clusters past last sweep → WereOnRoot clusters (e ∷ past) last sweep }
+        → WereOnRoot w.begin w.clusters w.past d.last_rev d.sweep_rev }
+    ensures lasts { (begin : Begin) (clusters : ℕ) (e : Event) (past : Past) (last sweep : RevVec)
+        → WereOnRoot begin clusters past last sweep
+        → WereOnRoot begin clusters (e ∷ past) last sweep }
     ensures own { let kept = IsKept (L.may_start law.now) (L.may_say law.now) in
         (w : State) (s : ℕ) → kept w → IsTrue (has_login w.past s)
-        → own_entry (memory_of w s) ≡ local None w.past (node_of w s) }
+        → own_entry (memory_of w s) ≡ local w.begin w.past (node_of w s) }
     ensures published { let kept = IsKept (L.may_start law.now) (L.may_say law.now) in
         (w : State) (d : Document) (r : Revision) → kept w → nodes_in w.table [] ≡ Some d
         → IsTrue (sees d.last_rev r)
         ↔ (IsNode w.clusters r.cluster
-        × IsTrue (is_at_most r (published None w.past r.cluster))) }
+        × IsTrue (is_at_most r (published w.begin w.past r.cluster))) }
 {}
 
 /// Checkpoints keep the world: one is made at the pin of a session, and one that is kept is
@@ -451,21 +456,21 @@ pub fn what_is_held_rises<L: Law>(law: &L)
         → IsHoldingStep (holding_in w) (holding_in (after_back w s p r)) }
     ensures out { let kept = IsKept (L.may_start law.now) (L.may_say law.now) in
         (w : State) (s : ℕ) (r : Revision) → kept w → IsTrue (has_login w.past s)
-        → r.cluster ≡ node_of w s → IsTrue (is_at_most r (local None w.past (node_of w s)))
+        → r.cluster ≡ node_of w s → IsTrue (is_at_most r (local w.begin w.past (node_of w s)))
         → IsHoldingStep (holding_in w) (holding_in (after_out w s r)) }
     ensures learn { let kept = IsKept (L.may_start law.now) (L.may_say law.now) in
         (w : State) (s : ℕ) (last sweep : RevVec) → kept w
         → IsFalse (is_stopped_under w.sessions w.past s) → IsTrue (has_login w.past s)
-        → WereOnRoot w.clusters w.past last sweep
+        → WereOnRoot w.begin w.clusters w.past last sweep
         → IsHoldingStep (holding_in w) (holding_in (after_learn w s last sweep)) }
     ensures swept { let kept = IsKept (L.may_start law.now) (L.may_say law.now) in
         (w : State) (s : ℕ) (r : Revision) → kept w → IsTrue (has_login w.past s)
-        → r.cluster ≡ node_of w s → IsTrue (is_at_most r (published None w.past (node_of w s)))
+        → r.cluster ≡ node_of w s → IsTrue (is_at_most r (published w.begin w.past (node_of w s)))
         → IsHoldingStep (holding_in w) (holding_in (after_sweep w s r)) }
     ensures learn_swept { let kept = IsKept (L.may_start law.now) (L.may_say law.now) in
         (w : State) (s : ℕ) (r : Revision) → kept w → IsTrue (has_login w.past s)
         → IsFalse (has_left w.past s) → r.cluster ≡ node_of w s
-        → IsTrue (is_at_most r (local None w.past (node_of w s)))
+        → IsTrue (is_at_most r (local w.begin w.past (node_of w s)))
         → IsHoldingStep (holding_in w) (holding_in (after_learn_swept w s r)) }
     ensures checkpoint { let kept = IsKept (L.may_start law.now) (L.may_say law.now) in
         (w : State) (s : ℕ) (i : Text) (pin : Pin) → kept w
@@ -523,7 +528,7 @@ pub fn stops_and_recoveries_keep_the_world<L: Law>(law: &L)
         → IsClearedOf w k → kept (after_recover w k) }
     ensures publish { let kept = IsKept (L.may_start law.now) (L.may_say law.now) in
         (w : State) (k : ℕ) (r : Revision) → kept w → IsNode w.clusters k → r.cluster ≡ k
-        → IsTrue (is_at_most r (local None w.past k)) → kept (after_publish w k r) }
+        → IsTrue (is_at_most r (local w.begin w.past k)) → kept (after_publish w k r) }
     ensures drop { let kept = IsKept (L.may_start law.now) (L.may_say law.now) in
         (w : State) (s : ℕ) (sessions : List ℕ) → kept w → IsTrue (has_login w.past s)
         → IsFalse (has_left w.past s)
@@ -548,7 +553,7 @@ pub fn stops_and_recoveries_keep_the_world<L: Law>(law: &L)
         → IsClearedOf w k → IsHoldingStep (holding_in w) (holding_in (after_recover w k)) }
     ensures publish_holds { let kept = IsKept (L.may_start law.now) (L.may_say law.now) in
         (w : State) (k : ℕ) (r : Revision) → kept w → IsNode w.clusters k → r.cluster ≡ k
-        → IsTrue (is_at_most r (local None w.past k))
+        → IsTrue (is_at_most r (local w.begin w.past k))
         → IsHoldingStep (holding_in w) (holding_in (after_publish w k r)) }
     ensures drop_holds { let kept = IsKept (L.may_start law.now) (L.may_say law.now) in
         (w : State) (s : ℕ) (sessions : List ℕ) → kept w → IsTrue (has_login w.past s)
@@ -558,12 +563,12 @@ pub fn stops_and_recoveries_keep_the_world<L: Law>(law: &L)
     ensures decided { let kept = IsKept (L.may_start law.now) (L.may_say law.now) in
         (w : State) (s : ℕ) (pin : Pin) (p : Path) (d : Document) (r : Revision) (m : Mark) → kept w
         → IsTrue (is_some (slice_get w.sessions s)) → pin_of (memory_of w s) s ≡ Some pin
-        → nodes_in w.table p ≡ Some d → IsTrue (is_drawn w.past r) → (r ≡ start_of 1 → ⊥)
+        → nodes_in w.table p ≡ Some d → IsTrue (is_drawn w.past r) → IsFalse (sees (origin w).at r)
         → IsTrue (has_mark d r m)
         → meaning.is_committed (documents_in w.table.documents) pin.sweep d r
         ≡ is_committed w.past r }
     ensures status { let kept = IsKept (L.may_start law.now) (L.may_say law.now) in
-        (w : State) (r : Revision) → kept w → IsFalse (is_swept w.past r) → (r ≡ start_of 1 → ⊥)
+        (w : State) (r : Revision) → kept w → IsFalse (is_swept w.past r) → IsFalse (sees (origin w).at r)
         → noted (nodes_in w.table (root_of w.past r)) r ≡ is_committed w.past r }
 {}
 
@@ -723,7 +728,7 @@ pub fn collections_keep_the_world<L: Law>(law: &L)
 /// through splits, sweeps and collections.
 pub fn worlds_are_kept<L: Law>(law: &L)
     ensures { (w : State) (kept : IsKept (L.may_start law.now) (L.may_say law.now) w)
-        → IsKeptWorld (documents_in w.table.documents) w.past
+        → IsKeptSince (origin w) (documents_in w.table.documents) w.past
         (λ r. has_written (kept.sessions.committing.writers r)) }
 {}
 
@@ -884,37 +889,43 @@ pub fn steps_number_documents()
 /// them splits that list previous documents; and what it writes then keeps the world, as does its
 /// update of the document where that has the number still that it read.
 pub fn late_splits_write_copies()
-    ensures begins { (past : Past) (t : Table) (done : Progress) (formers : Formers)
-        (known : Documents) (pin : Pin) (p : Path) (old : Document)
-        → IsKeptWorld (documents_in t.documents) past done → AreNumbered t formers
-        → IsHeld past pin.base pin.sweep → nodes_in t p ≡ Some old → IsInOrder old
+    ensures begins { (start : Start) (past : Past) (t : Table) (done : Progress)
+        (formers : Formers) (known : Documents) (pin : Pin) (p : Path) (old : Document)
+        → IsKeptSince start (documents_in t.documents) past done → AreNumbered t formers
+        → IsHeldSince start past pin.base pin.sweep → nodes_in t p ≡ Some old → IsInOrder old
         → ((q : Path) (d : Document) → known (id.Node q) ≡ Some d → nodes_in t q ≡ Some d)
-        → IsSplitting past t formers known pin p old }
-    ensures knows { (past : Past) (t : Table) (done : Progress) (formers : Formers)
-        (known more : Documents) (pin : Pin) (p : Path) (old : Document)
-        → IsKeptWorld (documents_in t.documents) past done
-        → IsSplitting past t formers known pin p old
+        → IsSplitting start past t formers known pin p old }
+    ensures knows { (start : Start) (past : Past) (t : Table) (done : Progress)
+        (formers : Formers) (known more : Documents) (pin : Pin) (p : Path) (old : Document)
+        → IsKeptSince start (documents_in t.documents) past done
+        → IsSplitting start past t formers known pin p old
         → ((q : Path) (d : Document) → more (id.Node q) ≡ Some d
         → (known (id.Node q) ≡ Some d) ⊎ (nodes_in t q ≡ Some d))
-        → IsSplitting past t formers more pin p old }
-    ensures lasts { (t u : Table) (past later : Past) (formers : Formers) (known : Documents)
-        (pin : Pin) (p : Path) (old : Document) → IsNumberStep t u
-        → ((r : Revision) → IsTrue (is_some (edit_of past r)) → IsTrue (is_some (edit_of later r)))
-        → ((r : Revision) → IsTrue (sees pin.base r) → IsTrue (is_some (edit_of later r))
-        → IsTrue (is_some (edit_of past r))) → IsSplitting past t formers known pin p old
-        → IsSplitting later u formers known pin p old }
-    ensures beside { (t u : Table) (past : Past) (formers : Formers) (known : Documents) (pin : Pin)
-        (p q : Path) (old its : Document) → IsTold past → IsNumberStep t u → nodes_in t q ≡ Some its
-        → its.mod_count < last_number → IsSplitting past t formers known pin p old
-        → IsSplitting past u (with_former formers q its.mod_count (former_now (course_of past) its))
+        → IsSplitting start past t formers more pin p old }
+    ensures lasts { (start : Start) (t u : Table) (past later : Past) (formers : Formers)
+        (known : Documents) (pin : Pin) (p : Path) (old : Document) → IsNumberStep t u
+        → ((r : Revision) → IsTrue (is_done (course_from start past) r)
+        → IsTrue (is_done (course_from start later) r))
+        → ((r : Revision) → IsTrue (sees pin.base r)
+        → IsTrue (is_done (course_from start later) r)
+        → IsTrue (is_done (course_from start past) r))
+        → IsSplitting start past t formers known pin p old
+        → IsSplitting start later u formers known pin p old }
+    ensures beside { (start : Start) (t u : Table) (past : Past) (formers : Formers)
+        (known : Documents) (pin : Pin) (p q : Path) (old its : Document) → IsToldSince start past
+        → IsNumberStep t u → nodes_in t q ≡ Some its → its.mod_count < last_number
+        → IsSplitting start past t formers known pin p old
+        → IsSplitting start past u
+        (with_former formers q its.mod_count (former_now (course_from start past) its))
         known pin p old }
-    ensures copies { (past : Past) (t : Table) (formers : Formers) (known : Documents) (pin : Pin)
-        (p : Path) (old : Document) (number : ℕ) (f : Former)
-        → IsSplitting past t formers known pin p old → formers p old.mod_count ≡ Some f
+    ensures copies { (start : Start) (past : Past) (t : Table) (formers : Formers)
+        (known : Documents) (pin : Pin) (p : Path) (old : Document) (number : ℕ) (f : Former)
+        → IsSplitting start past t formers known pin p old → formers p old.mod_count ≡ Some f
         → IsCopyOf p old.mod_count f (after_changes None (previous_write known pin old) number) }
     ensures lists { (w : State) (formers : Formers) (known : Documents) (pin : Pin) (p : Path)
         (old d : Document) (e : PrevEntry) (first : ℕ)
-        → IsSplitting w.past w.table formers known pin p old → nodes_in w.table p ≡ Some d
+        → IsSplitting (origin w) w.past w.table formers known pin p old
+        → nodes_in w.table p ≡ Some d
         → d.mod_count ≡ old.mod_count → old.mod_count < last_number → e.number ≡ old.mod_count
         → documents_in w.table.documents (id.Prev e.number p)
         ≡ Some (after_changes None (previous_write known pin old) first)
@@ -944,11 +955,11 @@ pub fn bounds_may_be_taken<L: Law>(law: &L)
         → SeesStarts w.clusters (fed_settings w x).sweep }
     ensures lasts { let kept = IsKept (L.may_start law.now) (L.may_say law.now) in
         (w u : State) (added : Past) (k : ℕ) (x : Pin) → kept w → kept u → u.past ≡ added ++ w.past
-        → u.clusters ≡ w.clusters → u.sessions ≡ w.sessions
+        → u.clusters ≡ w.clusters → u.sessions ≡ w.sessions → u.begin ≡ w.begin
         → IsHoldingStep (holding_in w) (holding_in u) → IsBounding w k x → IsBounding u k x }
     ensures held { let kept = IsKept (L.may_start law.now) (L.may_say law.now) in
         (w u : State) (added : Past) → kept w → kept u → u.past ≡ added ++ w.past
-        → u.clusters ≡ w.clusters → u.sessions ≡ w.sessions
+        → u.clusters ≡ w.clusters → u.sessions ≡ w.sessions → u.begin ≡ w.begin
         → IsHoldingStep (holding_in w) (holding_in u) → CanAllBound w → CanAllBound u }
 {}
 
@@ -959,14 +970,14 @@ pub fn sweeps_may_be_told<L: Law>(law: &L)
     ensures reads { let kept = IsKept (L.may_start law.now) (L.may_say law.now) in
         (w : State) (root : Document) (k : ℕ) → kept w → nodes_in w.table [] ≡ Some root
         → ((target_of root k).cluster ≡ k)
-        × IsTrue (is_at_most (target_of root k) (published None w.past k)) }
-    ensures lasts { (e : Event) (past : Past) (k : ℕ) (r : Revision)
-        → IsTrue (is_at_most r (published None past k))
-        → IsTrue (is_at_most r (published None (e ∷ past) k)) }
+        × IsTrue (is_at_most (target_of root k) (published w.begin w.past k)) }
+    ensures lasts { (begin : Begin) (e : Event) (past : Past) (k : ℕ) (r : Revision)
+        → IsTrue (is_at_most r (published begin past k))
+        → IsTrue (is_at_most r (published begin (e ∷ past) k)) }
     ensures local { let kept = IsKept (L.may_start law.now) (L.may_say law.now) in
         (w : State) (k : ℕ) (r : Revision) → kept w
-        → IsTrue (is_at_most r (published None w.past k))
-        → IsTrue (is_at_most r (local None w.past k)) }
+        → IsTrue (is_at_most r (published w.begin w.past k))
+        → IsTrue (is_at_most r (local w.begin w.past k)) }
     ensures learns { let kept = IsKept (L.may_start law.now) (L.may_say law.now) in
         (w : State) (k : ℕ) (v : RevVec) → kept w → IsNode w.clusters k
         → learned (memory_at w.memories k) no_entries v
@@ -1058,5 +1069,6 @@ pub fn what_is_seen_stays<L: Law>(law: &L)
     ensures { let kept = IsKept (L.may_start law.now) (L.may_say law.now) in
         (u : State) (e : Event) (past : Past) (v : RevVec) (r : Revision) → kept u
         → u.past ≡ e ∷ past → IsSettled past v → IsTrue (sees v r)
-        → IsTrue (is_some (edit_of (e ∷ past) r)) → IsTrue (is_some (edit_of past r)) }
+        → IsTrue (is_done (course_from (origin u) (e ∷ past)) r)
+        → IsTrue (is_done (course_from (origin u) past) r) }
 {}

@@ -2,7 +2,7 @@
 use Rattle.std.proofs.Common.{◌≡◌, ◌≢◌, Bool, List, [], ◌∷◌, refl, sym, ap, ◌∙◌}
 use Rattle.std.specs.Prelude.{ℕ, None, filter, map}
 use Rattle.jr_docs_read.specs.Printed.{as_node, as_printed, has_entries, numbered, of_root, printed_at}
-use Rattle.jr_docs_read.specs.Reading.{document_kind, with_commits, with_marks, with_vectors}
+use Rattle.jr_docs_read.specs.Reading.{document_kind, with_commits, with_marks_of, with_vectors}
 use Rattle.jr_docs_read.specs.declared.reading.Kind.TheVariants as kind
 use Rattle.jr_path.specs.declared.path.DocId.{DocId}
 use Rattle.jr_path.specs.declared.path.DocId.TheVariants.{Node, Prev, Settings}
@@ -18,7 +18,7 @@ use Rattle.oak_doc.specs.declared.document.PrevEntry.{PrevEntry}
 pub commits_same : (x d : Document) (a : List (Revision × Bool)) (b : List (Revision × ℕ)) (e : List (Revision × Unit {0})) → a ≡ d.deleted → b ≡ d.commit_root → e ≡ d.revisions → record x { deleted = a; commit_root = b; revisions = e } ≡ with_commits d x
 commits_same x d a b e p q r = λ i. record x { deleted = p i; commit_root = q i; revisions = r i }
 
-pub marks_same : (x d : Document) (a : List (Revision × (Revision × Item))) (b e : List (Revision × Unit {0})) → a ≡ map as_node d.collisions → b ≡ d.touched → e ≡ d.guard → record x { collisions = a; touched = b; guard = e } ≡ with_marks d x
+pub marks_same : (x d : Document) (a : List (Revision × (Revision × Item))) (b e : List (Revision × Unit {0})) → a ≡ map as_node d.collisions → b ≡ d.touched → e ≡ d.guard → record x { collisions = a; touched = b; guard = e } ≡ with_marks_of d x
 marks_same x d a b e p q r = λ i. record x { collisions = p i; touched = q i; guard = r i }
 
 pub vectors_same : (x d : Document) (p : Path) (a b : Entries) → a ≡ d.last_rev → b ≡ of_root p d.sweep_rev → record x { last_rev = a; sweep_rev = b } ≡ with_vectors p d x
@@ -28,13 +28,13 @@ pub off_root : (p : Path) (v : Entries) → (p ≡ [] → ⊥) → no_entries �
 off_root [] v other = absurd (other refl)
 off_root (n ∷ p) v other = refl
 
-pub node_built : (d : Document) (p : Path) (x y z w : Document) (prev : List PrevEntry) (props : Props) → d.id ≡ Node p → x ≡ numbered d.id d.mod_count → y ≡ with_commits d x → z ≡ with_marks d y → w ≡ with_vectors p d z → prev ≡ d.prev → props ≡ filter has_entries d.props
+pub node_built : (d : Document) (p : Path) (x y z w : Document) (prev : List PrevEntry) (props : Props) → d.id ≡ Node p → x ≡ numbered d.id d.mod_count → y ≡ with_commits d x → z ≡ with_marks_of d y → w ≡ with_vectors p d z → prev ≡ d.prev → props ≡ filter has_entries d.props
     → record w { prev = prev; props = props } ≡ as_printed d
 node_built d p x y z w prev props is a b e f g h =
     (λ i. record (f i) { prev = g i; props = h i })
     ∙ (ap (λ (v : Document). record (with_vectors p d v) { prev = d.prev; props = filter has_entries d.props }) e
-    ∙ (ap (λ (v : Document). record (with_vectors p d (with_marks d v)) { prev = d.prev; props = filter has_entries d.props }) b
-    ∙ (ap (λ (v : Document). record (with_vectors p d (with_marks d (with_commits d v))) { prev = d.prev; props = filter has_entries d.props }) a
+    ∙ (ap (λ (v : Document). record (with_vectors p d (with_marks_of d v)) { prev = d.prev; props = filter has_entries d.props }) b
+    ∙ (ap (λ (v : Document). record (with_vectors p d (with_marks_of d (with_commits d v))) { prev = d.prev; props = filter has_entries d.props }) a
     ∙ sym (ap (λ (i : DocId). printed_at i d) is))))
 
 pub prev_built : (d : Document) (n : ℕ) (p : Path) (x : Document) (roots : List (Revision × ℕ)) (props : Props) → d.id ≡ Prev n p → x ≡ numbered d.id d.mod_count → roots ≡ d.commit_root → props ≡ filter has_entries d.props → record x { commit_root = roots; props = props } ≡ as_printed d

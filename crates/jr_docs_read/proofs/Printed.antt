@@ -4,14 +4,14 @@ use Rattle.std.specs.Prelude.{ℕ, codes, filter, map}
 use Rattle.std.proofs.lemmas.List.Elements.{All-from_recursion, recursion_from_All}
 use Rattle.std.specs.declared.cmp.Ordering.{Ordering}
 use Rattle.std.specs.declared.cmp.Ordering.TheVariants.{Less}
-use Rattle.std.specs.List.{AllByRecursion}
+use Rattle.std.specs.List.{AllByRecursion, list_any}
 use Rattle.std.specs.List.Sorted.{IsStrictlySortedBy}
 use Rattle.std.specs.Map.{keys_of}
 use Rattle.serde_json.specs.Data.{Data, Members, boolean, no_members, object, string}
 use Rattle.jr_docs.specs.Documents.{by_revision, collision_data, commit_data, document_data, held_data, listed_data}
 use Rattle.jr_docs.specs.Documents.{note_data, number_data, property_field, sweep_field, vector_field}
 use Rattle.jr_docs.specs.Members.{Field, map_data, members_of_map, put_all, put_field, put_fields, unless_empty}
-use Rattle.jr_docs_read.specs.Printed.{as_node, as_printed, has_entries, is_filled, of_root, printed_at, printed_of_node, printed_of_prev, printed_of_settings}
+use Rattle.jr_docs_read.specs.Printed.{as_node, as_printed, has_entries, of_root, printed_at, printed_of_node, printed_of_prev, printed_of_settings}
 use Rattle.jr_docs_read.specs.Ranges.{IsByRevision, IsCollisionInRange, IsMapOf, IsNodeCollision}
 use Rattle.jr_docs_read.proofs.Named.{members_at}
 use Rattle.jr_path.specs.declared.name.Name.{Name}
@@ -97,7 +97,7 @@ properties_put ms [] = refl
 properties_put ms (p ∷ ps) = by p.1 (λ ns. properties_put ns ps)
   where
     by : (es : List (Revision × Option Property)) → ((ns : Members) → put_fields ns (map property_field ps) ≡ put_all ns (members_of_map property_text values_data (filter has_entries ps)))
-        → put_fields (put_field ms (property_field (p.0, es))) (map property_field ps) ≡ put_all ms (members_of_map property_text values_data (cond (is_filled es) ((p.0, es) ∷ filter has_entries ps) (filter has_entries ps)))
+        → put_fields (put_field ms (property_field (p.0, es))) (map property_field ps) ≡ put_all ms (members_of_map property_text values_data (cond (list_any (λ e. true) es) ((p.0, es) ∷ filter has_entries ps) (filter has_entries ps)))
     by [] rest = rest ms
     by (e ∷ es) rest = rest (put_field ms (property_field (p.0, e ∷ es)))
 

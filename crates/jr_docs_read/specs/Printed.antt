@@ -1,5 +1,6 @@
 -- What the line of a document tells of it.
-use Rattle.std.specs.Prelude.{ℕ, Bool, true, false, List, [], ◌∷◌, map, filter, Option, None}
+use Rattle.std.specs.Prelude.{ℕ, Bool, true, List, [], ◌∷◌, map, filter, Option, None}
+use Rattle.std.specs.List.{list_any}
 use Rattle.jr_path.specs.Names.{item_path}
 use Rattle.jr_path.specs.declared.name.Name.{Name}
 use Rattle.jr_path.specs.declared.path.DocId.{DocId}
@@ -20,14 +21,9 @@ node_item p = record { path = p; name = None }
 abbrev pub as_node : Revision × (Revision × Item) → Revision × (Revision × Item)
 as_node e = (e.0, (e.1.0, node_item (item_path e.1.1)))
 
--- there is an item
-abbrev pub is_filled : {X : Type 0} → List X → Bool
-is_filled [] = false
-is_filled (x ∷ xs) = true
-
 -- a property has an entry
 abbrev pub has_entries : Name × List (Revision × Option Property) → Bool
-has_entries p = is_filled p.1
+has_entries p = list_any (λ e. true) p.1
 
 -- a vector of the document of the node at a path, where the node is the root
 abbrev pub of_root : Path → Entries → Entries

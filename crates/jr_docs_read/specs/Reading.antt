@@ -40,8 +40,8 @@ with_commits d x =
     record x { deleted = d.deleted; commit_root = d.commit_root; revisions = d.revisions }
 
 -- x with the marks of d
-abbrev pub with_marks : Document → Document → Document
-with_marks d x =
+abbrev pub with_marks_of : Document → Document → Document
+with_marks_of d x =
     record x { collisions = map as_node d.collisions; touched = d.touched; guard = d.guard }
 
 -- x with the vectors of d, the document of the node at a path

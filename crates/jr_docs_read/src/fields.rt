@@ -13,7 +13,7 @@ ghost use Rattle.jr_docs_read.specs.Printed.{as_node, as_printed, has_entries, n
 ghost use Rattle.jr_docs_read.specs.Ranges.{IsByRevision, IsHeldInRange, IsListedInRange};
 ghost use Rattle.jr_docs_read.specs.Ranges.{IsPathInRange, IsStorable, IsVectorInRange};
 ghost use Rattle.jr_docs_read.specs.Reading.{Obtains, is_property, printed_members};
-ghost use Rattle.jr_docs_read.specs.Reading.{with_commits, with_marks, with_vectors};
+ghost use Rattle.jr_docs_read.specs.Reading.{with_commits, with_marks_of, with_vectors};
 ghost use Rattle.jr_path.specs.Grammar.{IsName};
 ghost use Rattle.jr_path.specs.Ids.{id_text};
 ghost use Rattle.jr_path.specs.Names.{name_cmp};
@@ -70,7 +70,7 @@ fn read_marks(alloc: Global, json: &Json, document: &mut Document) -> Result<(),
     ensures { (d : Document) (p : Path) → IsStorable d → d.id ≡ doc_id.Node p
         → document_data d ≡ view json.now → document.old.collisions ≡ []
         → document.old.touched ≡ [] → document.old.guard ≡ []
-        → Obtains (λ _. document.new ≡ with_marks d document.old) result }
+        → Obtains (λ _. document.new ≡ with_marks_of d document.old) result }
 {
     read_map::<Revision, _, Collision>(alloc, json.get("_collisions"), &mut document.collisions)?;
     read_map::<Revision, (), Noted>(alloc, json.get("_touched"), &mut document.touched)?;

@@ -50,6 +50,7 @@ module _ {L : Type 0} where
   state_by v = record {
     clusters = clusters_by v;
     sessions = sessions_by v;
+    begin = None;
     past = reverse v.seen;
     table = option_map_or (λ w. w.table) v.steady (start_table 0 0);
     memories = option_map_or (λ w. w.memories) v.steady [];

@@ -167,7 +167,7 @@ revision_on starts says clusters sessions past run s r k theirs near = by (draw_
     by : (o : Option Draw) → draw_of past r ≡ o → option_map_or (λ d. d.session == s) o false ≡ true → option_map_or (λ m. m == k) (slice_get sessions s) false ≡ true
     by None is h = absurd (false≢true h)
     by (Some d) is h =
-        let its : IsDrawnBy sessions past r d = drawn_by starts says clusters sessions past r d run is in
+        let its : IsDrawnBy sessions past r d = drawn_by starts says clusters sessions None past r d run is in
         ap (λ (n : ℕ). option_map_or (λ m. m == k) (slice_get sessions n) false) (sym (same_number d.session s h))
         ∙ (ap (λ (o : Option ℕ). option_map_or (λ m. m == k) o false) its.node
         ∙ (ap (λ (q : Revision). q.cluster == k) its.named ∙ near))

@@ -11,7 +11,7 @@ use Rattle.jr_rev.specs.declared.vector.Pin.{Pin}
 use Rattle.jr_rev.specs.declared.vector.RevVec.{RevVec}
 use Rattle.oak_doc.specs.declared.document.Document.{Document}
 use Rattle.oak_machine.specs.declared.event.Event.TheVariants as event
-use Rattle.oak_machine.specs.History.{Past}
+use Rattle.oak_machine.specs.History.{Past, Begin}
 use Rattle.oak_machine.specs.Laws.{Says, Starts, StartsProper}
 use Rattle.oak_machine.specs.Runs.{IsRunOf}
 use Rattle.oak_machine.specs.Sessions.{base_of, has_reader, is_attached, is_stopped_under, kept_checkpoint, last_checkpoint}
@@ -19,15 +19,15 @@ use Rattle.core_heads.proofs.Orders.{not_both}
 use Rattle.core_heads.proofs.Runs.{kept_last}
 use Rattle.core_nodes.specs.Nodes.{IsPair, base_of_pin}
 use Rattle.core_world.specs.Kept.{IsAboveBounds, IsKept, reader_at}
-use Rattle.core_world.specs.States.{State, reader_pin}
+use Rattle.core_world.specs.States.{State, reader_pin, origin}
 use Rattle.core_world.proofs.Attaching.{attached_reader}
 use Rattle.core_world.proofs.Flights.{same_number}
 use Rattle.core_world.proofs.Held.{found_in, in_back, kept_now}
 use Rattle.core_world.proofs.Whole.{layers_of}
 
-module _ (starts : Starts) (says : Says) (clusters : ℕ) (sessions : List ℕ) where
+module _ (starts : Starts) (says : Says) (clusters : ℕ) (sessions : List ℕ) (begin : Begin) where
   -- a session that is attached hasn't let its reader go
-  pub attached_reads : (past : Past) → IsRunOf starts says clusters sessions None past → (s : ℕ) → is_attached past s ≡ true → has_reader past s ≡ true
+  pub attached_reads : (past : Past) → IsRunOf starts says clusters sessions begin past → (s : ℕ) → is_attached past s ≡ true → has_reader past s ≡ true
   attached_reads [] run s h = absurd (false≢true h)
   attached_reads (event.Login t v ∷ past) run s h = by (attached_reads past run.1 s) (t == s) h
     where
@@ -59,7 +59,7 @@ module _ (starts : Starts) (says : Says) (clusters : ℕ) (sessions : List ℕ) 
       by (Some v) is k = subst (λ (o : Option RevVec). IsSome o) (sym (kept_last past id v is)) refl
 
   -- and it has a base
-  pub attached_based : (past : Past) → IsRunOf starts says clusters sessions None past → (s : ℕ) → is_attached past s ≡ true → IsSome (base_of past s)
+  pub attached_based : (past : Past) → IsRunOf starts says clusters sessions begin past → (s : ℕ) → is_attached past s ≡ true → IsSome (base_of past s)
   attached_based [] run s h = absurd (false≢true h)
   attached_based (event.Login t v ∷ past) run s h = by (attached_based past run.1 s) (t == s) h
     where
@@ -80,7 +80,7 @@ module _ (starts : Starts) (says : Says) (clusters : ℕ) (sessions : List ℕ) 
 
 module _ (starts : Starts) (says : Says) (proper : StartsProper starts) (w : State) (kept : IsKept starts says w) (s : ℕ) (attached : is_attached w.past s ≡ true) where
   based : base_of w.past s ≡ reader_at w.past s
-  based = attached_reader starts says w.clusters w.sessions w.past kept.sessions.run s attached
+  based = attached_reader starts says w.clusters w.sessions w.begin w.past kept.sessions.run s attached
 
   -- what the settings have for it
   reader_is : reader_pin w.table s ≡ lookup (is_at (nat_cmp s)) kept.settings.document.readers
@@ -93,7 +93,7 @@ module _ (starts : Starts) (says : Says) (proper : StartsProper starts) (w : Sta
   reader_there on = by (reader_pin w.table s) (reader_base on)
     where
       by : (o : Option Pin) → base_of_pin o ≡ base_of w.past s → IsSome o
-      by None is = absurd (false≢true (ap is_some is ∙ attached_based starts says w.clusters w.sessions w.past kept.sessions.run s attached))
+      by None is = absurd (false≢true (ap is_some is ∙ attached_based starts says w.clusters w.sessions w.begin w.past kept.sessions.run s attached))
       by (Some pin) is = refl
 
   module _ (pin : Pin) (has : reader_pin w.table s ≡ Some pin) where
@@ -103,6 +103,6 @@ module _ (starts : Starts) (says : Says) (proper : StartsProper starts) (w : Sta
     pub reader_pair : IsPair pin.base pin.sweep
     reader_pair = kept.settings.reader_pairs s pin (sym reader_is ∙ has)
 
-    pub reader_above : IsAboveBounds w.past pin
+    pub reader_above : IsAboveBounds (origin w) w.past pin
     reader_above = kept.above.kept pin (kept_now starts says proper w (layers_of starts says w kept) pin (in_back pin (values_of kept.settings.document.checkpoints) (values_of kept.settings.document.readers)
         (found_in (is_at (nat_cmp s)) kept.settings.document.readers pin (sym reader_is ∙ has))))

@@ -5,7 +5,7 @@ use Rattle.jr_rev.specs.declared.revision.Revision.{Revision}
 use Rattle.jr_rev.specs.declared.vector.RevVec.{RevVec}
 use Rattle.jr_rev.specs.Revisions.{is_at_most}
 use Rattle.oak_machine.specs.Heads.{local}
-use Rattle.oak_machine.specs.History.{Past}
+use Rattle.oak_machine.specs.History.{Past, Begin}
 use Rattle.oak_machine.specs.Laws.{AreOthers, Says, Starts, after}
 use Rattle.oak_machine.specs.Runs.{AreNodes, IsRunOf}
 use Rattle.oak_machine.specs.Sessions.{is_attached}
@@ -19,20 +19,20 @@ use Rattle.oak_world.specs.Worlds.{Story, live}
 use Rattle.oak_world.proofs.Others.{attached_left, reader_left}
 
 -- local revisions rise
-pub local_lasts : (starts : Starts) (says : Says) (clusters : ℕ) (sessions : List ℕ) → AreNodes clusters sessions → (own before : Past) → IsRunOf starts says clusters sessions None (own ++ before) → (r : Revision) (k : ℕ) → is_at_most r (local None before k) ≡ true → is_at_most r (local None (own ++ before) k) ≡ true
-local_lasts starts says clusters sessions nodes [] before run r k h = h
-local_lasts starts says clusters sessions nodes (e ∷ own) before run r k h =
-    at_most_trans r (local None (own ++ before) k) (local None (e ∷ (own ++ before)) k) (local_lasts starts says clusters sessions nodes own before run.1 r k h)
-    ((later_run clusters sessions nodes None starts says e (own ++ before) run).locals k)
+pub local_lasts : (starts : Starts) (says : Says) (clusters : ℕ) (sessions : List ℕ) (begin : Begin) → AreNodes clusters sessions → (own before : Past) → IsRunOf starts says clusters sessions begin (own ++ before) → (r : Revision) (k : ℕ) → is_at_most r (local begin before k) ≡ true → is_at_most r (local begin (own ++ before) k) ≡ true
+local_lasts starts says clusters sessions begin nodes [] before run r k h = h
+local_lasts starts says clusters sessions begin nodes (e ∷ own) before run r k h =
+    at_most_trans r (local begin (own ++ before) k) (local begin (e ∷ (own ++ before)) k) (local_lasts starts says clusters sessions begin nodes own before run.1 r k h)
+    ((later_run clusters sessions nodes begin starts says e (own ++ before) run).locals k)
 
 -- what the root told once, it has told
-pub were_lasts : (clusters : ℕ) (own before : Past) (last sweep : RevVec) → WereOnRoot clusters before last sweep → WereOnRoot clusters (own ++ before) last sweep
-were_lasts clusters [] before last sweep h = h
-were_lasts clusters (e ∷ own) before last sweep h = let w = were_lasts clusters own before last sweep h in (suc w.0, w.1)
+pub were_lasts : (begin : Begin) (clusters : ℕ) (own before : Past) (last sweep : RevVec) → WereOnRoot begin clusters before last sweep → WereOnRoot begin clusters (own ++ before) last sweep
+were_lasts begin clusters [] before last sweep h = h
+were_lasts begin clusters (e ∷ own) before last sweep h = let w = were_lasts begin clusters own before last sweep h in (suc w.0, w.1)
 
 module _ (starts : Starts) (says : Says) (h : Story) (nodes : AreNodes h.clusters h.sessions) (q : ℕ) (own : Past) (run : IsRunOf starts says h.clusters h.sessions None (own ++ h.past)) where
   pub own_lasts : (r : Revision) → IsOwn (live h) q r → IsOwn (after own (live h)) q r
-  own_lasts r m = (m.0, local_lasts starts says h.clusters h.sessions nodes own h.past run r r.cluster m.1)
+  own_lasts r m = (m.0, local_lasts starts says h.clusters h.sessions None nodes own h.past run r r.cluster m.1)
 
   module _ (others : AreOthers q own h.past) where
     -- it is attached as before, or not
@@ -44,7 +44,7 @@ module _ (starts : Starts) (says : Says) (h : Story) (nodes : AreNodes h.cluster
     upkeep_lasts (upkeep.Noted n) m = own_lasts n.upto m
     upkeep_lasts (upkeep.Publish ids r) m = (own_lasts r m.0, m.1)
     upkeep_lasts upkeep.Read m = tt
-    upkeep_lasts (upkeep.Learn last sweep) m = were_lasts h.clusters own h.past last sweep m
+    upkeep_lasts (upkeep.Learn last sweep) m = were_lasts None h.clusters own h.past last sweep m
     upkeep_lasts (upkeep.Checkpoint i) m = still false m
     upkeep_lasts (upkeep.Release i) m = tt
     upkeep_lasts (upkeep.Attach i) m = still false m

@@ -9,7 +9,7 @@ use Rattle.jr_rev.specs.Vectors.{is_below}
 use Rattle.jr_tree.specs.Trees.{node_at}
 use Rattle.oak_machine.specs.declared.event.Event.TheVariants as event
 use Rattle.oak_machine.specs.Commits.{IsClosed, IsSettled, tree_at}
-use Rattle.oak_machine.specs.History.{Past}
+use Rattle.oak_machine.specs.History.{Past, Begin}
 use Rattle.oak_machine.specs.Laws.{Says, Starts, StartsProper}
 use Rattle.oak_machine.specs.Runs.{IsRunOf}
 use Rattle.oak_machine.specs.Sessions.{base_of, has_left, has_login, is_attached, is_stopped, is_stopped_under, last_checkpoint, pinned_at}
@@ -19,7 +19,7 @@ use Rattle.core_heads.specs.Sound.{IsHeld}
 use Rattle.core_heads.proofs.Runs.{closed_run, held_settled, sound_run}
 use Rattle.core_nodes.specs.Nodes.{IsPair, base_of_pin}
 use Rattle.core_world.specs.Kept.{AreSessionsKept, IsAboveBounds, IsKept}
-use Rattle.core_world.specs.States.{State, actor_pin, memory_of, reader_pin}
+use Rattle.core_world.specs.States.{State, actor_pin, memory_of, reader_pin, origin}
 use Rattle.core_world.proofs.Draws.{its_base, its_pair}
 use Rattle.core_world.proofs.Flights.{same_number}
 use Rattle.core_world.proofs.Lives.{node_alive}
@@ -30,8 +30,8 @@ use Rattle.oak_world.proofs.Sweeping.{pair_below, pair_shows}
 use Rattle.oak_world.proofs.StepsOf.{none_stopped}
 
 -- a session that hasn't logged in and is attached to nothing has no base
-module _ (starts : Starts) (says : Says) (clusters : ℕ) (sessions : List ℕ) where
-  pub no_base : (past : Past) (s : ℕ) → IsRunOf starts says clusters sessions None past → has_login past s ≡ false → is_attached past s ≡ false → base_of past s ≡ None
+module _ (starts : Starts) (says : Says) (clusters : ℕ) (sessions : List ℕ) (begin : Begin) where
+  pub no_base : (past : Past) (s : ℕ) → IsRunOf starts says clusters sessions begin past → has_login past s ≡ false → is_attached past s ≡ false → base_of past s ≡ None
   no_base [] s run new detached = refl
   no_base (event.Login t v ∷ past) s run new detached = by (λ l d. no_base past s run.1 l d) (t == s) new detached
     where
@@ -63,7 +63,7 @@ pin_base starts says proper w kept s there detached going stays = by (has_login 
     by false new =
         its_base starts says proper w kept s there (node_alive starts says proper w kept s there on)
         ∙ (ap (λ (b : Bool). cond (b && not (has_left w.past s)) (pinned_at w.past s) None) new
-        ∙ sym (no_base starts says w.clusters w.sessions w.past s kept.run new detached))
+        ∙ sym (no_base starts says w.clusters w.sessions w.begin w.past s kept.run new detached))
 
 module _ (starts : Starts) (says : Says) (proper : StartsProper starts) (w : State) (kept : IsKept starts says w) (s : ℕ) (there : is_some (slice_get w.sessions s) ≡ true) (going : (k : ℕ) → is_stopped w.past k ≡ false) where
   on : is_stopped_under w.sessions w.past s ≡ false
@@ -97,28 +97,28 @@ module _ (starts : Starts) (says : Says) (proper : StartsProper starts) (w : Sta
         by true is h = reader_pair starts says proper w kept s is pin h
         by false is h = its_pair starts says proper w kept.sessions s there pin h
 
-    above : IsAboveBounds w.past pin
+    above : IsAboveBounds (origin w) w.past pin
     above = by (is_attached w.past s) refl has
       where
-        by : (b : Bool) → is_attached w.past s ≡ b → at b ≡ Some pin → IsAboveBounds w.past pin
+        by : (b : Bool) → is_attached w.past s ≡ b → at b ≡ Some pin → IsAboveBounds (origin w) w.past pin
         by true is h = reader_above starts says proper w kept s is pin h
         by false is h = pin_above starts says proper w kept s there pin h
 
-    held : IsHeld None w.past pin.base
+    held : IsHeld w.begin w.past pin.base
     held = by (is_attached w.past s) refl has
       where
-        by : (b : Bool) → is_attached w.past s ≡ b → at b ≡ Some pin → IsHeld None w.past pin.base
-        by true is h = (sound_run w.clusters w.sessions kept.sessions.nodes None starts says w.past kept.sessions.run).bases s pin.base (reader_based starts says proper w kept s is pin h)
+        by : (b : Bool) → is_attached w.past s ≡ b → at b ≡ Some pin → IsHeld w.begin w.past pin.base
+        by true is h = (sound_run w.clusters w.sessions kept.sessions.nodes w.begin starts says w.past kept.sessions.run).bases s pin.base (reader_based starts says proper w kept s is pin h)
         by false is h = pin_held starts says proper w kept.sessions s there pin h
 
     pub actor_below : is_below pin.sweep pin.base ≡ true
     actor_below = pair_below pin pair
 
     pub actor_settled : IsSettled w.past pin.base
-    actor_settled = held_settled None w.past pin.base held
+    actor_settled = held_settled w.begin w.past pin.base held
 
     pub actor_closed : IsClosed w.past pin.base
-    actor_closed = closed_run w.clusters w.sessions kept.sessions.nodes None starts says w.past kept.sessions.run pin.base held
+    actor_closed = closed_run w.clusters w.sessions kept.sessions.nodes w.begin starts says w.past kept.sessions.run pin.base held
 
-    pub actor_shows : (p : Path) → found_node (documents_in w.table.documents) pin.sweep pin.base p ≡ node_at (tree_at None w.past pin.base) p
+    pub actor_shows : (p : Path) → found_node (documents_in w.table.documents) pin.sweep pin.base p ≡ node_at (tree_at w.begin w.past pin.base) p
     actor_shows p = pair_shows starts says w kept.sessions pin held pair above p

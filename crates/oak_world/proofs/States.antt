@@ -1,5 +1,5 @@
 -- The state of a world in which one session has taken a step.
-use Rattle.std.proofs.Common.{◌≡◌, ℕ, zero, suc, ◌<◌, ◌-◌, Bool, true, false, cond, Option, List, [], ◌∷◌, ◌++◌, length, refl, sym, ap, subst, ◌∙◌}
+use Rattle.std.proofs.Common.{◌≡◌, ℕ, zero, suc, ◌<◌, ◌-◌, Bool, true, false, cond, Option, None, List, [], ◌∷◌, ◌++◌, length, refl, sym, ap, subst, ◌∙◌}
 use Rattle.std.proofs.Math.ListN.{get_or}
 use Rattle.std.proofs.lemmas.List.{get_or-set_same, get_or-set_other, reverse-append, reverse-reverse}
 use Rattle.std.proofs.lemmas.Option.{unwrap_or-slice_get}
@@ -94,6 +94,7 @@ module _ {L : Type 0} (w : WorldOf L) (s : ℕ) (there : s < length w.actors) wh
   moved past table m x v = record {
     clusters = w.history.clusters;
     sessions = w.history.sessions;
+    begin = None;
     past = past;
     table = table;
     memories = with_memory w.memories (node_in w.history s) m;

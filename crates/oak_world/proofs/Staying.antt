@@ -68,7 +68,7 @@ drawn_lasts r (_ ∷ own) before h = drawn_lasts r own before h
 roots_last : (starts : Starts) (says : Says) (clusters : ℕ) (sessions : List ℕ) → AreNodes clusters sessions → (own before : Past) (r : Revision) → IsRunOf starts says clusters sessions None (own ++ before) → is_drawn before r ≡ true → root_of (own ++ before) r ≡ root_of before r
 roots_last starts says clusters sessions nodes [] before r run drawn = refl
 roots_last starts says clusters sessions nodes (e ∷ own) before r run drawn =
-    root_stays starts says clusters sessions nodes e (own ++ before) r run (drawn_lasts r own before drawn)
+    root_stays starts says clusters sessions None nodes e (own ++ before) r run (drawn_lasts r own before drawn)
     ∙ roots_last starts says clusters sessions nodes own before r run.1 drawn
 
 pub same_roots : (f g : Met → Path) (ms : List Met) → ((m : Met) → In m ms → f m ≡ g m) → map f ms ≡ map g ms

@@ -92,7 +92,7 @@ module _ (starts : Starts) (says : Says) (proper : StartsProper starts) (w : Sta
       own = event.Went s kind.Back ∷ [];
       grown = refl;
       kept = kept_then;
-      may = (record { login = come.login; stays = come.stays }, (on ∙ ap Some (sym cluster_is), local_lasts starts says w.clusters w.sessions kept.sessions.nodes (event.Went s kind.Back ∷ []) w.past kept_then.sessions.run n.upto n.upto.cluster low));
+      may = (record { login = come.login; stays = come.stays }, (on ∙ ap Some (sym cluster_is), local_lasts starts says w.clusters w.sessions w.begin kept.sessions.nodes (event.Went s kind.Back ∷ []) w.past kept_then.sessions.run n.upto n.upto.cluster low));
       apart = apart_one w.past s (event.Went s kind.Back) (λ q m. flipped q s m);
       attached = refl;
       unstopped = λ q k. k;
@@ -105,17 +105,17 @@ module _ (starts : Starts) (says : Says) (proper : StartsProper starts) (w : Sta
         kept_then : IsKept starts says (after_pending w s)
         kept_then = pending_keeps starts says proper w kept s come.login come.stays
 
-        upto_is : n.upto ≡ local None w.past (node_of w s)
+        upto_is : n.upto ≡ local w.begin w.past (node_of w s)
         upto_is = pending.upto ∙ own_entry_is starts says proper w (layers_of starts says w kept) s come.login
 
-        is : IsMemoryOf None w.clusters w.past (node_of w s) (memory_of w s)
+        is : IsMemoryOf w.begin w.clusters w.past (node_of w s) (memory_of w s)
         is = kept.sessions.memories.memory (node_of w s) node
 
         cluster_is : n.upto.cluster ≡ node_of w s
         cluster_is = ap (λ (r : Revision). r.cluster) pending.upto ∙ (is.memory.own_node ∙ is.cluster)
 
-        low : is_at_most n.upto (local None w.past n.upto.cluster) ≡ true
-        low = subst (λ (r : Revision). is_at_most n.upto r ≡ true) (upto_is ∙ ap (local None w.past) (sym cluster_is)) (at_most_itself n.upto)
+        low : is_at_most n.upto (local w.begin w.past n.upto.cluster) ≡ true
+        low = subst (λ (r : Revision). is_at_most n.upto r ≡ true) (upto_is ∙ ap (local w.begin w.past) (sym cluster_is)) (at_most_itself n.upto)
 
     module _ (v : Work) (r : Revision) (shown : shown_work v ≡ Publishing r) (unmoved : attaching v ≡ None) (own : IsOwn (history_in w) s r) where
       -- the session is attached as before
@@ -131,7 +131,7 @@ module _ (starts : Starts) (says : Says) (proper : StartsProper starts) (w : Sta
         own = event.Went s kind.Back ∷ [];
         grown = refl;
         kept = kept_then;
-        may = (record { login = come.login; stays = come.stays }, ((own.0, local_lasts starts says w.clusters w.sessions kept.sessions.nodes (event.Went s kind.Back ∷ []) w.past kept_then.sessions.run r r.cluster own.1), below));
+        may = (record { login = come.login; stays = come.stays }, ((own.0, local_lasts starts says w.clusters w.sessions w.begin kept.sessions.nodes (event.Went s kind.Back ∷ []) w.past kept_then.sessions.run r r.cluster own.1), below));
         apart = apart_one w.past s (event.Went s kind.Back) (λ q m. flipped q s m);
         attached = still (answers.Went kind.Back);
         unstopped = λ q k. k;
@@ -148,7 +148,7 @@ module _ (starts : Starts) (says : Says) (proper : StartsProper starts) (w : Sta
       out_step = record {
         own = event.Out (node_of w s) r ∷ [];
         grown = refl;
-        kept = out_keeps starts says proper w kept s come.login r of_node (subst (λ (k : ℕ). is_at_most r (local None w.past k) ≡ true) of_node own.1);
+        kept = out_keeps starts says proper w kept s come.login r of_node (subst (λ (k : ℕ). is_at_most r (local w.begin w.past k) ≡ true) of_node own.1);
         may = tt;
         apart = apart_one w.past s (event.Out (node_of w s) r) (λ q m. refl);
         attached = still (answers.Ready (ends.Published r));
@@ -175,7 +175,7 @@ module _ (starts : Starts) (says : Says) (proper : StartsProper starts) (w : Sta
 
     read_step : (d : Document) → nodes_in w.table [] ≡ Some d → StepOf (work.Upkeep upkeep.Read) (after_went w s kind.Back) (work.Upkeep (upkeep.Learn d.last_rev d.sweep_rev)) (answers.Went kind.Back)
     read_step d there_d =
-        let told = told_now w.clusters w.past w.table kept.root d there_d in
+        let told = told_now w.clusters w.begin w.past w.table kept.root d there_d in
         record {
           own = event.Went s kind.Back ∷ [];
           grown = refl;
@@ -190,7 +190,7 @@ module _ (starts : Starts) (says : Says) (proper : StartsProper starts) (w : Sta
           as_due = refl;
         }
 
-    learn_step : (last sweep : RevVec) → WereOnRoot w.clusters w.past last sweep → StepOf (work.Upkeep (upkeep.Learn last sweep)) (after_learn w s last sweep) work.Rest (answers.Ready (ends.Learnt (learned (memory_of w s) last sweep).head))
+    learn_step : (last sweep : RevVec) → WereOnRoot w.begin w.clusters w.past last sweep → StepOf (work.Upkeep (upkeep.Learn last sweep)) (after_learn w s last sweep) work.Rest (answers.Ready (ends.Learnt (learned (memory_of w s) last sweep).head))
     learn_step last sweep were = record {
       own = event.In (node_of w s) (learned (memory_of w s) last sweep).head ∷ [];
       grown = refl;
@@ -309,7 +309,7 @@ module _ (starts : Starts) (says : Says) (proper : StartsProper starts) (w : Sta
       own = event.Refresh s (memory_of w s).head ∷ [];
       grown = refl;
       kept = refresh_whole starts says proper w kept s on_now come.login come.stays idle unread unobserved;
-      may = (record { login = come.login; stays = come.stays }, (sym (chosen s false (is_attached w.past s)), attached_reads starts says w.clusters w.sessions w.past kept.sessions.run s attached));
+      may = (record { login = come.login; stays = come.stays }, (sym (chosen s false (is_attached w.past s)), attached_reads starts says w.clusters w.sessions w.begin w.past kept.sessions.run s attached));
       apart = apart_one w.past s (event.Refresh s (memory_of w s).head) (λ q m. flipped q s m);
       attached = chosen s false (is_attached w.past s);
       unstopped = λ q k. k;

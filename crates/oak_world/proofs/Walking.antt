@@ -14,7 +14,7 @@ use Rattle.jr_rev.specs.declared.vector.RevVec.{RevVec}
 use Rattle.jr_rev.specs.Revisions.{is_before, is_same}
 use Rattle.jr_rev.specs.Vectors.{sees}
 use Rattle.jr_tree.specs.declared.edit.Edit.{Edit}
-use Rattle.jr_tree.specs.Trees.{Nodes, dated_children_of, initial_tree, node_at}
+use Rattle.jr_tree.specs.Trees.{Nodes, dated_children_of, node_at}
 use Rattle.jr_tree.specs.declared.shared.CommitChanges.{CommitChanges}
 use Rattle.oak_changes.specs.declared.changes.ChangesReader.{ChangesReader}
 use Rattle.oak_changes.specs.declared.changes.Step.TheVariants as observed
@@ -41,7 +41,7 @@ use Rattle.oak_machine.specs.declared.event.Draw.{Draw}
 use Rattle.oak_machine.specs.declared.event.Event.TheVariants as event
 use Rattle.oak_machine.specs.declared.event.StepKind.{StepKind}
 use Rattle.oak_machine.specs.declared.event.StepKind.TheVariants as kind
-use Rattle.oak_machine.specs.History.{History, Past}
+use Rattle.oak_machine.specs.History.{begin_tree, History, Past}
 use Rattle.oak_machine.specs.Changed.{changes_between}
 use Rattle.oak_machine.specs.Commits.{is_ended, tree_at}
 use Rattle.oak_machine.specs.Heads.{head_of, local}
@@ -265,17 +265,17 @@ module _ (starts : Starts) (says : Says) (proper : StartsProper starts) (writes 
   }
 
   -- the head of the session's node, of which r is
-  head_is : (r : Revision) → slice_get w.sessions s ≡ Some r.cluster → (memory_of w s).head ≡ head_of w.clusters None w.past r.cluster
-  head_is r on = its_head starts says proper w kept.sessions s there ∙ ap (head_of w.clusters None w.past) (ap (λ o. unwrap_or o 0) on)
+  head_is : (r : Revision) → slice_get w.sessions s ≡ Some r.cluster → (memory_of w s).head ≡ head_of w.clusters w.begin w.past r.cluster
+  head_is r on = its_head starts says proper w kept.sessions s there ∙ ap (head_of w.clusters w.begin w.past) (ap (λ o. unwrap_or o 0) on)
 
   -- and its memory is that of the past
-  memory_is : (r : Revision) → slice_get w.sessions s ≡ Some r.cluster → IsMemoryOf None w.clusters w.past r.cluster (memory_of w s)
-  memory_is r on = subst (λ (j : ℕ). IsMemoryOf None w.clusters w.past r.cluster (memory_at w.memories j)) (sym (ap (λ o. unwrap_or o 0) on)) (kept.sessions.memories.memory r.cluster (kept.sessions.nodes.node s r.cluster on))
+  memory_is : (r : Revision) → slice_get w.sessions s ≡ Some r.cluster → IsMemoryOf w.begin w.clusters w.past r.cluster (memory_of w s)
+  memory_is r on = subst (λ (j : ℕ). IsMemoryOf w.begin w.clusters w.past r.cluster (memory_at w.memories j)) (sym (ap (λ o. unwrap_or o 0) on)) (kept.sessions.memories.memory r.cluster (kept.sessions.nodes.node s r.cluster on))
 
   -- what r awaits by the memory is in flight by the past
   held_back : (r q : Revision) → AwaitsEarlier (memory_of w s) r q → slice_get w.sessions s ≡ Some r.cluster → HoldsBack w.past q r
   held_back r q awaits on =
-      let flies = (flying_is None w.clusters w.sessions kept.sessions.nodes w.past (sound_run w.clusters w.sessions kept.sessions.nodes None starts says w.past kept.sessions.run) r.cluster (kept.sessions.nodes.node s r.cluster on) (memory_of w s) (memory_is r on) q).0 awaits.flying in
+      let flies = (flying_is w.begin w.clusters w.sessions kept.sessions.nodes w.past (sound_run w.clusters w.sessions kept.sessions.nodes w.begin starts says w.past kept.sessions.run) r.cluster (kept.sessions.nodes.node s r.cluster on) (memory_of w s) (memory_is r on) q).0 awaits.flying in
       record { node = flies.0; earlier = awaits.earlier; flying = flies.1 }
 
   waits_step : (r q : Revision) → AwaitsEarlier (memory_of w s) r q → HasCome h s → is_ended w.past r ≡ true → slice_get w.sessions s ≡ Some r.cluster → StepOf (work.Move r) w (work.Move r) (answers.Wait q)
@@ -365,8 +365,8 @@ module _ (starts : Starts) (says : Says) (proper : StartsProper starts) (writes 
     next_here : with_session w.reading s (Some next) s ≡ Some next
     next_here = ap (λ b. cond b (Some next) (w.reading s)) (number_itself s)
 
-    tree_is : tree_at None w.past next.pin.base ≡ tree_of None w.past s
-    tree_is = sym (ap (λ (o : Option RevVec). option_map_or (tree_at None w.past) o initial_tree) (live_is w.past s next.pin.base (read_kept.sessions.readers.at_base s next next_here)).base)
+    tree_is : tree_at w.begin w.past next.pin.base ≡ tree_of w.begin w.past s
+    tree_is = sym (ap (λ (o : Option RevVec). option_map_or (tree_at w.begin w.past) o (begin_tree w.begin)) (live_is w.past s next.pin.base (read_kept.sessions.readers.at_base s next next_here)).base)
 
     module _ (e : TaskEnd) where
       given : (parent : Option Path) → next.parent ≡ parent → (st : Step) → next.step ≡ st → end_of_reading st ≡ Some e → Tells h s (Starting (task_of parent (path_read r))) (answers.Ready e) [] Idle
@@ -374,7 +374,7 @@ module _ (starts : Starts) (says : Says) (proper : StartsProper starts) (writes 
           subst (λ (x : TaskEnd). Tells h s (Starting (task.Load (path_read r))) (answers.Ready x) [] Idle) (same_end (ends.Node n) e gives) (
             node_given starts says proper (with_reader w s (Some next)) read_kept.sessions s next next_here (out.Node n) is done
                 ∙ (ap (λ (t : Nodes). node_at t (path_read next)) tree_is
-                ∙ ap (λ (p : Path). node_at (tree_of None w.past s) p) for_same.same_path),
+                ∙ ap (λ (p : Path). node_at (tree_of w.begin w.past s) p) for_same.same_path),
             refl,
             refl,
           )
@@ -384,7 +384,7 @@ module _ (starts : Starts) (says : Says) (proper : StartsProper starts) (writes 
           subst (λ (x : TaskEnd). Tells h s (Starting (task.List (path_read r))) (answers.Ready x) [] Idle) (same_end (ends.Children ns) e gives) (
             children_given starts says proper (with_reader w s (Some next)) read_kept.sessions s next next_here p (out.Children ns) is done
                 ∙ (ap (λ (t : Nodes). dated_children_of t p) tree_is
-                ∙ ap (λ (q : Path). dated_children_of (tree_of None w.past s) q) (sym (ap (λ (o : Option Path). unwrap_or o next.at) is) ∙ for_same.same_path)),
+                ∙ ap (λ (q : Path). dated_children_of (tree_of w.begin w.past s) q) (sym (ap (λ (o : Option Path). unwrap_or o next.at) is) ∙ for_same.same_path)),
             refl,
             refl,
           )
@@ -460,11 +460,11 @@ module _ (starts : Starts) (says : Says) (proper : StartsProper starts) (writes 
     own_base = sym (pin_base starts says proper w kept.sessions s there detached none_halted come.stays) ∙ ap base_of_pin (kept.pinned.observes s r here)
 
     module _ (commits : List CommitChanges) (gives : then.step ≡ observed.Done commits) where
-      told_is : commits ≡ changes_between None w.past r.from r.pin.base
+      told_is : commits ≡ changes_between w.begin w.past r.from r.pin.base
       told_is =
           changes_whole starts says proper (with_observer w s (Some then)) then_kept s then commits then_here gives
-          ∙ (ap (λ (v : RevVec). changes_between None w.past v then.pin.base) then_same.0
-          ∙ ap (λ (p : Pin). changes_between None w.past r.from p.base) then_same.1)
+          ∙ (ap (λ (v : RevVec). changes_between w.begin w.past v then.pin.base) then_same.0
+          ∙ ap (λ (p : Pin). changes_between w.begin w.past r.from p.base) then_same.1)
 
       pub told_step : StepOf (work.Changes r) (with_observer w s None) work.Rest (answers.Ready (ends.Changes commits))
       told_step = record {
@@ -725,7 +725,7 @@ module _ (starts : Starts) (says : Says) (proper : StartsProper starts) (writes 
 
       -- the head moves where the memory's does
       moves : is_moving h c.revision ≡ moved
-      moves = sym (rises ∙ by (is_same (local None later k) (local None w.past k)) refl)
+      moves = sym (rises ∙ by (is_same (local w.begin later k) (local w.begin w.past k)) refl)
         where
           k : ℕ
           k = c.revision.cluster
@@ -733,32 +733,32 @@ module _ (starts : Starts) (says : Says) (proper : StartsProper starts) (writes 
           later : Past
           later = event.End c.revision ∷ w.past
 
-          run : IsRunOf starts says w.clusters w.sessions None later
+          run : IsRunOf starts says w.clusters w.sessions w.begin later
           run = (in_flight w.past c.revision x.draw mine.draw mine.unended, kept.sessions.run)
 
           is_node : IsNode w.clusters k
           is_node = kept.sessions.nodes.node s k on
 
-          sound : IsSound w.clusters w.sessions None w.past
-          sound = sound_run w.clusters w.sessions kept.sessions.nodes None starts says w.past kept.sessions.run
+          sound : IsSound w.clusters w.sessions w.begin w.past
+          sound = sound_run w.clusters w.sessions kept.sessions.nodes w.begin starts says w.past kept.sessions.run
 
-          its_memory : IsMemoryOf None w.clusters w.past k memory
-          its_memory = subst (λ (j : ℕ). IsMemoryOf None w.clusters w.past k (memory_at w.memories j)) (sym at_node) (kept.sessions.memories.memory k is_node)
+          its_memory : IsMemoryOf w.begin w.clusters w.past k memory
+          its_memory = subst (λ (j : ℕ). IsMemoryOf w.begin w.clusters w.past k (memory_at w.memories j)) (sym at_node) (kept.sessions.memories.memory k is_node)
 
-          rises : moved ≡ is_before (local None w.past k) (local None later k)
+          rises : moved ≡ is_before (local w.begin w.past k) (local w.begin later k)
           rises =
-              ap (λ e. is_before e (own_entry done)) (own_is None w.clusters w.sessions kept.sessions.nodes w.past sound k is_node memory its_memory)
-              ∙ ap (is_before (local None w.past k)) (own_is None w.clusters w.sessions kept.sessions.nodes later (sound_run w.clusters w.sessions kept.sessions.nodes None starts says later run) k is_node done (end_run None starts says w.clusters w.sessions kept.sessions.nodes c.revision w.past run memory its_memory))
+              ap (λ e. is_before e (own_entry done)) (own_is w.begin w.clusters w.sessions kept.sessions.nodes w.past sound k is_node memory its_memory)
+              ∙ ap (is_before (local w.begin w.past k)) (own_is w.begin w.clusters w.sessions kept.sessions.nodes later (sound_run w.clusters w.sessions kept.sessions.nodes w.begin starts says later run) k is_node done (end_run w.begin starts says w.clusters w.sessions kept.sessions.nodes c.revision w.past run memory its_memory))
 
-          before : (b : Bool) → is_before (local None w.past k) (local None later k) ≡ b → is_same (local None later k) (local None w.past k) ≡ false → b ≡ true
+          before : (b : Bool) → is_before (local w.begin w.past k) (local w.begin later k) ≡ b → is_same (local w.begin later k) (local w.begin w.past k) ≡ false → b ≡ true
           before true e apart = refl
           before false e apart =
-              let same : local None w.past k ≡ local None later k = at_most_both (local None w.past k) (local None later k) ((later_end w.clusters w.sessions kept.sessions.nodes None w.past sound c.revision).locals k) (not_before (local None w.past k) (local None later k) e) in
-              sym apart ∙ (ap (λ (r : Revision). is_same r (local None w.past k)) (sym same) ∙ is_same_self (local None w.past k))
+              let same : local w.begin w.past k ≡ local w.begin later k = at_most_both (local w.begin w.past k) (local w.begin later k) ((later_end w.clusters w.sessions kept.sessions.nodes w.begin w.past sound c.revision).locals k) (not_before (local w.begin w.past k) (local w.begin later k) e) in
+              sym apart ∙ (ap (λ (r : Revision). is_same r (local w.begin w.past k)) (sym same) ∙ is_same_self (local w.begin w.past k))
 
-          by : (b : Bool) → is_same (local None later k) (local None w.past k) ≡ b → is_before (local None w.past k) (local None later k) ≡ not b
-          by true same = ap (is_before (local None w.past k)) (same_revision (local None later k) (local None w.past k) same) ∙ before_itself (local None w.past k)
-          by false apart = before (is_before (local None w.past k) (local None later k)) refl apart
+          by : (b : Bool) → is_same (local w.begin later k) (local w.begin w.past k) ≡ b → is_before (local w.begin w.past k) (local w.begin later k) ≡ not b
+          by true same = ap (is_before (local w.begin w.past k)) (same_revision (local w.begin later k) (local w.begin w.past k) same) ∙ before_itself (local w.begin w.past k)
+          by false apart = before (is_before (local w.begin w.past k) (local w.begin later k)) refl apart
 
       finish_kept : IsKept starts says (after_finish w s x)
       finish_kept = finish_whole starts says proper w kept s x here through

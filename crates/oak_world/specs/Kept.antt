@@ -53,7 +53,7 @@ AreBelow (i ∷ ids) = IsFalse (eq_by_cmp path_cmp [] (names_of i)) × AreBelow 
 abbrev pub MayKeepUp : History → ℕ → Upkeep → Type 0
 MayKeepUp h s (upkeep.Noted n) = IsOwn h s n.upto
 MayKeepUp h s (upkeep.Publish ids r) = IsOwn h s r × AreBelow ids
-MayKeepUp h s (upkeep.Learn last sweep) = WereOnRoot h.clusters h.past last sweep
+MayKeepUp h s (upkeep.Learn last sweep) = WereOnRoot h.begin h.clusters h.past last sweep
 MayKeepUp h s (upkeep.Checkpoint i) = IsFalse (is_attached h.past s)
 MayKeepUp h s (upkeep.Attach i) = IsFalse (is_attached h.past s)
 MayKeepUp h s upkeep.Detach = IsTrue (is_attached h.past s)

@@ -134,6 +134,7 @@ abbrev pub state_with : Story → Table → List NodeState → List ActorState �
 state_with h t ms actors = record {
   clusters = h.clusters;
   sessions = h.sessions;
+  begin = None;
   past = h.past;
   table = t;
   memories = ms;

@@ -230,11 +230,11 @@ impl<L: Law + Drop> World<L> {
     pub fn holds_pairs(&self)
         ensures pins { (k owner : ℕ) (pin : Pin) → IsNode self.now.history.clusters k
             → pin_of (memory_at self.now.memories k) owner ≡ Some pin
-            → ShowsTree self.now.history.past self.now.table pin }
+            → ShowsTree None self.now.history.past self.now.table pin }
         ensures checkpoints { (i : Text) (pin : Pin) → set_checkpoint self.now.table i ≡ Some pin
-            → ShowsTree self.now.history.past self.now.table pin }
+            → ShowsTree None self.now.history.past self.now.table pin }
         ensures readers { (s : ℕ) (pin : Pin) → reader_pin self.now.table s ≡ Some pin
-            → ShowsTree self.now.history.past self.now.table pin }
+            → ShowsTree None self.now.history.past self.now.table pin }
         ensures owners { (k owner : ℕ) → IsNode self.now.history.clusters k
             → base_of_pin (pin_of (memory_at self.now.memories k) owner)
             ≡ kept_base self.now.history.sessions self.now.history.past k owner }

@@ -1,6 +1,4 @@
--- By the steps of a reader, one after another.
-use Rattle.core_watch.proofs.Finite.{node_at_end, children_at_end}
-use Rattle.core_watch.proofs.Moments.{reads_node, reads_children}
+use Rattle.core_watch.proofs.Instants.{children_at_end, node_at_end, reads_children, reads_node}
 use Rattle.core_watch.proofs.readers_read_the_tree.Goals as goal
 
 pub returns-clause-node : goal.returns-clause-node
@@ -10,7 +8,7 @@ pub returns-clause-children : goal.returns-clause-children
 returns-clause-children c = children_at_end
 
 pub returns-clause-node_done : goal.returns-clause-node_done
-returns-clause-node_done c = λ a pin p m ms o steady done. reads_node a pin p m ms steady o done
+returns-clause-node_done c = reads_node
 
 pub returns-clause-children_done : goal.returns-clause-children_done
-returns-clause-children_done c = λ a pin p m ms o steady done. reads_children a pin p m ms steady o done
+returns-clause-children_done c = reads_children

@@ -20,16 +20,16 @@ pub returns-clause-swept : goal.returns-clause-swept
 returns-clause-swept g c = λ w s r kept login of low. sweep_keeps (g.L.Law.may_start c.args.law.now) (g.L.Law.may_say c.args.law.now) (g.L.Law.proper c.args.law.now) w kept s login r of low
 
 pub returns-clause-told : goal.returns-clause-told
-returns-clause-told g c = λ w d kept there. (0, told_now w.clusters w.past w.table kept.root d there)
+returns-clause-told g c = λ w d kept there. (0, told_now w.clusters w.begin w.past w.table kept.root d there)
 
 pub returns-clause-lasts : goal.returns-clause-lasts
-returns-clause-lasts g c = λ clusters e past last sweep were. (suc were.0, were.1)
+returns-clause-lasts g c = λ begin clusters e past last sweep were. (suc were.0, were.1)
 
 pub returns-clause-own : goal.returns-clause-own
 returns-clause-own g c = λ w s kept login. own_entry_is (g.L.Law.may_start c.args.law.now) (g.L.Law.may_say c.args.law.now) (g.L.Law.proper c.args.law.now) w (layers_of (g.L.Law.may_start c.args.law.now) (g.L.Law.may_say c.args.law.now) w kept) s login
 
 pub returns-clause-published : goal.returns-clause-published
-returns-clause-published g c = λ w d r kept there. (told_now w.clusters w.past w.table kept.root d there).public r
+returns-clause-published g c = λ w d r kept there. (told_now w.clusters w.begin w.past w.table kept.root d there).public r
 
 pub returns-clause-learn_swept : goal.returns-clause-learn_swept
 returns-clause-learn_swept g c = λ w s r kept login stays of low. learn_swept_keeps (g.L.Law.may_start c.args.law.now) (g.L.Law.may_say c.args.law.now) (g.L.Law.proper c.args.law.now) w kept s login stays r of low

@@ -21,7 +21,7 @@ pub returns-clause-begun : goal.returns-clause-begun
 returns-clause-begun g c = λ w x kept all bounding. bounding_begun (g.L.Law.may_start c.args.law.now) (g.L.Law.may_say c.args.law.now) (g.L.Law.proper c.args.law.now) w (layers_of (g.L.Law.may_start c.args.law.now) (g.L.Law.may_say c.args.law.now) w kept) kept.begun all x bounding
 
 pub returns-clause-lasts : goal.returns-clause-lasts
-returns-clause-lasts g c = λ w u added k x kept then grown same its step bounding. bounding_on (g.L.Law.may_start c.args.law.now) (g.L.Law.may_say c.args.law.now) (g.L.Law.proper c.args.law.now) w u added (layers_of (g.L.Law.may_start c.args.law.now) (g.L.Law.may_say c.args.law.now) w kept) kept.begun (layers_of (g.L.Law.may_start c.args.law.now) (g.L.Law.may_say c.args.law.now) u then) grown same its step k x bounding
+returns-clause-lasts g c = λ w u added k x kept then grown same its from step bounding. bounding_on (g.L.Law.may_start c.args.law.now) (g.L.Law.may_say c.args.law.now) (g.L.Law.proper c.args.law.now) w u added (layers_of (g.L.Law.may_start c.args.law.now) (g.L.Law.may_say c.args.law.now) w kept) kept.begun (layers_of (g.L.Law.may_start c.args.law.now) (g.L.Law.may_say c.args.law.now) u then) grown same its from step k x bounding
 
 pub returns-clause-held : goal.returns-clause-held
-returns-clause-held g c = λ w u added kept then grown same its step all. all_can_on (g.L.Law.may_start c.args.law.now) (g.L.Law.may_say c.args.law.now) (g.L.Law.proper c.args.law.now) w u added (layers_of (g.L.Law.may_start c.args.law.now) (g.L.Law.may_say c.args.law.now) w kept) kept.begun (layers_of (g.L.Law.may_start c.args.law.now) (g.L.Law.may_say c.args.law.now) u then) grown same its step all
+returns-clause-held g c = λ w u added kept then grown same its from step all. all_can_on (g.L.Law.may_start c.args.law.now) (g.L.Law.may_say c.args.law.now) (g.L.Law.proper c.args.law.now) w u added (layers_of (g.L.Law.may_start c.args.law.now) (g.L.Law.may_say c.args.law.now) w kept) kept.begun (layers_of (g.L.Law.may_start c.args.law.now) (g.L.Law.may_say c.args.law.now) u then) grown same its from step all

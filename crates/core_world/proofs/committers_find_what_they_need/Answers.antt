@@ -13,7 +13,7 @@ pub returns-clause-due : goal.returns-clause-due
 returns-clause-due g c = λ w s x f kept here h. due_drawn (g.L.Law.may_start c.args.law.now) (g.L.Law.may_say c.args.law.now) (g.L.Law.proper c.args.law.now) w kept.sessions s x here f h
 
 pub returns-clause-roots : goal.returns-clause-roots
-returns-clause-roots g c = λ w e r nodes run drawn. root_stays (g.L.Law.may_start c.args.law.now) (g.L.Law.may_say c.args.law.now) w.clusters w.sessions nodes e w.past r run drawn
+returns-clause-roots g c = λ w e r nodes run drawn. root_stays (g.L.Law.may_start c.args.law.now) (g.L.Law.may_say c.args.law.now) w.clusters w.sessions w.begin nodes e w.past r run drawn
 
 pub returns-clause-shadowed : goal.returns-clause-shadowed
 returns-clause-shadowed g c = λ w s x p o n kept here moved outside. shadowed (g.L.Law.may_start c.args.law.now) (g.L.Law.may_say c.args.law.now) (g.L.Law.proper c.args.law.now) w kept.sessions s x here p o n moved outside

@@ -9,7 +9,7 @@ use Rattle.core_world.proofs.Recovered.{has_ended, none_in_flight, recover_rises
 use Rattle.core_world.proofs.Stopping.{stop_rises, stop_whole}
 use Rattle.core_world.proofs.Truths.{leaves_nothing}
 use Rattle.core_world.proofs.Whole.{layers_of}
-use Rattle.core_world.specs.States.{core_in}
+use Rattle.core_world.specs.States.{core_in, origin}
 
 pub returns-clause-stop : goal.returns-clause-stop
 returns-clause-stop g c = λ w k kept node first. stop_whole (g.L.Law.may_start c.args.law.now) (g.L.Law.may_say c.args.law.now) (g.L.Law.proper c.args.law.now) w k node first kept
@@ -51,4 +51,4 @@ pub returns-clause-decided : goal.returns-clause-decided
 returns-clause-decided g c = λ w s pin p d r m kept there has is drawn later mark. decided (g.L.Law.may_start c.args.law.now) (g.L.Law.may_say c.args.law.now) (g.L.Law.proper c.args.law.now) w kept s there pin has p d is r drawn later m mark
 
 pub returns-clause-status : goal.returns-clause-status
-returns-clause-status g c = λ w r kept fresh later. status_is (core_in w.past w.table kept.sessions.committing.writers) kept.sessions.committing.sound r fresh later
+returns-clause-status g c = λ w r kept fresh later. status_is (core_in (origin w) w.past w.table kept.sessions.committing.writers) kept.sessions.committing.sound r fresh later

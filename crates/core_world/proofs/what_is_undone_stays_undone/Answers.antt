@@ -4,6 +4,8 @@ use Rattle.core_world.proofs.Cleared.{clears, copy_brings, dead_stays, prune_bri
 use Rattle.core_world.proofs.Cleared.{split_brings, unwritten_at_work, unwritten_free}
 use Rattle.core_world.proofs.Lives.{told}
 use Rattle.core_world.proofs.Freed.{undo_brings, undo_leaves, update_brings, write_brings}
+use Rattle.std.proofs.Common.{ap, is_some, Option}
+use Rattle.oak_machine.specs.declared.event.Draw.{Draw}
 
 pub returns-clause-undone : goal.returns-clause-undone
 returns-clause-undone g c = λ w p r kept. undo_leaves w.table kept.sessions.committing.sound.ordered p r
@@ -44,4 +46,5 @@ returns-clause-at_work g c = λ w s x p kept here unwritten.
 
 pub returns-clause-written : goal.returns-clause-written
 returns-clause-written g c = λ w d p kept dead unwritten.
-    unwritten_free w kept.sessions.committing d.revision dead.other p unwritten
+    unwritten_free w kept.sessions.committing d.revision
+    (kept.sessions.committing.sound.new d.revision (ap (λ (o : Option Draw). is_some o) dead.draw)) p unwritten

@@ -2,7 +2,7 @@ use Rattle.std.proofs.Common.{◌≡◌, sym, ◌∙◌}
 use Rattle.std.specs.Prelude.{map}
 use Rattle.std.proofs.lemmas.Result.{err_from_is_err_and}
 use Rattle.jr_docs_read.specs.Printed.{as_node}
-use Rattle.jr_docs_read.specs.Reading.{with_marks}
+use Rattle.jr_docs_read.specs.Reading.{with_marks_of}
 use Rattle.jr_docs_read.proofs.Answered.{handed, weaker}
 use Rattle.jr_docs_read.proofs.Built.{marks_same}
 use Rattle.jr_docs_read.proofs.Named.{node_collisions, node_guard, node_touched}
@@ -12,13 +12,13 @@ use Rattle.jr_docs_read.proofs.fields.read_marks.Goals as goal
 pub returns-in_err-read_map : goal.returns-in_err-read_map
 returns-in_err-read_map c d p h is json none none' none'' =
     let q = err_from_is_err_and c.from_residual.result c.from_residual.ensures.1 in
-    rw (q.1, q.2) (handed (λ (u : Unit {0}). c.read_map.new.map ≡ map as_node d.collisions) (λ (u : Unit {0}). record c.args.document.now { collisions = c.read_map.new.map } ≡ with_marks d c.args.document.now) _
+    rw (q.1, q.2) (handed (λ (u : Unit {0}). c.read_map.new.map ≡ map as_node d.collisions) (λ (u : Unit {0}). record c.args.document.now { collisions = c.read_map.new.map } ≡ with_marks_of d c.args.document.now) _
     (c.in_err-read_map.ensures (map as_node d.collisions) (node_collisions_map d.collisions h.collisions) (c.get.ensures ∙ (node_collisions p d _ is json ∙ sym (node_collisions_data d.collisions))) none))
 
 pub returns-in_err-read_map-2 : goal.returns-in_err-read_map-2
 returns-in_err-read_map-2 c d p h is json none none' none'' =
     let q = err_from_is_err_and c.from_residual-in_err-read_map-2.result c.from_residual-in_err-read_map-2.ensures.1 in
-    rw (q.1, q.2) (handed (λ (u : Unit {0}). c.read_map-2.new.map ≡ d.touched) (λ (u : Unit {0}). record c.args.document.now { collisions = c.read_map.new.map; touched = c.read_map-2.new.map } ≡ with_marks d c.args.document.now) _
+    rw (q.1, q.2) (handed (λ (u : Unit {0}). c.read_map-2.new.map ≡ d.touched) (λ (u : Unit {0}). record c.args.document.now { collisions = c.read_map.new.map; touched = c.read_map-2.new.map } ≡ with_marks_of d c.args.document.now) _
     (c.in_err-read_map-2.ensures d.touched h.touched (c.get-2.ensures ∙ node_touched p d _ is json) none'))
 
 pub returns : goal.returns
