@@ -6,7 +6,8 @@ base and view as they were: before and behind each command of its scripts stand 
 Every STEP-th allocation is refused in turn, each if STEP is left out; of the script of that name alone, if one is
 given. A small library in front of the C library (gcc builds it, LD_PRELOAD loads it) counts the calls of malloc and
 realloc. For each script it prints how many runs it made, how many ended with status 5 and had written nothing, how
-many with status 0, how many replies `no 16 []` came in these, and how many of them left another base or view.
+many with status 0, how many replies `no 16 []` came in these, and how many of them left another base or view. One of a
+`detach` may have moved the base, between its two steps: these are counted apart.
 """
 import json
 import os
@@ -64,7 +65,8 @@ def by_turns(counts):
 
 
 def scripts():
-    """Names and scripts: refreshes beside another's commits, saves that clash, locks and versions, background work."""
+    """Names and scripts: refreshes beside another's commits, saves that clash, locks and versions, background work,
+    attaching to a checkpoint and observing."""
     n = 1 + len(LOOKS)
     one = [["add", "/a"], ["set", "/a", "p", 1], ["save"], ["add", "/a/b"], ["set", "/a", "p", 2], ["save"], ["refresh", False]]
     two = [["refresh", False], ["set", "/a", "q", 3], ["refresh", True], ["set", "/a", "p", 4], ["save"], ["refresh", True], ["save"], ["refresh", False]]
@@ -88,6 +90,12 @@ def scripts():
         "sessions": [{"cluster": 1, "commands": looked(here)}, {"cluster": 2, "commands": looked(there)}],
         "schedule": by_turns([(0, len(LOOKS)), (1, len(LOOKS)), (0, 4 * n), (1, 4 * n), (0, 3 * n), (1, 5 * n), (0, 3 * n)]),
     }
+
+
+    kept = "00000000-0000-4000-8000-000000000001"
+    held = [["add", "/a"], ["save"], ["checkpoint"], ["observe", "/", True, 127], ["set", "/a", "p", 1], ["save"], ["events"], ["set", "/a", "q", 2],
+            ["attach", kept], ["attach", "c"], ["detach"], ["detach"], ["save"], ["attach", "c"], ["observe", "/a", False, 16], ["events"]]
+    yield "attaching and observing", {"sessions": [{"commands": looked(held)}]}
 
 
 def run(program, words, script, number, shim, counted):
@@ -115,7 +123,7 @@ def main():
             status, _, _ = run(program, ["steps"], text, 0, shim, counted)
             with open(counted, encoding="utf-8") as it:
                 whole = int(it.read())
-            seen = {"runs": 0, "status 5": 0, "status 0": 0, "no 16": 0, "moved": 0, "other": 0}
+            seen = {"runs": 0, "status 5": 0, "status 0": 0, "no 16": 0, "moved": 0, "half detached": 0, "other": 0}
             if status:
                 sys.exit(f"{name}: the script ends with status {status}")
             for number in range(1, whole + 1, step):
@@ -124,12 +132,17 @@ def main():
                 seen["status 5"] += status == 5 and not out
                 seen["status 0"] += status == 0
                 seen["other"] += not (status == 0 or status == 5 and not out)
-                for said in replies.values() if status == 0 else ():
+                for session, said in replies.items() if status == 0 else ():
                     n = 1 + len(LOOKS)
+                    asked = script["sessions"][int(session)]["commands"]
                     for at in range(len(LOOKS), len(said), n):
                         if said[at] == "no 16 []":
                             seen["no 16"] += 1
-                            if said[at - len(LOOKS) : at] != said[at + 1 : at + n]:
+                            if said[at - len(LOOKS) : at] == said[at + 1 : at + n]:
+                                continue
+                            if asked[at] == ["detach"]:
+                                seen["half detached"] += 1
+                            else:
                                 seen["moved"] += 1
                                 print(f"{name}: allocation {number}: command {at} left {said[at + 1:at + n]}, where it had been {said[at - len(LOOKS):at]}")
             print(f"{name}: {whole} allocations; " + ", ".join(f"{what} {n}" for what, n in seen.items()), flush=True)
