@@ -34,6 +34,7 @@ value_data (value.Reference id) = tagged (codes "reference") (string (identifier
 value_data (value.WeakReference id) = tagged (codes "weakreference") (string (identifier_text id))
 value_data (value.Uri t) = tagged (codes "uri") (string t)
 
+-- the JSON of each of some values, as the items of a list
 abbrev pub value_items : List Value → Items
 value_items xs = items_of (map value_data xs)
 

@@ -43,6 +43,7 @@ with_change_above change lists p =
 abbrev pub with_name : Option Revision → Name → ChildNames → ChildNames
 with_name by n names = insert_entry name_cmp names n by
 
+-- a list of children without the child of a name
 abbrev pub without_name : Name → ChildNames → ChildNames
 without_name n names = remove_entry (is_at (name_cmp n)) names
 

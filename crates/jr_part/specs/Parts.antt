@@ -25,6 +25,7 @@ pub record Knowledge : Type 0 where
   pub absent : List (Path × Unit {0})
   pub lists : List (Path × ChildNames)
 
+-- what is known of a tree before anything was read
 abbrev pub nothing_known : Knowledge
 nothing_known = record { nodes = []; absent = []; lists = [] }
 
@@ -43,6 +44,7 @@ known_at k p =
 abbrev pub list_at : Knowledge → Path → Option ChildNames
 list_at k p = lookup (is_at (path_cmp p)) k.lists
 
+-- a list of children has one of the name
 abbrev pub has_name : ChildNames → Name → Bool
 has_name names n = is_some (lookup (is_at (name_cmp n)) names)
 
@@ -83,12 +85,14 @@ knows k (need.Children p) = is_some (list_at k p)
 knows k (need.Subtree p) = true
 knows k need.All = true
 
+-- the path that a need is about; of the whole tree the root
 abbrev pub need_path : Need → Path
 need_path (need.Node p) = p
 need_path (need.Children p) = p
 need_path (need.Subtree p) = p
 need_path need.All = []
 
+-- a need's rank among those at one path: node, children, subtree, all
 abbrev pub need_rank : Need → ℕ
 need_rank (need.Node p) = 0
 need_rank (need.Children p) = 1

@@ -40,6 +40,7 @@ abbrev pub text_of : DocId → List ℕ
 text_of (Node p) = joined p
 text_of _ = []
 
+-- the path of a document's node; of the settings the root
 abbrev pub names_of : DocId → Path
 names_of (Node p) = p
 names_of (Prev n p) = p
@@ -50,6 +51,7 @@ abbrev pub node_path : DocId → Option Path
 node_path (Node p) = Some p
 node_path _ = None
 
+-- a previous document's number; of any other document 0
 abbrev pub number_of : DocId → ℕ
 number_of (Prev n p) = n
 number_of _ = 0

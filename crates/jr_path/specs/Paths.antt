@@ -13,6 +13,7 @@ pub record IsPath (text : List ℕ) (names : Path) : Type 0 where
   pub are_names : All IsName names
   pub spelled : text ≡ path_text names
 
+-- a text is the text of some path
 abbrev pub IsPathText : List ℕ → Type 0
 IsPathText text = (names : Path) × IsPath text names
 

@@ -5,14 +5,17 @@ use Rattle.jr_path.specs.Grammar.{is_plain, is_prefix_character}
 use Rattle.jr_path.specs.declared.name.Stage.{Stage}
 use Rattle.jr_path.specs.declared.name.Stage.TheVariants.{Start, Prefix, Whole, Open}
 
+-- the stage behind a colon, which stands once, behind a prefix
 abbrev pub after_colon : Stage → Option Stage
 after_colon Prefix = Some Open
 after_colon _ = None
 
+-- the stage behind a space, with which no name begins
 abbrev pub after_space : Stage → Option Stage
 after_space Start = None
 after_space _ = Some Open
 
+-- the stage behind a character that a prefix may have: a prefix stays one
 abbrev pub after_prefix : Stage → Stage
 after_prefix Start = Prefix
 after_prefix Prefix = Prefix
@@ -36,5 +39,6 @@ abbrev pub step_with : ℕ → ℕ → Option Stage → Result Stage ℕ
 step_with offset c None = Err (cond (nat_lt c 128) offset (cond (nat_le (offset + len_utf8 c) 255) (offset + 1) offset))
 step_with offset c (Some t) = cond (nat_le (offset + len_utf8 c + missing t) 255) (Ok t) (Err offset)
 
+-- what a further character comes to: the next stage, or the offset of the fault
 abbrev pub step_of : Stage → ℕ → ℕ → Result Stage ℕ
 step_of s offset c = step_with offset c (stage_after s c)

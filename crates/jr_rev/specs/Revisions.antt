@@ -12,8 +12,10 @@ revision_cmp a b = ordering_then (nat_cmp a.time b.time) (ordering_then (nat_cmp
 abbrev pub is_same : Revision → Revision → Bool
 is_same a b = is_eq (revision_cmp a b)
 
+-- the first revision is older than the second
 abbrev pub is_before : Revision → Revision → Bool
 is_before a b = is_lt (revision_cmp a b)
 
+-- the first revision is the second or older
 abbrev pub is_at_most : Revision → Revision → Bool
 is_at_most a b = is_le (revision_cmp a b)

@@ -40,5 +40,6 @@ nodes_taken to es = flat_map taking (filter (λ e. is_none (node_at to e.0)) es)
 abbrev pub node_changes : Nodes → Path × Node → List Write
 node_changes from e = (cond (is_some (node_at from e.0)) [] (Here e.0 ∷ [])) ++ property_changes e.0 (properties_at from e.0) e.1.props
 
+-- the writes that turn a tree's nodes into other ones, but the removals
 abbrev pub nodes_changed : Nodes → Nodes → List Write
 nodes_changed from es = flat_map (node_changes from) es

@@ -27,6 +27,7 @@ put_of p n (Unset q m) = cond (eq_by_cmp path_cmp p q && eq_by_cmp name_cmp n m)
 put_of p n (Here q) = None
 put_of p n (Gone q) = None
 
+-- a write removes the node at the path
 abbrev pub is_gone_of : Path → Write → Bool
 is_gone_of p (Gone q) = eq_by_cmp path_cmp p q
 is_gone_of p _ = false

@@ -32,6 +32,7 @@ missing t part = filter (λ p. is_none (node_at t p)) (keys_of part)
 abbrev pub with_room : Nodes → List Path → Nodes
 with_room t ps = fold (λ t p. insert_entry path_cmp t p (record { props = []; born = None })) t ps
 
+-- a tree without the nodes at some paths
 abbrev pub without_paths : Nodes → List Path → Nodes
 without_paths t ps = fold (λ t p. remove_entry (is_at (path_cmp p)) t) t ps
 

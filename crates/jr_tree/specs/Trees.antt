@@ -31,6 +31,7 @@ property_at t p n = option_and_then (λ node. lookup (is_at (name_cmp n)) node.p
 abbrev pub born_of : Option Node → Option Revision
 born_of node = option_and_then (λ n. n.born) node
 
+-- the revision that added the node at a path, where one is noted
 abbrev pub born_at : Nodes → Path → Option Revision
 born_at t p = born_of (node_at t p)
 

@@ -56,9 +56,11 @@ own (value.Reference a) = (unsigned_Decides a a).1 refl
 own (value.WeakReference a) = (unsigned_Decides a a).1 refl
 own (value.Uri a) = (texts_decide a a).1 refl
 
+-- `same_value` tells whether two values are equal
 pub same_value_decides : (x y : Value) → Decides (same_value x y) (x ≡ y)
 same_value_decides x y = (exact x y, λ e. subst (λ z. same_value x z ≡ true) e (own x))
 
+-- `same_value` is an equivalence
 pub values_equivalent : IsEquivalence same_value
 values_equivalent = decided same_value same_value_decides
 
@@ -91,8 +93,10 @@ property_own : (x : Property) → same_property x x ≡ true
 property_own (Single a) = own a
 property_own (Many k xs) = both _ _ ((unsigned_Decides (kind_number k) (kind_number k)).1 refl) ((pointwise_decides same_value_decides xs xs).1 refl)
 
+-- `same_property` tells whether two properties are equal
 pub same_property_decides : (x y : Property) → Decides (same_property x y) (x ≡ y)
 same_property_decides x y = (property_exact x y, λ e. subst (λ z. same_property x z ≡ true) e (property_own x))
 
+-- `same_property` is an equivalence
 pub properties_equivalent : IsEquivalence same_property
 properties_equivalent = decided same_property same_property_decides

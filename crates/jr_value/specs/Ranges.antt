@@ -24,6 +24,7 @@ IsReadable (value.Reference id) = id < 2 ^ 128
 IsReadable (value.WeakReference id) = id < 2 ^ 128
 IsReadable x = Unit {0}
 
+-- each of some values is in range and of the kind
 abbrev pub AreReadable : Kind → List Value → Type 0
 AreReadable k [] = Unit {0}
 AreReadable k (x ∷ xs) = IsReadable x × (kind_of x ≡ k) × AreReadable k xs

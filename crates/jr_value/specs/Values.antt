@@ -61,6 +61,7 @@ kind_of (value.Reference id) = kind.Reference
 kind_of (value.WeakReference id) = kind.WeakReference
 kind_of (value.Uri t) = kind.Uri
 
+-- a property's kind: its value's, or the one that its list names
 abbrev pub kind_of_property : Property → Kind
 kind_of_property (Single x) = kind_of x
 kind_of_property (Many k xs) = k

@@ -37,6 +37,7 @@ is_earlier Touch b = false
 is_earlier (Prop m) (Prop n) = is_lt (name_cmp m n)
 is_earlier (Prop m) b = false
 
+-- the earlier of a mark and one that may be there
 abbrev pub earlier_of : Mark → Option Mark → Mark
 earlier_of m None = m
 earlier_of m (Some n) = cond (is_earlier n m) n m

@@ -42,6 +42,7 @@ without_revision r es = filter (λ e. not (is_same r e.0)) es
 abbrev pub Props : Type 0
 Props = List (Name × List (Revision × Option Property))
 
+-- a property's entries among those of a document
 abbrev pub values_of_property : Props → Name → List (Revision × Option Property)
 values_of_property ps n = unwrap_or (lookup (is_at (name_cmp n)) ps) []
 
@@ -138,6 +139,7 @@ abbrev pub is_met : Option Document → Option Cond → Bool
 is_met d None = true
 is_met d (Some c) = holds d c
 
+-- why an update is refused: the document is absent, or a condition is unmet
 abbrev pub refusal : Option Document → Option Cond → OpFault
 refusal d None = Absent
 refusal d (Some c) = Unmet c (kept d c)

@@ -52,6 +52,7 @@ abbrev pub with_known : Known → DocId → Option Document → Known
 with_known known x None = known
 with_known known x (Some d) = cond (is_some (lookup (is_at (id_cmp x)) known)) known (insert_entry id_cmp known x d)
 
+-- a reader that keeps a document that was found, where it knew none of that id
 abbrev pub noted : Reader → DocId → Option Document → Reader
 noted r x found = record r { known = with_known r.known x found }
 
@@ -96,10 +97,12 @@ child_at (Some p) (id.Node q) = cond (is_child_of p q) (Some q) None
 child_at (Some p) _ = None
 child_at None x = None
 
+-- a reader behind the answer to its question for the node's document
 abbrev pub fed_main : Reader → Option Document → Reader
 fed_main r None = passed_by r
 fed_main r (Some d) = settled (noted r (id.Node r.at) (Some d))
 
+-- a reader behind the answer to its question for the next child's document
 abbrev pub fed_next : Reader → Option Document → Reader
 fed_next r None = ended r
 fed_next r (Some d) = option_map_or (λ q. settled (noted (record r { at = q }) d.id (Some d))) (child_at r.parent d.id) (ended r)
