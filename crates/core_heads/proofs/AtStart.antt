@@ -8,9 +8,9 @@ use Rattle.std.proofs.lemmas.List.Sums.{AllPass-from_list_all}
 use mathlib.Core.Bool.{false≢true}
 use Rattle.jr_rev.specs.declared.revision.Revision.{Revision}
 use Rattle.jr_rev.specs.Revisions.{is_at_most}
-use Rattle.jr_rev.specs.Vectors.{entry, sees, start_of, IsVector}
+use Rattle.jr_rev.specs.Vectors.{entry, own_in, sees, start_of, IsVector}
 use Rattle.oak_machine.specs.declared.event.Start.{Start}
-use Rattle.oak_machine.specs.History.{Begin, IsBegun, IsStart, begin_at, begin_of, entry_or_start, has_entry}
+use Rattle.oak_machine.specs.History.{Begin, IsBegun, IsStart, begin_at, begin_of, has_entry}
 use Rattle.oak_machine.specs.Runs.{IsNode}
 use Rattle.core_heads.proofs.Entries.{entry_at, flat, lower, numbered, start_begun, start_sees, upper}
 use Rattle.core_heads.proofs.Below.{stands_at, start_stands}
@@ -39,10 +39,10 @@ module _ (clusters : ℕ) (s : Start) (is : IsStart clusters s) where
   has_node true e h = refl
   has_node false e h = absurd (false≢true h)
 
-  from_sees : (o : Revision) → sees s.at o ≡ true → IsNode clusters o.cluster × (is_at_most o (entry_or_start s.at o.cluster) ≡ true)
+  from_sees : (o : Revision) → sees s.at o ≡ true → IsNode clusters o.cluster × (is_at_most o (own_in o.cluster s.at) ≡ true)
   from_sees o h = by o.cluster (entry s.at o.cluster) refl h
     where
-      by : (k : ℕ) (e : Option Revision) → entry s.at k ≡ e → option_map_or (is_at_most o) e false ≡ true → IsNode clusters k × (is_at_most o (entry_or_start s.at k) ≡ true)
+      by : (k : ℕ) (e : Option Revision) → entry s.at k ≡ e → option_map_or (is_at_most o) e false ≡ true → IsNode clusters k × (is_at_most o (own_in k s.at) ≡ true)
       by k None is h = absurd (false≢true h)
       by zero (Some e) found h = absurd (false≢true (ap is_some found))
       by (suc k) (Some e) found h =

@@ -11,13 +11,13 @@ use Rattle.jr_rev.specs.declared.revision.Revision.{Revision}
 use Rattle.jr_rev.specs.declared.vector.Pin.{Pin}
 use Rattle.jr_rev.specs.declared.vector.RevVec.{RevVec}
 use Rattle.jr_rev.specs.Revisions.{is_before}
-use Rattle.jr_rev.specs.Vectors.{entry, start, start_of, with_entry}
+use Rattle.jr_rev.specs.Vectors.{entry, own_in, start, start_of, with_entry}
 use Rattle.oak_machine.specs.declared.event.Draw.{Draw}
 use Rattle.oak_machine.specs.declared.event.Event.{Event}
 use Rattle.oak_machine.specs.declared.event.Event.TheVariants as event
 use Rattle.oak_machine.specs.declared.event.StepKind.TheVariants as kind
 use Rattle.oak_machine.specs.declared.event.Start.{Start}
-use Rattle.oak_machine.specs.History.{Begin, IsBegun, IsStart, Past, begin_at, begin_of, entry_or_start, has_entry}
+use Rattle.oak_machine.specs.History.{Begin, IsBegun, IsStart, Past, begin_at, begin_of, has_entry}
 use Rattle.oak_machine.specs.Commits.{draw_of, is_drawn, is_ended}
 use Rattle.oak_machine.specs.Heads.{head_of, last_draw_time, last_in, local}
 use Rattle.oak_machine.specs.Laws.{Says, Starts}
@@ -84,20 +84,20 @@ module _ (begin : Begin) where
     none_there false t h = t
 
     -- and it is of that node
-    own_entry_is : (i : ℕ) → i < 8 → suc i ≤ clusters → entry s.at (suc i) ≡ Some (entry_or_start s.at (suc i))
+    own_entry_is : (i : ℕ) → i < 8 → suc i ≤ clusters → entry s.at (suc i) ≡ Some (own_in (suc i) s.at)
     own_entry_is i low high = by (entry s.at (suc i)) refl
       where
-        by : (o : Option Revision) → entry s.at (suc i) ≡ o → entry s.at (suc i) ≡ Some (entry_or_start s.at (suc i))
+        by : (o : Option Revision) → entry s.at (suc i) ≡ o → entry s.at (suc i) ≡ Some (own_in (suc i) s.at)
         by None e = absurd (false≢true (none_there (nat_le (suc i) clusters) (lower (suc i) clusters high) (subst (λ (o : Option Revision). has_entry (nat_le (suc i) clusters) o ≡ true) e (start_has i low))))
         by (Some r) e =
             let c : r.cluster ≡ 1 + i = stands_at s.at 1 i r is.vector.stands (flat (slice_get s.at i) r (sym (entry_at s.at i) ∙ e)) in
             let d : r.cluster ≡ suc i = omega arith in
             e ∙ (ap (λ (n : ℕ). Some (record r { cluster = n })) d ∙ sym (ap (λ (o : Option Revision). Some (option_map_or {T = Revision} (λ q. record q { cluster = suc i }) o (start_of (suc i)))) e))
 
-    start_has_own : clusters ≤ 8 → (k : ℕ) → IsNode clusters k → entry s.at k ≡ Some (entry_or_start s.at k)
+    start_has_own : clusters ≤ 8 → (k : ℕ) → IsNode clusters k → entry s.at k ≡ Some (own_in k s.at)
     start_has_own eight k node = at k node.0 node.1
       where
-        at : (k : ℕ) → 1 ≤ k → k ≤ clusters → entry s.at k ≡ Some (entry_or_start s.at k)
+        at : (k : ℕ) → 1 ≤ k → k ≤ clusters → entry s.at k ≡ Some (own_in k s.at)
         at zero low high = absurd (omega arith)
         at (suc i) low high = own_entry_is i (omega arith) high
 

@@ -42,6 +42,10 @@ is_below (e ∷ v) (f ∷ w) = is_entry_below e f && is_below v w
 abbrev pub start_of : ℕ → Revision
 start_of k = record { time = 0; counter = 0; cluster = k }
 
+-- the revision of cluster node k that stands in a vector, or its start
+abbrev pub own_in : ℕ → Entries → Revision
+own_in k v = option_map_or {T = Revision} (λ r. record r { cluster = k }) (entry v k) (start_of k)
+
 -- the start of this many cluster nodes, among eight
 abbrev pub start : ℕ → Entries
 start clusters = map (λ k. cond (nat_le k clusters) (Some (start_of k)) None) (1 ∷ 2 ∷ 3 ∷ 4 ∷ 5 ∷ 6 ∷ 7 ∷ 8 ∷ [])

@@ -17,12 +17,12 @@ use Rattle.std.proofs.lemmas.List.Sums.{fold-append}
 use Rattle.jr_rev.specs.declared.revision.Revision.{Revision}
 use Rattle.jr_rev.specs.declared.vector.Pin.{Pin}
 use Rattle.jr_rev.specs.Revisions.{revision_cmp, is_at_most, is_before}
-use Rattle.jr_rev.specs.Vectors.{Entries, entry, is_below, is_entry_below, sees, start_of}
+use Rattle.jr_rev.specs.Vectors.{Entries, entry, is_below, is_entry_below, own_in, sees, start_of}
 use Rattle.jr_rev.proofs.Bounds.{below_entries}
 use Rattle.jr_rev.proofs.Order.{at_most_itself, at_most_trans, revision_total}
 use Rattle.oak_node.specs.declared.pending.Note.{Note}
 use Rattle.oak_node.specs.Changes.{changed_since, knowing_pins, known_from, oldest_own}
-use Rattle.oak_node.specs.Memory.{NodeState, AreKept, IsMemory, own_entry, own_in}
+use Rattle.oak_node.specs.Memory.{NodeState, AreKept, IsMemory, own_entry}
 use Rattle.oak_node.specs.Notes.{notes_of, without_seen}
 use Rattle.oak_node.proofs.Owns.{entry-with_entry}
 use Rattle.oak_node.proofs.Rising.{before_at_most, before_less, not_before_at_most, not_before_itself}

@@ -13,13 +13,13 @@ use Rattle.std.proofs.lemmas.Map.Views.{Contains-from_lookup}
 use Rattle.jr_rev.specs.declared.revision.Revision.{Revision}
 use Rattle.jr_rev.specs.declared.vector.Pin.{Pin}
 use Rattle.jr_rev.specs.Revisions.{revision_cmp, is_at_most, is_before}
-use Rattle.jr_rev.specs.Vectors.{Entries, IsVector, entry, is_below, is_entry_below, sees, stands_from, start_of}
+use Rattle.jr_rev.specs.Vectors.{Entries, IsVector, entry, is_below, is_entry_below, own_in, sees, stands_from, start_of}
 use Rattle.jr_rev.proofs.Bounds.{below_along, below_entries, entries_below, entry_at, entry_itself}
 use Rattle.jr_rev.proofs.Entries.{both}
 use Rattle.jr_rev.proofs.Order.{at_most_itself, at_most_trans}
 use Rattle.oak_node.specs.declared.pending.Note.{Note}
 use Rattle.oak_node.specs.Changes.{changed_since, knowing_pins, known_from, oldest_own}
-use Rattle.oak_node.specs.Memory.{NodeState, IsMemory, own_entry, own_in}
+use Rattle.oak_node.specs.Memory.{NodeState, IsMemory, own_entry}
 use Rattle.oak_node.specs.Notes.{without_seen}
 use Rattle.oak_node.specs.Pins.{pin_of}
 use Rattle.oak_node.proofs.Changes.{min_left, oldest_is, own_in_is, since_entry, since_oldest}

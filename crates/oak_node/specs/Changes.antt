@@ -4,9 +4,9 @@ use Rattle.std.specs.Ordering.{ord_min}
 use Rattle.jr_rev.specs.declared.vector.Pin.{Pin}
 use Rattle.jr_rev.specs.declared.revision.Revision.{Revision}
 use Rattle.jr_rev.specs.Revisions.{revision_cmp, is_before}
-use Rattle.jr_rev.specs.Vectors.{Entries, with_entry, sees, is_below}
+use Rattle.jr_rev.specs.Vectors.{Entries, own_in, with_entry, sees, is_below}
 use Rattle.oak_node.specs.declared.pending.Note.{Note}
-use Rattle.oak_node.specs.Memory.{NodeState, own_in, own_entry}
+use Rattle.oak_node.specs.Memory.{NodeState, own_entry}
 
 -- the least vector since which the node knows what changed: all that the head sees of other nodes,
 -- and of this one what was drawn before the paths that are kept

@@ -2,12 +2,11 @@
 use Rattle.std.specs.Prelude.{◌≡◌, ℕ, ◌≤◌, Bool, true, false, not, List, [], ◌∷◌, map, All, Some, unwrap_or, IsTrue}
 use Rattle.std.specs.List.Sorted.{IsSortedByKey, IsStrictlySortedBy}
 use Rattle.std.specs.Map.{keys_of}
-use Rattle.std.specs.Option.{option_map_or}
 use Rattle.std.specs.Ordering.{nat_cmp}
 use Rattle.jr_rev.specs.declared.revision.Revision.{Revision}
 use Rattle.jr_rev.specs.declared.vector.Pin.{Pin}
 use Rattle.jr_rev.specs.Revisions.{revision_cmp, is_at_most}
-use Rattle.jr_rev.specs.Vectors.{Entries, entry, start_of}
+use Rattle.jr_rev.specs.Vectors.{Entries, entry, own_in, start_of}
 use Rattle.oak_node.specs.declared.drawn.Drawn.{Drawn}
 use Rattle.oak_node.specs.declared.pending.Note.{Note}
 
@@ -28,10 +27,6 @@ pub record NodeState : Type 0 where
   pub changed : List Note
   pub stopped : Bool
   pub recovered : Bool
-
--- the revision of cluster node k that stands in a vector, or its start
-abbrev pub own_in : ℕ → Entries → Revision
-own_in k v = option_map_or {T = Revision} (λ r. record r { cluster = k }) (entry v k) (start_of k)
 
 -- the memory of a running node that has drawn, pinned and noted nothing, with this vector as its
 -- head and sweep vector

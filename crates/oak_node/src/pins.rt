@@ -5,8 +5,7 @@ ghost use Rattle.std.specs.List.Sorted.{IsStrictlySortedBy};
 ghost use Rattle.std.specs.Map.{lookup, keys_of, remove_entry};
 ghost use Rattle.std.specs.Ordering.{nat_cmp, ord_min};
 ghost use Rattle.jr_rev.specs.Revisions.{revision_cmp};
-ghost use Rattle.jr_rev.specs.Vectors.{is_below, start_of};
-ghost use Rattle.oak_node.specs.Memory.{own_in};
+ghost use Rattle.jr_rev.specs.Vectors.{is_below, own_in, start_of};
 ghost use Rattle.oak_node.specs.Pins.{IsPlaceOf, IsGapOf};
 
 use jr_rev::{Pin, RevVec, Revision};

@@ -1,8 +1,7 @@
 use Rattle.std.proofs.Common.{◌≡◌, fold, filter, take}
 use Rattle.std.specs.Ordering.{ord_min}
 use Rattle.jr_rev.specs.Revisions.{revision_cmp}
-use Rattle.jr_rev.specs.Vectors.{is_below}
-use Rattle.oak_node.specs.Memory.{own_in}
+use Rattle.jr_rev.specs.Vectors.{is_below, own_in}
 use Rattle.oak_node.proofs.pins.oldest.Given as goal
 
 -- the earliest so far
