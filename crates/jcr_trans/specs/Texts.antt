@@ -40,6 +40,7 @@ datum_data (datum.Kind k) = string (kind_text k)
 datum_data (datum.Revision r) = string (revision_text r)
 datum_data datum.Null = null
 
+-- the JSON of each thing that a refusal names, in order
 abbrev pub datum_items : List Datum → Items
 datum_items ds = items_of (map datum_data ds)
 
@@ -47,6 +48,8 @@ datum_items ds = items_of (map datum_data ds)
 abbrev pub ok_text : Data → List ℕ
 ok_text d = codes "ok " ++ compact_text d
 
+-- the text that replies to a command: `ok`, `ok` and the JSON of what is shown, or `no` with the
+-- refusal's number and the list of what it names
 abbrev pub answer_text : Answer → List ℕ
 answer_text Done = codes "ok"
 answer_text (ShowsProperty p) = ok_text (property_data p)
