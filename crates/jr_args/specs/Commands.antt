@@ -33,9 +33,11 @@ use Rattle.jr_args.specs.declared.word.OnNode.TheVariants as on_node
 abbrev pub argument : ℕ → Items → Data
 argument i ds = unwrap_or (get_item i ds) null
 
+-- the text of the argument at an index, empty where that is no text
 abbrev pub text_at : ℕ → Items → List ℕ
 text_at i ds = text_in (argument i ds)
 
+-- the boolean of the argument at an index, false where that is none
 abbrev pub truth_at : ℕ → Items → Bool
 truth_at i ds = unwrap_or (as_bool (argument i ds)) false
 
@@ -43,15 +45,19 @@ truth_at i ds = unwrap_or (as_bool (argument i ds)) false
 abbrev pub number_at : ℕ → Items → Option ℕ
 number_at i ds = option_and_then as_u64 (as_number (argument i ds))
 
+-- the event mask of the argument at an index, 0 where that is none
 abbrev pub mask_at : ℕ → Items → ℕ
 mask_at i ds = unwrap_or (mask_of (argument i ds)) 0
 
+-- the path that the argument at an index means; a broken rule is found at that argument
 abbrev pub path_at : ℕ → Items → Reading Path
 path_at i ds = under (Index (i + 1)) (path_of (text_at i ds))
 
+-- the name that the argument at an index means; a broken rule is found at that argument
 abbrev pub name_at : ℕ → Items → Reading Name
 name_at i ds = under (Index (i + 1)) (name_of (text_at i ds))
 
+-- the property that the argument at an index means; a broken rule is found at that argument
 abbrev pub property_at : ℕ → Items → Reading Property
 property_at i ds = under (Index (i + 1)) (property_of (argument i ds))
 
@@ -60,17 +66,22 @@ abbrev pub name_if_any : Option (List ℕ) → Reading (Option Name)
 name_if_any None = is (Means None)
 name_if_any (Some text) = some_name_of text
 
+-- the name that the argument at an index means, none where that is no text; a broken rule is found
+-- at that argument
 abbrev pub name_if_any_at : ℕ → Items → Reading (Option Name)
 name_if_any_at i ds = under (Index (i + 1)) (name_if_any (as_str (argument i ds)))
 
+-- the nodes of the tree that the argument at an index describes, from its topmost node on
 abbrev pub tree_at : ℕ → Items → Reading (List TreeNode)
 tree_at i ds = under (Index (i + 1)) (tree_of [] (argument i ds))
 
+-- the query's variables, with their values, that the argument at an index gives
 abbrev pub variables_at : ℕ → Items → Reading (List (Name × Value))
 variables_at i ds = under (Index (i + 1)) (variables_of (argument i ds))
 
 -- ---- commands
 
+-- the command of a word that takes no argument
 abbrev pub bare_command : Bare → Command
 bare_command bare.Save = command.Save
 bare_command bare.Head = command.Head
@@ -82,6 +93,7 @@ bare_command bare.Collect = command.Collect
 bare_command bare.Checkpoint = command.Checkpoint
 bare_command bare.Detach = command.Detach
 
+-- the command of a word that takes a path, on that path
 abbrev pub path_command : OnPath → Path → Command
 path_command on_path.Remove path = command.Remove path
 path_command on_path.Get path = command.Get path
@@ -95,6 +107,7 @@ path_command on_path.Checkout path = command.Checkout path
 path_command on_path.Versions path = command.Versions path
 path_command on_path.Split path = command.Split path
 
+-- the command of a word that takes a text, with that text
 abbrev pub text_command : OnText → List ℕ → Command
 text_command on_text.ById text = command.ById text
 text_command on_text.Token text = command.Token text
@@ -102,6 +115,7 @@ text_command on_text.DropToken text = command.DropToken text
 text_command on_text.Attach text = command.Attach text
 text_command on_text.Release text = command.Release text
 
+-- the command of a word that takes a path and a name, with both
 abbrev pub name_command : OnName → Path → Name → Command
 name_command on_name.Unset path name = command.Unset path name
 name_command on_name.Mixin path name = command.Mixin path name
@@ -109,6 +123,7 @@ name_command on_name.Unmixin path name = command.Unmixin path name
 name_command on_name.SetType path name = command.SetType path name
 name_command on_name.Unlabel path name = command.Unlabel path name
 
+-- the command of a word that takes a cluster node's number, with that number if it is a whole one
 abbrev pub node_command : OnNode → Option ℕ → Command
 node_command on_node.Stop number = command.Stop number
 node_command on_node.Recover number = command.Recover number
@@ -138,14 +153,17 @@ abbrev pub named_of : Option Word → Items → Reading Command
 named_of None ds = is (Breaks 5 [])
 named_of (Some w) ds = Then (guard (fits (kinds_of w) ds) 5) (λ _. call_of w ds)
 
+-- a command by what its list begins with; where that is no text, rule 5 is broken
 abbrev pub called_of : Option (List ℕ) → Items → Reading Command
 called_of None ds = is (Breaks 5 [])
 called_of (Some text) ds = named_of (word_named text) ds
 
+-- a command as a list of its name and its arguments; an empty list breaks rule 5
 abbrev pub listed_of : Items → Reading Command
 listed_of no_items = is (Breaks 5 [])
 listed_of (item d ds) = called_of (as_str d) ds
 
+-- a command as a JSON value; one that is no list breaks rule 5
 abbrev pub command_of : Data → Reading Command
 command_of (array ds) = listed_of ds
 command_of _ = is (Breaks 5 [])

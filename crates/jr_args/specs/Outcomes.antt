@@ -22,6 +22,7 @@ abbrev pub guard : Bool → ℕ → Reading ⊤
 guard true rule = is (Means tt)
 guard false rule = is (Breaks rule [])
 
+-- the second reading, of what the first one means; a rule that the first breaks stays broken
 abbrev pub onward : {X Y : Type 0} → (X → Reading Y) → Outcome X → Reading Y
 onward f (Means x) = f x
 onward f (Breaks rule steps) = is (Breaks rule steps)

@@ -16,16 +16,20 @@ use Rattle.jr_args.specs.declared.fault.Step.TheVariants.{Key, Index}
 
 -- ---- the JSON kinds
 
+-- the JSON value is a text
 abbrev pub is_text : Data → Bool
 is_text d = is_some (as_str d)
 
+-- the JSON value is an object
 abbrev pub is_object : Data → Bool
 is_object d = is_some (as_object d)
 
+-- each item of a JSON list is a text
 abbrev pub are_texts : Items → Bool
 are_texts no_items = true
 are_texts (item d ds) = is_text d && are_texts ds
 
+-- the JSON value is a list of texts
 abbrev pub is_list_of_texts : Data → Bool
 is_list_of_texts (array ds) = are_texts ds
 is_list_of_texts _ = false
@@ -39,6 +43,7 @@ is_field key d are_nodes = cond (bytes_eq key (codes "type")) (is_text d)
     (cond (bytes_eq key (codes "nodes")) are_nodes false)))
 
 abbrev mutual
+  -- the JSON value has the form of a node of a tree, with all nodes below
   pub is_tree : Data → Bool
   is_tree null = false
   is_tree (boolean b) = false
@@ -47,10 +52,12 @@ abbrev mutual
   is_tree (array ds) = false
   is_tree (object ms) = are_fields ms
 
+  -- each member of an object is one that a node of a tree may have
   pub are_fields : Members → Bool
   are_fields no_members = true
   are_fields (member key d ms) = is_field key d (are_trees d) && are_fields ms
 
+  -- the JSON value is an object whose members are all nodes of a tree
   pub are_trees : Data → Bool
   are_trees null = false
   are_trees (boolean b) = false
@@ -59,6 +66,7 @@ abbrev mutual
   are_trees (array ds) = false
   are_trees (object ms) = all_trees ms
 
+  -- the value of each member of an object is a node of a tree
   pub all_trees : Members → Bool
   all_trees no_members = true
   all_trees (member key d ms) = is_tree d && all_trees ms
@@ -69,9 +77,11 @@ abbrev mutual
 abbrev pub text_in : Data → List ℕ
 text_in d = unwrap_or (as_str d) []
 
+-- the items of a JSON list, none where the value is no list
 abbrev pub items_in : Data → Items
 items_in d = unwrap_or (as_array d) no_items
 
+-- the members of a JSON object, none where the value is no object
 abbrev pub members_in : Data → Members
 members_in d = unwrap_or (as_object d) no_members
 
@@ -94,21 +104,27 @@ abbrev pub optional_of : {X : Type 0} → List ℕ → X → (Data → Reading X
 optional_of key none M None = is (Means none)
 optional_of key none M (Some d) = under (Key key) (M d)
 
+-- a name that is there, from its text
 abbrev pub some_name_of : List ℕ → Reading (Option Name)
 some_name_of text = Then (name_of text) (λ name. is (Means (Some name)))
 
+-- the primary type that a node of a tree names in its `type`
 abbrev pub type_of : Data → Reading (Option Name)
 type_of d = some_name_of (text_in d)
 
+-- one mixin type of a node of a tree, from its text
 abbrev pub mixin_of : Data → Reading Name
 mixin_of d = name_of (text_in d)
 
+-- the mixin types of a node of a tree, from the list of their texts
 abbrev pub mixins_of : Data → Reading (List Name)
 mixins_of d = list_of mixin_of 0 (items_in d)
 
+-- the properties of a node of a tree, each at its name, from an object
 abbrev pub props_of : Data → Reading (List (Name × Property))
 props_of d = map_of property_of [] (members_in d)
 
+-- the variables of a query, each name with its value, from an object
 abbrev pub variables_of : Data → Reading (List (Name × Value))
 variables_of d = map_of value_of [] (members_in d)
 
@@ -120,6 +136,7 @@ node_of path d =
     Then (optional_of (codes "props") [] props_of (get (codes "props") d)) (λ props.
     is (Means (record { path = path; node_type = type; mixins = mixins; props = props })))))
 
+-- the first reading where the condition holds, else the second
 abbrev pub chosen : {X : Type 0} → Bool → Reading X → Reading X → Reading X
 chosen true M N = M
 chosen false M N = N
@@ -134,10 +151,12 @@ abbrev mutual
   tree_of path (array ds) = is (Means [])
   tree_of path (object ms) = Then (node_of path (object ms)) (λ node. Then (nodes_of path ms) (λ nodes. is (Means (node ∷ nodes))))
 
+  -- all nodes below the node at a path, which its member `nodes` describes; none without one
   pub nodes_of : Path → Members → Reading (List TreeNode)
   nodes_of path no_members = is (Means [])
   nodes_of path (member key d ms) = chosen (bytes_eq key (codes "nodes")) (under (Key key) (below_of path d)) (nodes_of path ms)
 
+  -- all nodes below the node at a path, from the value of its member `nodes`
   pub below_of : Path → Data → Reading (List TreeNode)
   below_of path null = is (Means [])
   below_of path (boolean b) = is (Means [])
@@ -146,6 +165,7 @@ abbrev mutual
   below_of path (array ds) = is (Means [])
   below_of path (object ms) = children_of path ms
 
+  -- the children of the node at a path, in the order of an object's members, each with all below
   pub children_of : Path → Members → Reading (List TreeNode)
   children_of path no_members = is (Means [])
   children_of path (member key d ms) =

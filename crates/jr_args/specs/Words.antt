@@ -60,6 +60,7 @@ word_text word.Observe = codes "observe"
 word_text word.Query = codes "query"
 word_text word.OrderBefore = codes "orderBefore"
 
+-- the word of each command
 abbrev pub all_words : List Word
 all_words = word.Bare bare.Save ∷ word.Bare bare.Head ∷ word.Bare bare.Events ∷ word.Bare bare.BackWrite ∷ word.Bare bare.BackRead
     ∷ word.Bare bare.Sweep ∷ word.Bare bare.Collect ∷ word.Bare bare.Checkpoint ∷ word.Bare bare.Detach
@@ -95,6 +96,7 @@ kinds_of word.Observe = kind.Path ∷ kind.Truth ∷ kind.Mask ∷ []
 kinds_of word.Query = kind.Text ∷ kind.OptionalVariables ∷ []
 kinds_of word.OrderBefore = kind.Path ∷ kind.NameOrNull ∷ []
 
+-- the JSON value is a number
 abbrev pub is_number : Data → Bool
 is_number d = is_some (as_number d)
 
@@ -116,6 +118,7 @@ has_kind kind.Value d = true
 has_kind kind.Tree d = is_tree d
 has_kind kind.OptionalVariables d = is_object d
 
+-- an argument of that kind may be left out: a type's name, or the variables of a query
 abbrev pub is_optional : Kind → Bool
 is_optional kind.OptionalName = true
 is_optional kind.OptionalVariables = true

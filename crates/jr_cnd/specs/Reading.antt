@@ -18,8 +18,8 @@ pub record State : Type 0 where
 abbrev pub Read : Type 0 → Type 0
 Read X = Result (X × State) ℕ
 
--- one reading after another: the first failure stays
 infixl 10 ◌>>=◌
+-- one reading after another: the first failure stays
 abbrev pub ◌>>=◌ : {A B : Type 0} → Result A ℕ → (A → Result B ℕ) → Result B ℕ
 (Ok x) >>= f = f x
 (Err e) >>= f = Err e

@@ -12,9 +12,11 @@ use Rattle.jr_gen.specs.Rounds.{round_at, after_round, after_rounds}
 abbrev pub node_path : ℕ → List ℕ
 node_path s = codes "/g" ++ decimal s
 
+-- the name of property i of a session's node
 abbrev pub property_name : ℕ → List ℕ
 property_name i = codes "p" ++ decimal i
 
+-- the path of property i of the node of session s
 abbrev pub property_path : ℕ → ℕ → List ℕ
 property_path s i = node_path s ++ (codes "/" ++ property_name i)
 

@@ -43,6 +43,7 @@ member_of key rule M (Some d) = under (Key key) (M d)
 abbrev pub counted_of : {X : Type 0} → ℕ → ℕ → (Data → Reading X) → Items → Reading (List X)
 counted_of most rule M ds = Then (guard (nat_le (items_len ds) most) rule) (λ _. list_of M 0 ds)
 
+-- a list of at most so many items, each of them read; a longer one, or no list, breaks the rule
 abbrev pub few_of : {X : Type 0} → ℕ → ℕ → (Data → Reading X) → Data → Reading (List X)
 few_of most rule M (array ds) = counted_of most rule M ds
 few_of most rule M _ = is (Breaks rule [])
@@ -59,6 +60,7 @@ clusters_of d = judged (IsWhole 1 8 d) 3
 abbrev pub cluster_of : ℕ → Data → Reading ℕ
 cluster_of clusters d = judged (IsWhole 1 clusters d) 4
 
+-- the commands of a session, at most 10000; more of them, or no list, breaks rule 4
 abbrev pub commands_of : Data → Reading (List Command)
 commands_of d = few_of 10000 4 command_of d
 
@@ -74,11 +76,13 @@ abbrev pub session_of : ℕ → Data → Reading SessionScript
 session_of clusters (object ms) = Then (guard (are_keys (codes "cluster" ∷ codes "commands" ∷ []) ms) 4) (λ _. session_in clusters (object ms))
 session_of clusters _ = is (Breaks 4 [])
 
+-- the sessions on so many cluster nodes, at most 64; more of them, or no list, breaks rule 4
 abbrev pub sessions_of : ℕ → Data → Reading (List SessionScript)
 sessions_of clusters d = few_of 64 4 (session_of clusters) d
 
 -- ---- the schedule: rule 8
 
+-- a schedule of so many sessions, at most 1000000 entries; more of them, or no list, breaks rule 8
 abbrev pub schedule_of : ℕ → Data → Reading (List Entry)
 schedule_of sessions d = few_of 1000000 8 (entry_of sessions) d
 
