@@ -20,9 +20,11 @@ abbrev pub front_size : (ℕ → Bool) → ℕ → List ℕ → ℕ
 front_size passes before [] = before
 front_size passes before (b ∷ bs) = if passes b then front_size passes (before + 1) bs else before
 
+-- how many bytes at the front of a text are ASCII letters, digits or `_`
 abbrev pub word_size : List ℕ → ℕ
 word_size = front_size is_word_byte 0
 
+-- how many bytes at the front of a text are ASCII digits
 abbrev pub digits_size : List ℕ → ℕ
 digits_size = front_size is_ascii_digit 0
 
@@ -31,6 +33,7 @@ abbrev pub bracket_end : ℕ → List ℕ → Option ℕ
 bracket_end before [] = None
 bracket_end before (b ∷ bs) = if b == 93 then Some (before + 1) else bracket_end (before + 1) bs
 
+-- how many bytes behind a `[` lead up to the first `]` and with it; none where no `]` follows
 abbrev pub bracket_size : List ℕ → Option ℕ
 bracket_size = bracket_end 0
 
@@ -42,6 +45,8 @@ closing inside before (b ∷ bs) =
     if b == 39 then closing (not inside) (before + 1) bs
     else (if inside then closing inside (before + 1) bs else Some before)
 
+-- how many bytes behind the quote that opens a text lead up to the quote that closes it and with
+-- it; none where no quote closes it
 abbrev pub text_size : List ℕ → Option ℕ
 text_size = closing true 0
 
@@ -56,6 +61,7 @@ variable (b ∷ bs) =
     if is_ascii_alphabetic b then Some (word_size bs + 1)
     else (if b == 91 then option_map (λ n. n + 1) (bracket_size bs) else None)
 
+-- the next byte is the given one
 abbrev pub next_is : ℕ → List ℕ → Bool
 next_is c [] = false
 next_is c (b ∷ bs) = b == c
@@ -67,6 +73,8 @@ sign_size b bs =
     else (if b == 60 then (if next_is 61 bs || next_is 62 bs then Some 2 else Some 1)
     else (if b == 62 then (if next_is 61 bs then Some 2 else Some 1) else None))
 
+-- a token of the given kind, with its size: its first byte, and the given count of bytes behind it;
+-- none where no count is given
 abbrev pub of_kind : TokenKind → Option ℕ → Option (TokenKind × ℕ)
 of_kind kind = option_map (λ n. (kind, n + 1))
 

@@ -35,12 +35,15 @@ property_call names s = do
   e ← sign_at sign.Close p.1
   Ok (p.0, e.1)
 
+-- name ), behind the `(` of NAME or LOCALNAME, as the place of the selector with that name
 abbrev pub selector_inside : Names → State → Read ℕ
 selector_inside names s = do
   d ← declared_at names s
   e ← sign_at sign.Close d.1
   Ok (d.0, e.1)
 
+-- `)` right behind the `(` of NAME or LOCALNAME, as the place of the query's only selector; a fault
+-- where there is not exactly one
 abbrev pub selector_only : Names → State → Read ℕ
 selector_only names s = do
   p ← only_at names (place s)
@@ -52,21 +55,25 @@ selector_call names s = do
   o ← sign_at sign.Open (after s)
   (if sign_first sign.Close o.1.pieces then selector_only names o.1 else selector_inside names o.1)
 
+-- LENGTH(property), as an operand
 abbrev pub length_operand : Names → State → Read Look
 length_operand names s = do
   p ← property_call names s
   Ok (tree.Length p.0, p.1)
 
+-- NAME([name]), as an operand: the name of a selector's node
 abbrev pub name_operand : Names → State → Read Look
 name_operand names s = do
   p ← selector_call names s
   Ok (tree.Name p.0, p.1)
 
+-- LOCALNAME([name]), as an operand: the local name of a selector's node
 abbrev pub local_name_operand : Names → State → Read Look
 local_name_operand names s = do
   p ← selector_call names s
   Ok (tree.LocalName p.0, p.1)
 
+-- a property, as an operand
 abbrev pub property_operand : Names → State → Read Look
 property_operand names s = do
   p ← property_at names s
@@ -80,6 +87,7 @@ plain_operand names s =
     else (if call_first (codes "LOCALNAME") s.pieces then local_name_operand names s
     else property_operand names s))
 
+-- ( operand ), behind the word LOWER or UPPER, where the given reader reads the operand
 abbrev pub operand_call : (State → Read Look) → State → Read Look
 operand_call inside s = do
   a ← sign_at sign.Open (after s)
@@ -87,11 +95,13 @@ operand_call inside s = do
   e ← sign_at sign.Close o.1
   Ok (o.0, e.1)
 
+-- LOWER(operand), as an operand, where the given reader reads the operand inside
 abbrev pub lower_operand : (State → Read Look) → State → Read Look
 lower_operand inside s = do
   o ← operand_call inside s
   Ok (tree.Lower o.0, o.1)
 
+-- UPPER(operand), as an operand, where the given reader reads the operand inside
 abbrev pub upper_operand : (State → Read Look) → State → Read Look
 upper_operand inside s = do
   o ← operand_call inside s
@@ -106,6 +116,7 @@ operand_at names (_ ∷ room) s =
     else (if call_first (codes "UPPER") s.pieces then upper_operand (operand_at names room) s
     else plain_operand names s)
 
+-- the operator of a comparison that a token is: =, <>, <, <=, >, >= or LIKE
 abbrev pub operator_in : Says → Option Operator
 operator_in (says.Sign sign.Equal) = Some operator.Equal
 operator_in (says.Sign sign.Unequal) = Some operator.Unequal
@@ -116,6 +127,7 @@ operator_in (says.Sign sign.AtLeast) = Some operator.AtLeast
 operator_in (says.Word name) = if is_a (codes "LIKE") name then Some operator.Like else None
 operator_in _ = None
 
+-- the operator of a comparison that the next token is, where it is one
 abbrev pub operator_first : List Placed → Option Operator
 operator_first [] = None
 operator_first (p ∷ ps) = operator_in p.says
@@ -126,21 +138,25 @@ operator_at s = do
   o ← required (operator_first s.pieces) (place s)
   Ok (o, after s)
 
+-- text | number | TRUE | FALSE | $name, as the value of the literal or of the bind variable
 abbrev pub literal_at : State → Read Value
 literal_at s = do
   v ← required (literal_first s.pieces) (place s)
   Ok (v, after s)
 
+-- the text in a CAST, and the value that it has as the kind behind AS, where it has one
 abbrev pub text_at : State → Read (List ℕ × Option Value)
 text_at s = do
   t ← required (text_first s.pieces) (place s)
   Ok (t, after s)
 
+-- the kind that a CAST names behind AS
 abbrev pub kind_at : State → Read Kind
 kind_at s = do
   k ← required (kind_first s.pieces) (place s)
   Ok (k, after s)
 
+-- the kind noted by an earlier CAST that was refused, else the kind of the CAST read now
 abbrev pub first_kind : Option Kind → Kind → Option Kind
 first_kind (Some first) k = Some first
 first_kind None k = Some k
@@ -166,17 +182,21 @@ static_at s = if word_first (codes "CAST") s.pieces then cast_at s else literal_
 
 -- ---- conditions
 
+-- a path, in brackets or as a text
 abbrev pub path_at : State → Read (List (List ℕ))
 path_at s = do
   p ← required (path_first s.pieces) (place s)
   Ok (p, after s)
 
+-- name , before a path, as the place of the selector with that name
 abbrev pub selector_comma : Names → State → Read ℕ
 selector_comma names s = do
   d ← declared_at names s
   c ← sign_at sign.Comma d.1
   Ok (d.0, c.1)
 
+-- nothing before a path, as the place of the query's only selector; a fault where there is not
+-- exactly one
 abbrev pub no_selector : Names → State → Read ℕ
 no_selector names s = do
   p ← only_at names (place s)
@@ -195,16 +215,21 @@ place_call names s = do
   e ← sign_at sign.Close p.1
   Ok ((d.0, p.0), e.1)
 
+-- ISSAMENODE([name,] path), as the condition that a selector's node is the one at the path
 abbrev pub same_test : Names → State → Read Test
 same_test names s = do
   p ← place_call names s
   Ok (tree.Same p.0.0 p.0.1, p.1)
 
+-- ISCHILDNODE([name,] path), as the condition that a selector's node is a child of the one at the
+-- path
 abbrev pub child_test : Names → State → Read Test
 child_test names s = do
   p ← place_call names s
   Ok (tree.Child p.0.0 p.0.1, p.1)
 
+-- ISDESCENDANTNODE([name,] path), as the condition that a selector's node is a descendant of the
+-- one at the path
 abbrev pub descendant_test : Names → State → Read Test
 descendant_test names s = do
   p ← place_call names s
@@ -229,6 +254,7 @@ abbrev pub tested : Look → State → Read Test
 tested (tree.Property p) s = if word_first (codes "IS") s.pieces then not_null p (after s) else compared (tree.Property p) s
 tested o s = compared o s
 
+-- property IS NOT NULL | operand op static, as a condition
 abbrev pub operand_test : Names → State → Read Test
 operand_test names s = do
   o ← operand_at names s.pieces s
@@ -255,6 +281,7 @@ led_name_first ps = selector_first ps && follows_name (behind ps)
 abbrev pub not_first : List Placed → Bool
 not_first ps = word_first (codes "NOT") ps && (not (follows_name (behind ps)) || led_name_first (behind ps))
 
+-- AND and a condition that the given reader reads, together with the condition on the left of AND
 abbrev pub and_more : (State → Read Test) → Test → State → Read Test
 and_more term left s = do
   c ← term (after s)
@@ -266,6 +293,7 @@ and_with term s = do
   c ← term s
   many (word_first (codes "AND")) (and_more term) c.1.pieces c.0 c.1
 
+-- OR and conditions joined by AND, together with the condition on the left of OR
 abbrev pub or_more : (State → Read Test) → Test → State → Read Test
 or_more term left s = do
   c ← and_with term (after s)
@@ -277,6 +305,7 @@ or_with term s = do
   c ← and_with term s
   many (word_first (codes "OR")) (or_more term) c.1.pieces c.0 c.1
 
+-- NOT and a condition that the given reader reads, as the negation of that condition
 unfoldable pub negated : (State → Read Test) → State → Read Test
 negated term s = do
   c ← term (after s)
@@ -298,6 +327,7 @@ not_at names (_ ∷ room) s =
     else (if sign_first sign.Open s.pieces then grouped (not_at names room) s
     else test_at names s)
 
+-- the constraint behind WHERE
 abbrev pub filter_named : Names → State → Read (Option Test)
 filter_named names s = do
   c ← or_with (not_at names s.pieces) s
@@ -323,17 +353,20 @@ order_at names s = do
   d ← direction_at o.1
   Ok (record { look = o.0; direction = d.0 }, d.1)
 
+-- one more ordering behind a comma, after the orderings read so far
 abbrev pub order_more : Names → List By → State → Read (List By)
 order_more names orders s = do
   o ← order_at names (after s)
   Ok (orders ++ o.0 ∷ [], o.1)
 
+-- BY and the first ordering, behind ORDER
 abbrev pub first_order : Names → State → Read (List By)
 first_order names s = do
   b ← word_at (codes "BY") s
   o ← order_at names b.1
   Ok (o.0 ∷ [], o.1)
 
+-- BY order {, order}, behind ORDER
 abbrev pub order_list : Names → State → Read (List By)
 order_list names s = do
   o ← first_order names s

@@ -8,9 +8,12 @@ use Rattle.sql_pieces.specs.declared.piece.Placed.{Placed}
 use Rattle.sql_pieces.specs.declared.piece.Says.{Says}
 use Rattle.sql_pieces.specs.declared.piece.Says.TheVariants as says
 
+-- the BOOLEAN value of the word TRUE or FALSE, in any case; no other word has one
 abbrev pub truth_in : List ℕ → Option Value
 truth_in name = if is_a (codes "TRUE") name then Some (value.Boolean true) else (if is_a (codes "FALSE") name then Some (value.Boolean false) else None)
 
+-- the value of a token that is a literal or a bind variable: a text, a number, `$name`, TRUE or
+-- FALSE
 abbrev pub literal_in : Says → Option Value
 literal_in (says.Text text path cast) = Some (value.Str text)
 literal_in (says.Number n) = Some (value.Long n)
@@ -18,6 +21,7 @@ literal_in (says.Variable v) = Some v
 literal_in (says.Word name) = truth_in name
 literal_in _ = None
 
+-- the value of the next token, where that is a literal or a bind variable
 abbrev pub literal_first : List Placed → Option Value
 literal_first [] = None
 literal_first (p ∷ ps) = literal_in p.says
@@ -27,27 +31,33 @@ abbrev pub text_in : Says → Option (List ℕ × Option Value)
 text_in (says.Text text path cast) = Some (text, cast)
 text_in _ = None
 
+-- the text that the next token is, where it is one, and its value in a CAST
 abbrev pub text_first : List Placed → Option (List ℕ × Option Value)
 text_first [] = None
 text_first (p ∷ ps) = text_in p.says
 
+-- the kind of values (STRING, LONG, ..) that a token's word names, in any case
 abbrev pub kind_in : Says → Option Kind
 kind_in (says.Word name) = kind_named name
 kind_in _ = None
 
+-- the kind of values (STRING, LONG, ..) that the next token names, where it names one
 abbrev pub kind_first : List Placed → Option Kind
 kind_first [] = None
 kind_first (p ∷ ps) = kind_in p.says
 
+-- the path that a token is: one in brackets, or a text that is a path
 abbrev pub path_in : Says → Option (List (List ℕ))
 path_in (says.Path path) = Some path
 path_in (says.Text text path cast) = path
 path_in _ = None
 
+-- the path that the next token is, in brackets or as a text, where it is one
 abbrev pub path_first : List Placed → Option (List (List ℕ))
 path_first [] = None
 path_first (p ∷ ps) = path_in p.says
 
+-- a token is a name that a selector can have: a word, or a name in brackets
 abbrev pub is_selector : Says → Bool
 is_selector (says.Word name) = true
 is_selector (says.Bracketed name) = true

@@ -26,6 +26,7 @@ two_signs a b =
     if a == 60 then (if b == 62 then Some sign.Unequal else (if b == 61 then Some sign.AtMost else None))
     else (if a == 62 then (if b == 61 then Some sign.AtLeast else None) else None)
 
+-- the sign that is written with the given bytes, one or two; none where no sign is so written
 abbrev pub sign_named : List ℕ → Option Sign
 sign_named [] = None
 sign_named (a ∷ []) = one_sign a
@@ -47,6 +48,7 @@ place_from at (n ∷ ns) name =
     if bytes_eq n name then Some at
     else (if nat_lt (at + 1) 4294967296 then place_from (at + 1) ns name else None)
 
+-- the place of a name in a list of names, counted from 0 and below 2^32; none where it isn't there
 abbrev pub place_named : List (List ℕ) → List ℕ → Option ℕ
 place_named = place_from 0
 

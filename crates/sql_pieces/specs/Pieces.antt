@@ -51,6 +51,8 @@ abbrev pub IsCast : Option Kind → List ℕ → Option Value → Type 0
 IsCast None text value = value ≡ None
 IsCast (Some k) text value = IsFound (IsText k text) value
 
+-- what is found is the path that a text is, or nothing where the text is no path of at most
+-- 64 names and 1,024 bytes
 abbrev pub IsPathOrNone : List ℕ → Option (List (List ℕ)) → Type 0
 IsPathOrNone text found = MatchOption found ((path : List (List ℕ)) → ¬ IsPathWithin text path) (IsPathWithin text)
 

@@ -17,11 +17,12 @@ pub record State : Type 0 where
   pub stop : ℕ
   pub refused : Option Kind
 
+-- what reading gives: a thing and what is left of the query then, or the offset where it fails
 abbrev pub Read : Type 0 → Type 0
 Read X = Result (X × State) ℕ
 
--- one reading after another: the first failure stays
 infixl 10 ◌>>=◌
+-- one reading after another: the first failure stays
 abbrev pub ◌>>=◌ : {A B : Type 0} → Result A ℕ → (A → Result B ℕ) → Result B ℕ
 (Ok x) >>= f = f x
 (Err e) >>= f = Err e
@@ -49,10 +50,13 @@ Gives (Err (fault.Cast required found)) given = ⊥
 
 -- ---- what stands at the front
 
+-- the tokens that are left behind the next one
 abbrev pub behind : List Placed → List Placed
 behind [] = []
 behind (p ∷ ps) = ps
 
+-- the offset where the first of the tokens begins; where there is none, the offset of the text's
+-- end
 abbrev pub first_start : List Placed → ℕ → ℕ
 first_start [] stop = stop
 first_start (p ∷ ps) stop = p.start
@@ -65,6 +69,7 @@ place s = first_start s.pieces s.stop
 abbrev pub after : State → State
 after s = record { pieces = behind s.pieces; stop = s.stop; refused = s.refused }
 
+-- a number for each sign, by which signs are told apart
 abbrev pub sign_number : Sign → ℕ
 sign_number sign.Star = 0
 sign_number sign.Comma = 1
@@ -78,9 +83,11 @@ sign_number sign.AtMost = 8
 sign_number sign.Greater = 9
 sign_number sign.AtLeast = 10
 
+-- two signs are one and the same
 abbrev pub same_sign : Sign → Sign → Bool
 same_sign a b = sign_number a == sign_number b
 
+-- what a token says is the wanted sign
 abbrev pub is_sign : Sign → Says → Bool
 is_sign wanted (says.Sign s) = same_sign s wanted
 is_sign wanted _ = false
@@ -90,6 +97,7 @@ abbrev pub sign_first : Sign → List Placed → Bool
 sign_first wanted [] = false
 sign_first wanted (p ∷ ps) = is_sign wanted p.says
 
+-- what a token says is the wanted word, in any case
 abbrev pub is_word : List ℕ → Says → Bool
 is_word wanted (says.Word name) = is_a wanted name
 is_word wanted _ = false
@@ -103,6 +111,7 @@ word_first wanted (p ∷ ps) = is_word wanted p.says
 abbrev pub call_first : List ℕ → List Placed → Bool
 call_first wanted ps = word_first wanted ps && sign_first sign.Open (behind ps)
 
+-- the name that a token says, as a word or in brackets
 abbrev pub name_in : Says → Option (List ℕ)
 name_in (says.Word name) = Some name
 name_in (says.Bracketed name) = Some name
@@ -115,16 +124,20 @@ name_first (p ∷ ps) = name_in p.says
 
 -- ---- reading one token
 
+-- what must be there: the thing, or where it is missing a failure at the given offset
 abbrev pub required : {X : Type 0} → Option X → ℕ → Result X ℕ
 required (Some x) at = Ok x
 required None at = Err at
 
+-- reads the wanted sign, and fails where anything else comes next
 abbrev pub sign_at : Sign → State → Read (Unit {0})
 sign_at wanted s = if sign_first wanted s.pieces then Ok (tt, after s) else Err (place s)
 
+-- reads the wanted word in any case, and fails where anything else comes next
 abbrev pub word_at : List ℕ → State → Read (Unit {0})
 word_at wanted s = if word_first wanted s.pieces then Ok (tt, after s) else Err (place s)
 
+-- reads a name, as a word or in brackets, and fails where anything else comes next
 abbrev pub name_at : State → Read (List ℕ)
 name_at s = do
   name ← required (name_first s.pieces) (place s)

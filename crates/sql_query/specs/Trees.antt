@@ -46,6 +46,7 @@ pub record Asked : Type 0 where
   pub filter : Option Test
   pub orders : List By
 
+-- an operand of a query, without where its parts lie in memory
 abbrev pub look_of : Operand → Look
 look_of (operand.Property p) = Property p
 look_of (operand.Length p) = Length p
@@ -59,6 +60,7 @@ abbrev pub is_property_look : Look → Bool
 is_property_look (Property _) = true
 is_property_look _ = false
 
+-- a condition of a query, without where its parts lie in memory
 abbrev pub test_of : Condition → Test
 test_of (condition.Not' _ c) = Not (test_of c)
 test_of (condition.And' _ c _ d) = And (test_of c) (test_of d)
@@ -69,6 +71,7 @@ test_of (condition.Same selector path) = Same selector path
 test_of (condition.Child selector path) = Child selector path
 test_of (condition.Descendant selector path) = Descendant selector path
 
+-- one ordering of a query, without where its operand lies in memory
 abbrev pub by_of : Order → By
 by_of o = record { look = look_of o.operand; direction = o.direction }
 
@@ -76,5 +79,6 @@ by_of o = record { look = look_of o.operand; direction = o.direction }
 abbrev pub rest_of : Option Condition × List Order → Option Test × List By
 rest_of (filter, orders) = (option_map test_of filter, map by_of orders)
 
+-- what a query asks, without where its parts lie in memory
 abbrev pub asked_of : Query → Asked
 asked_of q = record { types = q.types; joins = q.joins; columns = q.columns; filter = option_map test_of q.filter; orders = map by_of q.orders }

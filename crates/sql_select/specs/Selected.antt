@@ -45,6 +45,8 @@ property_of names at name s = do
   p ← required (place_named names name) at
   Ok (record { selector = p; name = n.0 }, n.1)
 
+-- a property without a selector's name, of the query's only selector; where there is not exactly
+-- one selector, a fault at the property's offset
 abbrev pub bare_property : Names → ℕ → List ℕ → State → Read PropertyOf
 bare_property names at name s = do
   p ← only_at names at
@@ -66,12 +68,14 @@ alias_at s = if word_first (codes "AS") s.pieces then any_name_at (after s) else
 abbrev pub nodes_first : List Placed → Bool
 nodes_first ps = sign_first sign.Dot (behind ps) && sign_first sign.Star (behind (behind ps))
 
+-- name [AS name], behind the selector's name and `.` of a column, while the selectors aren't known
 abbrev pub skim_dotted : State → Read (Option ℕ)
 skim_dotted s = do
   n ← any_name_at s
   a ← alias_at n.1
   Ok (None, a.1)
 
+-- [AS name], behind a property without a selector's name, as the property's offset
 abbrev pub skim_bare : ℕ → State → Read (Option ℕ)
 skim_bare at s = do
   a ← alias_at s
@@ -86,15 +90,20 @@ skim_column s = do
       then (if sign_first sign.Star (behind n.1.pieces) then Ok (None, after (after n.1)) else skim_dotted (after n.1))
       else skim_bare (place s) n.1)
 
+-- the first offset, or where there is none the second
 abbrev pub first_of : Option ℕ → Option ℕ → Option ℕ
 first_of (Some a) b = Some a
 first_of None b = b
 
+-- One more column behind a comma, while the selectors aren't known: the offset of the first
+-- property without a selector's name, in it or in the columns before.
 abbrev pub skim_more : Option ℕ → State → Read (Option ℕ)
 skim_more bare s = do
   c ← skim_column (after s)
   Ok (first_of bare c.0, c.1)
 
+-- column {, column} while the selectors aren't known, as the offset of the first property without a
+-- selector's name
 abbrev pub skim_list : State → Read (Option ℕ)
 skim_list s = do
   c ← skim_column s
@@ -105,30 +114,36 @@ skim_list s = do
 abbrev pub skim_columns : State → Read (Option ℕ)
 skim_columns s = if sign_first sign.Star s.pieces then Ok (None, after s) else skim_list s
 
+-- name.*, as the column of the node of the selector with that name
 abbrev pub nodes_column : Names → State → Read Column
 nodes_column names s = do
   p ← declared_at names s
   Ok (column.Node p.0, after (after p.1))
 
+-- property [AS name], as the column of that property; the name behind AS means nothing
 abbrev pub property_column : Names → State → Read Column
 property_column names s = do
   p ← property_at names s
   a ← alias_at p.1
   Ok (column.Property p.0, a.1)
 
+-- column = name.* | property [AS name], where the selectors are known
 abbrev pub column_at : Names → State → Read Column
 column_at names s = if nodes_first s.pieces then nodes_column names s else property_column names s
 
+-- one more column behind a comma, after the columns read so far
 abbrev pub column_more : Names → List Column → State → Read (List Column)
 column_more names columns s = do
   c ← column_at names (after s)
   Ok (columns ++ c.0 ∷ [], c.1)
 
+-- the first column of a list of columns
 abbrev pub first_column : Names → State → Read (List Column)
 first_column names s = do
   c ← column_at names s
   Ok (c.0 ∷ [], c.1)
 
+-- column {, column}, where the selectors are known
 abbrev pub column_list : Names → State → Read (List Column)
 column_list names s = do
   c ← first_column names s
@@ -145,6 +160,7 @@ columns_at names s = if sign_first sign.Star s.pieces then Ok (node_columns 0 na
 
 -- ---- selectors and joins
 
+-- the name of a selector, behind AS, with the selector's node type
 abbrev pub selector_named : List ℕ → State → Read (List ℕ × List ℕ)
 selector_named type s = do
   n ← name_at s
@@ -157,14 +173,17 @@ selector_at s = do
   t ← name_at s
   (if word_first (codes "AS") t.1.pieces then selector_named t.0 (after t.1) else Ok ((t.0, t.0), t.1))
 
+-- a join comes next: one of the words JOIN, INNER, LEFT and RIGHT
 abbrev pub join_first : List Placed → Bool
 join_first ps = word_first (codes "JOIN") ps || word_first (codes "INNER") ps || word_first (codes "LEFT") ps || word_first (codes "RIGHT") ps
 
+-- JOIN, behind INNER, as the kind of join
 abbrev pub inner_join : State → Read JoinKind
 inner_join s = do
   j ← word_at (codes "JOIN") s
   Ok (join.Inner, j.1)
 
+-- OUTER JOIN, behind LEFT or RIGHT, as the kind of join that the word before OUTER says
 abbrev pub outer_join : JoinKind → State → Read JoinKind
 outer_join kind s = do
   o ← word_at (codes "OUTER") s
@@ -189,21 +208,27 @@ pair_at names s = do
   e ← sign_at sign.Close b.1
   Ok ((a.0, b.0), e.1)
 
+-- ISSAMENODE(name, name): two selectors are joined where their nodes are one
 abbrev pub same_nodes : Names → State → Read On
 same_nodes names s = do
   p ← pair_at names s
   Ok (on.Same p.0.0 p.0.1, p.1)
 
+-- ISCHILDNODE(name, name): two selectors are joined where the first's node is a child of the
+-- second's
 abbrev pub child_nodes : Names → State → Read On
 child_nodes names s = do
   p ← pair_at names s
   Ok (on.Child p.0.0 p.0.1, p.1)
 
+-- ISDESCENDANTNODE(name, name): two selectors are joined where the first's node is a descendant of
+-- the second's
 abbrev pub descendant_nodes : Names → State → Read On
 descendant_nodes names s = do
   p ← pair_at names s
   Ok (on.Descendant p.0.0 p.0.1, p.1)
 
+-- property = property: two selectors are joined where properties of their nodes are equal
 abbrev pub equal_properties : Names → State → Read On
 equal_properties names s = do
   p ← property_at names s
@@ -224,6 +249,7 @@ abbrev pub no_bare : Option ℕ → Result (Unit {0}) ℕ
 no_bare None = Ok tt
 no_bare (Some at) = Err at
 
+-- the sources with one more selector, given by its node type and its name, and with its join
 abbrev pub joined : Sources → List ℕ × List ℕ → Join → Sources
 joined sources t j = record { types = sources.types ++ t.0 ∷ []; names = sources.names ++ t.1 ∷ []; joins = sources.joins ++ j ∷ [] }
 
@@ -238,6 +264,7 @@ join_at bare sources s = do
   o ← on_at (sources.names ++ t.0.1 ∷ []) w.1
   Ok (joined sources t.0 (record { kind = k.0; on = o.0 }), o.1)
 
+-- the first selector of a query, as sources with no join yet
 abbrev pub source_at : State → Read Sources
 source_at s = do
   t ← selector_at s
@@ -273,6 +300,7 @@ skim_equal s = do
   e ← sign_at sign.Equal p.1
   skim_property e.1
 
+-- a join's condition on two nodes comes next: ISSAMENODE, ISCHILDNODE or ISDESCENDANTNODE, and `(`
 abbrev pub pair_first : List Placed → Bool
 pair_first ps = call_first (codes "ISSAMENODE") ps || call_first (codes "ISCHILDNODE") ps || call_first (codes "ISDESCENDANTNODE") ps
 
@@ -301,11 +329,13 @@ skim_join s = do
   c ← skim_condition n.1
   Ok (n.0, c.1)
 
+-- one more join, as the selectors' names read so far and that of its selector
 abbrev pub names_more : Names → State → Read Names
 names_more names s = do
   n ← skim_join s
   Ok (names ++ n.0 ∷ [], n.1)
 
+-- the first selector of a query, as a list of its name alone
 abbrev pub first_name : State → Read Names
 first_name s = do
   n ← skim_selector s
@@ -319,6 +349,7 @@ skim_sources s = do
 
 -- ---- as far as the selectors
 
+-- no tokens are left
 abbrev pub no_pieces : List Placed → Bool
 no_pieces [] = true
 no_pieces (_ ∷ _) = false
@@ -327,6 +358,7 @@ no_pieces (_ ∷ _) = false
 abbrev pub is_whole : List Placed → Bool
 is_whole ps = no_pieces ps || word_first (codes "WHERE") ps || word_first (codes "ORDER") ps
 
+-- a fault at what comes next unless the list of selectors ends there, with WHERE, ORDER or the end
 abbrev pub whole_at : State → Result (Unit {0}) ℕ
 whole_at s = if is_whole s.pieces then Ok tt else Err (place s)
 

@@ -16,6 +16,7 @@ parts_after true [] = Exactly 92 ∷ []
 parts_after true (c ∷ cs) = Exactly c ∷ parts_after false cs
 parts_after false (c ∷ cs) = cond (c == 92) (parts_after true cs) (plain_part c ∷ parts_after false cs)
 
+-- the parts of a LIKE pattern, from its characters
 abbrev pub parts_of : List ℕ → List Part
 parts_of cs = parts_after false cs
 
@@ -24,6 +25,8 @@ abbrev pub first_part : ℕ → List ℕ → Part
 first_part c [] = plain_part c
 first_part c (d ∷ ds) = cond (c == 92) (Exactly d) (plain_part c)
 
+-- the characters that are left behind the first part of a pattern, which the given character
+-- begins; `\` (92) takes one more with it, where one follows
 abbrev pub behind_part : ℕ → List ℕ → List ℕ
 behind_part c [] = []
 behind_part c (d ∷ ds) = cond (c == 92) ds (d ∷ ds)
@@ -38,6 +41,7 @@ abbrev pub first_is : (ℕ → Bool) → (List ℕ → Bool) → List ℕ → Bo
 first_is q p [] = false
 first_is q p (c ∷ cs) = q c && p cs
 
+-- no characters are left
 abbrev pub is_empty : List ℕ → Bool
 is_empty [] = true
 is_empty (c ∷ cs) = false

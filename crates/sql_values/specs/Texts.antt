@@ -38,6 +38,7 @@ size_of x = length (chars (text_of x))
 abbrev pub long_of : ℕ → Value
 long_of n = value.Long (pos n)
 
+-- the LENGTH of a property: in the place of each value its size, as a LONG
 abbrev pub lengths_of : Property → Property
 lengths_of (Single x) = Single (long_of (size_of x))
 lengths_of (Many k xs) = Many kind.Long (map (λ x. long_of (size_of x)) xs)

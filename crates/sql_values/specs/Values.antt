@@ -51,6 +51,7 @@ abbrev pub values_of : Property → List Value
 values_of (Single x) = x ∷ []
 values_of (Many k xs) = xs
 
+-- the values of a property of a node, none where the node has no such property
 abbrev pub values_in : Option Property → List Value
 values_in o = option_map_or values_of o []
 
