@@ -42,7 +42,8 @@ pub record IsAskedFor (asks : Asks) (h : History) (e : Event) : Type 0 where
   pub made : IsTrue (is_made_by h session e)
   pub asked : asks session (next_index h.past session) e
 
--- the same of each event but a reply, which a run says of the next command alone
+-- the event is asked for, unless it is a reply: of a reply a run itself says that it answers the
+-- next command
 abbrev pub IsAsked : Asks → History → Event → Type 0
 IsAsked asks h (event.Said s i text) = Unit {0}
 IsAsked asks h e = IsAskedFor asks h e
@@ -52,6 +53,6 @@ abbrev pub AreAskedIn : Asks → History → Past → Type 0
 AreAskedIn asks h [] = Unit {0}
 AreAskedIn asks h (e ∷ past) = IsAsked asks (record h { past = past }) e × AreAskedIn asks h past
 
--- each event of a history is
+-- each event of a history is made for a command that asks for it
 abbrev pub AreAsked : Asks → History → Type 0
 AreAsked asks h = AreAskedIn asks h h.past

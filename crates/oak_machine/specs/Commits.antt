@@ -18,14 +18,17 @@ use Rattle.oak_machine.specs.declared.event.Event.{Event}
 use Rattle.oak_machine.specs.declared.event.Event.TheVariants as event
 use Rattle.oak_machine.specs.History.{Begin, Past, begin_tree}
 
+-- the event is the commit of revision r
 abbrev pub is_commit_of : Revision → Event → Bool
 is_commit_of r (event.Commit q) = is_same r q
 is_commit_of r _ = false
 
+-- the event is the refusal of revision r, for whatever item and other revision
 abbrev pub is_refusal_of : Revision → Event → Bool
 is_refusal_of r (event.Refuse q item o) = is_same r q
 is_refusal_of r _ = false
 
+-- the event is the end of revision r
 abbrev pub is_end_of : Revision → Event → Bool
 is_end_of r (event.End q) = is_same r q
 is_end_of r _ = false
@@ -36,15 +39,19 @@ draw_of [] r = None
 draw_of (event.Draw d ∷ past) r = cond (is_same r d.revision) (Some d) (draw_of past r)
 draw_of (_ ∷ past) r = draw_of past r
 
+-- revision r was drawn
 abbrev pub is_drawn : Past → Revision → Bool
 is_drawn past r = is_some (draw_of past r)
 
+-- revision r was committed
 abbrev pub is_committed : Past → Revision → Bool
 is_committed past r = list_any (is_commit_of r) past
 
+-- revision r was refused
 abbrev pub is_refused : Past → Revision → Bool
 is_refused past r = list_any (is_refusal_of r) past
 
+-- revision r has ended
 abbrev pub is_ended : Past → Revision → Bool
 is_ended past r = list_any (is_end_of r) past
 

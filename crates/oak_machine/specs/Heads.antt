@@ -16,6 +16,7 @@ draws_by [] k = []
 draws_by (event.Draw d ∷ past) k = cond (d.revision.cluster == k) (d.revision ∷ draws_by past k) (draws_by past k)
 draws_by (_ ∷ past) k = draws_by past k
 
+-- the greater of two revisions
 abbrev pub greater_of : Revision → Revision → Revision
 greater_of a b = cond (is_before a b) b a
 
@@ -23,7 +24,7 @@ greater_of a b = cond (is_before a b) b a
 abbrev pub greatest : Revision → List Revision → Revision
 greatest first rs = fold greater_of first rs
 
--- the same, where there are others
+-- the greatest of a first revision and some others, where there are others
 abbrev pub greatest_of : Revision → List Revision → Option Revision
 greatest_of first [] = None
 greatest_of first (r ∷ rs) = Some (greatest first (r ∷ rs))
@@ -44,11 +45,12 @@ is_below_flying past k r = list_all (is_before r) (flying past k)
 abbrev pub below_flying : Past → ℕ → List Revision
 below_flying past k = filter (is_below_flying past k) (draws_by past k)
 
--- the greatest of them, or what cluster node k begins from
+-- the local revision of cluster node k: the greatest that it drew below every one of it in flight,
+-- or what it begins from
 abbrev pub local : Begin → Past → ℕ → Revision
 local begin past k = greatest (begin_of begin k) (below_flying past k)
 
--- the greatest of them, where there is one
+-- the greatest revision that cluster node k drew below every one of it in flight, if there is one
 abbrev pub local_head : Begin → Past → ℕ → Option Revision
 local_head begin past k = greatest_of (begin_of begin k) (below_flying past k)
 
@@ -58,7 +60,7 @@ outs_of [] k = []
 outs_of (event.Out m r ∷ past) k = cond (m == k) (r ∷ outs_of past k) (outs_of past k)
 outs_of (_ ∷ past) k = outs_of past k
 
--- the greatest of it, or what cluster node k begins from
+-- the greatest revision that cluster node k has published, or what it begins from
 abbrev pub published : Begin → Past → ℕ → Revision
 published begin past k = greatest (begin_of begin k) (outs_of past k)
 

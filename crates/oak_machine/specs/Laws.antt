@@ -61,6 +61,7 @@ after added h = record h { past = added ++ h.past }
 abbrev pub HasBase : History → ℕ → RevVec → Type 0
 HasBase h s v = base_of h.past s ≡ Some v
 
+-- the mark is of an item: an Exists of a node, or a Prop of a property
 abbrev pub is_of_item_mark : Mark → Bool
 is_of_item_mark Exists = true
 is_of_item_mark (Prop n) = true

@@ -34,6 +34,7 @@ mark_rank Guard = 1
 mark_rank Touch = 2
 mark_rank (Prop n) = 3
 
+-- the name of the property that a Prop marks, and no name for each other mark
 abbrev pub mark_name : Mark → Name
 mark_name (Prop n) = n
 mark_name _ = []

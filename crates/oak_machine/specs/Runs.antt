@@ -30,11 +30,15 @@ IsHeadFor h s v = (k : ℕ) × (slice_get h.sessions s ≡ Some k) × (v ≡ hea
 abbrev pub IsRunning : History → ℕ → Type 0
 IsRunning h s = IsFalse (is_stopped_under h.sessions h.past s)
 
+-- session s may log in at v: it never did, its cluster node was not stopped, and v is the head of
+-- the node
 pub record MayLogin (h : History) (s : ℕ) (v : RevVec) : Type 0 where
   pub running : IsRunning h s
   pub first : IsFalse (has_login h.past s)
   pub head : IsHeadFor h s v
 
+-- session s may refresh to v: it has logged in and has no draw in flight, its cluster node was not
+-- stopped, and v is the head of the node
 pub record MayRefresh (h : History) (s : ℕ) (v : RevVec) : Type 0 where
   pub running : IsRunning h s
   pub login : IsTrue (has_login h.past s)
@@ -80,6 +84,8 @@ pub record MayRefuse (past : Past) (r : Revision) (item : Item) (o : Revision) :
 abbrev pub learned : ℕ → Begin → Past → Past → ℕ → RevVec
 learned clusters begin now earlier k = fold (λ v m. cond (m == k) v (raised v (published begin earlier m))) (head_of clusters begin now k) (range_with_len 1 clusters)
 
+-- cluster node k may learn v: its head, with the entries of the other nodes raised to what they had
+-- published at one moment up to now
 abbrev pub MayLearn : History → ℕ → RevVec → Type 0
 MayLearn h k v = (n : ℕ) × (v ≡ learned h.clusters h.begin h.past (drop n h.past) k)
 
@@ -93,10 +99,12 @@ pub record MayBound (h : History) (m t : RevVec) : Type 0 where
 abbrev pub is_skip : ℕ → ℕ → Bool
 is_skip read found = not (read == found) || read == 2 ^ 64 - 1
 
+-- a split may end so: with what it moved, or skipped with the two numbers of a skip
 abbrev pub is_split_end : SplitEnd → Bool
 is_split_end (split.Split n) = true
 is_split_end (split.Skipped read found) = is_skip read found
 
+-- the event is a Bound: the bounds of a collection were taken
 abbrev pub is_bound : Event → Bool
 is_bound (event.Bound m t) = true
 is_bound _ = false
@@ -131,10 +139,11 @@ MayFollow starts says h (event.Said s i text) = (i ≡ next_index h.past s) × s
 MayFollow starts says h (event.Stop k) = IsFalse (is_stopped h.past k)
 MayFollow starts says h (event.Recover k) = IsTrue (is_stopped h.past k) × IsFalse (is_flying h.past k)
 
--- a law that lets everything start, and everything be said
+-- a law that lets every edit start
 abbrev pub any_start : Starts
 any_start h s edit marks = Unit {0}
 
+-- a law that lets every text be said as every reply
 abbrev pub any_said : Says
 any_said h s i text = Unit {0}
 
@@ -144,11 +153,13 @@ IsLawful starts says h (event.Draw d) = starts h d.session d.edit d.marks
 IsLawful starts says h (event.Said s i text) = says h s i text
 IsLawful starts says h _ = Unit {0}
 
+-- the past is that of a run of these cluster nodes and sessions: it begins properly, and each event
+-- may follow the events before it
 abbrev pub IsRunOf : Starts → Says → ℕ → List ℕ → Begin → Past → Type 0
 IsRunOf starts says clusters sessions begin [] = IsBegun clusters begin
 IsRunOf starts says clusters sessions begin (e ∷ past) = MayFollow starts says (record { clusters = clusters; sessions = sessions; begin = begin; past = past }) e × IsRunOf starts says clusters sessions begin past
 
--- it begins properly, and each event may follow the events before it
+-- a history is a run: it begins properly, and each event may follow the events before it
 abbrev pub IsRun : Starts → Says → History → Type 0
 IsRun starts says h = IsRunOf starts says h.clusters h.sessions h.begin h.past
 

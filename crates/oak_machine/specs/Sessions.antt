@@ -13,6 +13,7 @@ use Rattle.oak_machine.specs.declared.event.Event.TheVariants as event
 use Rattle.oak_machine.specs.History.{Past}
 use Rattle.oak_machine.specs.Commits.{is_ended}
 
+-- two texts are equal
 abbrev pub is_text : Text → Text → Bool
 is_text = eq_by_cmp name_cmp
 
@@ -37,7 +38,7 @@ base_of (event.Refresh t v ∷ past) s = cond (t == s) (Some v) (base_of past s)
 base_of (event.Attach t id ∷ past) s = cond (t == s) (last_checkpoint past id) (base_of past s)
 base_of (_ ∷ past) s = base_of past s
 
--- the latest of these events of s is an Attach
+-- the latest Login, Refresh or Attach of s is an Attach
 abbrev pub is_attached : Past → ℕ → Bool
 is_attached [] s = false
 is_attached (event.Login t v ∷ past) s = cond (t == s) false (is_attached past s)
@@ -52,17 +53,21 @@ has_reader (event.Attach t id ∷ past) s = cond (t == s) true (has_reader past 
 has_reader (event.Detach t ∷ past) s = cond (t == s) false (has_reader past s)
 has_reader (_ ∷ past) s = has_reader past s
 
+-- the event is a Login of session s
 abbrev pub is_login_of : ℕ → Event → Bool
 is_login_of s (event.Login t v) = t == s
 is_login_of s _ = false
 
+-- session s has logged in
 abbrev pub has_login : Past → ℕ → Bool
 has_login past s = list_any (is_login_of s) past
 
+-- the event is the one with which session s leaves
 abbrev pub is_end_of_session : ℕ → Event → Bool
 is_end_of_session s (event.Went t kind.End) = t == s
 is_end_of_session s _ = false
 
+-- session s has left
 abbrev pub has_left : Past → ℕ → Bool
 has_left past s = list_any (is_end_of_session s) past
 
@@ -72,9 +77,11 @@ is_drawing_among now [] s = false
 is_drawing_among now (event.Draw d ∷ past) s = (d.session == s && not (is_ended now d.revision)) || is_drawing_among now past s
 is_drawing_among now (_ ∷ past) s = is_drawing_among now past s
 
+-- session s has a draw in flight
 abbrev pub is_drawing : Past → ℕ → Bool
 is_drawing past s = is_drawing_among past past s
 
+-- the event is a Stop of cluster node k
 abbrev pub is_stop_of : ℕ → Event → Bool
 is_stop_of k (event.Stop m) = m == k
 is_stop_of k _ = false
@@ -83,11 +90,12 @@ is_stop_of k _ = false
 abbrev pub is_stopped : Past → ℕ → Bool
 is_stopped past k = list_any (is_stop_of k) past
 
+-- the event is a Recover of cluster node k
 abbrev pub is_recovery_of : ℕ → Event → Bool
 is_recovery_of k (event.Recover m) = m == k
 is_recovery_of k _ = false
 
--- and was recovered
+-- cluster node k was recovered
 abbrev pub is_recovered : Past → ℕ → Bool
 is_recovered past k = list_any (is_recovery_of k) past
 
@@ -95,6 +103,7 @@ is_recovered past k = list_any (is_recovery_of k) past
 abbrev pub is_stopped_under : List ℕ → Past → ℕ → Bool
 is_stopped_under sessions past s = option_map_or (is_stopped past) (slice_get sessions s) false
 
+-- the event is a reply of session s
 abbrev pub is_reply_of : ℕ → Event → Bool
 is_reply_of s (event.Said t i text) = t == s
 is_reply_of s _ = false
@@ -124,6 +133,7 @@ refreshed_among [] s = None
 refreshed_among (event.Refresh t v ∷ past) s = cond (t == s) (Some v) (refreshed_among past s)
 refreshed_among (_ ∷ past) s = refreshed_among past s
 
+-- the vector of the last Refresh of s for the command that it has not answered yet
 abbrev pub refreshed_since : Past → ℕ → Option RevVec
 refreshed_since past s = refreshed_among (since past s) s
 
@@ -136,7 +146,7 @@ pinned_at (event.Login t v ∷ past) s = cond (t == s) (Some v) (pinned_at past 
 pinned_at (event.Refresh t v ∷ past) s = cond (t == s) (Some v) (pinned_at past s)
 pinned_at (_ ∷ past) s = pinned_at past s
 
--- the same, from the session's login until it leaves
+-- the vector of the latest Login or Refresh of session s, from its login until it leaves
 abbrev pub session_base : Past → ℕ → Option RevVec
 session_base past s = cond (has_login past s && not (has_left past s)) (pinned_at past s) None
 

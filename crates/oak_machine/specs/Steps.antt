@@ -37,7 +37,8 @@ is_recovery [] k (event.Recover m ∷ []) = m == k
 is_recovery (r ∷ rs) k (event.End q ∷ events) = is_same r q && is_recovery rs k events
 is_recovery rs k events = false
 
--- these are all of it that are in flight, in the order in which they were drawn
+-- the events are a recovery of the stopped cluster node k: the ends of all its revisions in
+-- flight, in the order in which they were drawn, and then Recover
 abbrev pub is_recovery_at : History → ℕ → List Event → Bool
 is_recovery_at h k events = is_stopped h.past k && is_recovery (reverse (flying h.past k)) k events
 
@@ -95,6 +96,7 @@ kind_number kind.End = 17
 kind_number kind.Stop = 18
 kind_number kind.Recover = 19
 
+-- two kinds of steps are equal, by their numbers
 abbrev pub is_kind : StepKind → StepKind → Bool
 is_kind a b = kind_number a == kind_number b
 
