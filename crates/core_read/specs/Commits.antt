@@ -28,7 +28,7 @@ abbrev pub last : {X : Type 0} → (Write → Option X) → Sight → Commits �
 last f s [] = None
 last f s (e ∷ es) = option_or (cond (s e.0) (written f e.1) None) (last f s es)
 
--- what the last write of an item writes, over the edits that are seen, with the revision of its edit
+-- what the last write of an item writes, over the edits that are seen, with that edit's revision
 abbrev pub last_entry : {X : Type 0} → (Write → Option X) → Sight → Commits → Option (Revision × X)
 last_entry f s [] = None
 last_entry f s (e ∷ es) = option_or (option_map (λ x. (e.0, x)) (cond (s e.0) (written f e.1) None)) (last_entry f s es)

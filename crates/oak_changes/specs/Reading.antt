@@ -80,7 +80,7 @@ abbrev pub with_document : ChangesReader → DocId → Document → ChangesReade
 with_document r (id.Node p) d = begun_at r p d
 with_document r _ d = ended r
 
--- what a reader keeps once the document behind a node's comes, or none is left
+-- what a reader keeps once the next document in store order comes, or none is left
 abbrev pub fed_next : ChangesReader → Option Document → ChangesReader
 fed_next r None = ended r
 fed_next r (Some d) = with_document r d.id d

@@ -49,7 +49,7 @@ abbrev pub asks_behind : Revision → List Path → List Ask
 asks_behind target nodes = map (λ p. ask.NextAfter (Some (id.Node p))) nodes ++ (ask.Update (sweep_op target) ∷ ask.Memory (memory.Learn no_entries (raised no_entries target)) ∷ [])
 
 -- a sweep over documents at rest asks for the root's document, and for each node's in store order,
--- then publishes and learns what the cluster node had published at its begin, and is done
+-- raises the entry of `_sweepRev` to what the cluster node had published, and is done
 abbrev pub SweepsAll : Type 0
 SweepsAll = (table : List (DocId × Document)) (a : Global) (cluster : ℕ) → reading.IsTable table
     → let target = target_in cluster (documents_in table (id.Node [])) in
