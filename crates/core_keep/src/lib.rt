@@ -298,8 +298,8 @@ pub fn others_let_readers_go_on()
         → GoesOn ds ds c later v t p copy asked }
 {}
 
-/// The same where the journal begins with a start, as of a repository opened from documents: its
-/// tree is what the bounds see first.
+/// Kept documents mean the tree also where the journal begins with a start, as of a repository
+/// opened from documents: the tree of the start is what the bounds see first.
 pub fn kept_documents_with_a_start_mean_the_tree()
     ensures { (start : Start) (past : Past) (base : Revision → Sight) (ds : Documents)
         (v t : RevVec) (p : Path) → IsFirst start.tree

@@ -37,7 +37,7 @@ begin_time begin = option_map_or (λ s. greatest_time s.at) begin 0
 abbrev pub revisions_above : Begin → Past → ℕ → List Revision
 revisions_above begin past k = filter (is_before (local begin past k)) (reverse (draws_by past k))
 
--- the same, as a memory keeps them
+-- the revisions that cluster node k drew above its local one, as a memory keeps them
 abbrev pub drawn_above : Begin → Past → ℕ → List Drawn
 drawn_above begin past k = map (as_drawn past) (revisions_above begin past k)
 
@@ -157,7 +157,8 @@ cursor_base sessions past k owner = cond (nat_le 64 owner && is_of_node sessions
 abbrev pub owner_base : List ℕ → Past → ℕ → ℕ → Option RevVec
 owner_base sessions past k owner = cond (is_some (slice_get sessions owner)) (cond (is_of_node sessions k owner) (session_base past owner) None) (cursor_base sessions past k owner)
 
--- the same, until the node is recovered, when all its pins go
+-- the vector at which cluster node k pins an owner, until the node is recovered, when all its
+-- pins go
 abbrev pub kept_base : List ℕ → Past → ℕ → ℕ → Option RevVec
 kept_base sessions past k owner = cond (is_recovered past k) None (owner_base sessions past k owner)
 
@@ -186,7 +187,7 @@ pub record IsCursorAt (sessions : List ℕ) (past : Past) (k owner : ℕ) (v : R
   pub node : slice_get sessions session ≡ Some k
   pub base : cursor_at past session ≡ Some v
 
--- the same memory, with no pin for the session, nor for its cursor
+-- a cluster node's memory, with no pin for the session, nor for its cursor
 abbrev pub without_session : NodeState → ℕ → NodeState
 without_session m s = without_pin (without_pin m s) (cursor_owner s)
 

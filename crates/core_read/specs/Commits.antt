@@ -28,7 +28,7 @@ abbrev pub last : {X : Type 0} → (Write → Option X) → Sight → Commits �
 last f s [] = None
 last f s (e ∷ es) = option_or (cond (s e.0) (written f e.1) None) (last f s es)
 
--- the same, with the revision of that edit
+-- what the last write of an item writes, over the edits that are seen, with that edit's revision
 abbrev pub last_entry : {X : Type 0} → (Write → Option X) → Sight → Commits → Option (Revision × X)
 last_entry f s [] = None
 last_entry f s (e ∷ es) = option_or (option_map (λ x. (e.0, x)) (cond (s e.0) (written f e.1) None)) (last_entry f s es)
@@ -58,6 +58,7 @@ pub record IsSound (base : Revision → Sight) (e : Revision × List Write) (es 
   pub closed : Closed base (base e.0) es
   pub apart : Each (λ o. IsFalse (base e.0 o.0) → Apart e.1 o.1) es
 
+-- each edit is sound over the earlier ones
 abbrev pub AreSound : (Revision → Sight) → Commits → Type 0
 AreSound base [] = Unit {0}
 AreSound base (e ∷ es) = IsSound base e es × AreSound base es

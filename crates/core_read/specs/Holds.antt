@@ -64,7 +64,7 @@ pub record IsReady (past : Past) (r : Revision) (ws : List Write) : Type 0 where
   pub rises : (o : Revision) → IsTrue (is_in_base past r o) → IsTrue (is_before o r)
   pub closed : (o : Revision) (us : List Write) → edit_of past o ≡ Some us → IsTrue (is_in_base past r o) → (q : Revision) → IsTrue (is_in_base past o q) → IsTrue (is_in_base past r q)
 
--- and it is apart from each earlier committed edit that its base doesn't see
+-- an edit is ready, and apart from each earlier committed edit that its base doesn't see
 pub record IsSoundEdit (past : Past) (r : Revision) (ws : List Write) : Type 0 where
   pub ready : IsReady past r ws
   pub apart : (o : Revision) (us : List Write) → edit_of past o ≡ Some us → IsTrue (is_before o r) → IsFalse (is_in_base past r o) → Apart ws us
@@ -89,10 +89,11 @@ is_at_path p (Unset q m) = eq_by_cmp path_cmp p q
 abbrev pub here_entry : Option Document → Revision → Option Bool
 here_entry o r = option_and_then (λ d. option_map not (of_revision d.deleted r)) o
 
+-- the entry of r for property n in a document: its value, or that it was removed
 abbrev pub prop_entry : Option Document → Name → Revision → Option (Option Property)
 prop_entry o n r = option_and_then (λ d. of_revision (values_of_property d.props n) r) o
 
--- the depth of the commit root that it notes for r
+-- the depth of the commit root that a document notes for r
 abbrev pub root_entry : Option Document → Revision → Option ℕ
 root_entry o r = option_and_then (λ d. of_revision d.commit_root r) o
 

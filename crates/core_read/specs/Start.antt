@@ -21,9 +21,11 @@ start_document v p type = record (document_of None (id.Node p)) {
   sweep_rev = v;
 }
 
+-- the path of `jcr:system`
 abbrev pub system : Path
 system = codes "jcr:system" ∷ []
 
+-- the path of the version storage, `jcr:versionStorage` in `jcr:system`
 abbrev pub versions : Path
 versions = codes "jcr:system" ∷ codes "jcr:versionStorage" ∷ []
 

@@ -33,7 +33,7 @@ pub record CanAllBound (w : State) : Type 0 where
 pub record IsBounding (w : State) (k : ℕ) (x : Pin) : Type 0 where
   -- the least so far can bound
   pub can : CanBound w.begin w.clusters w.past x
-  -- it is at most their heads and pins now
+  -- the least so far is at most the heads and pins of the cluster nodes below k now
   pub heads : (j : ℕ) → IsNode w.clusters j → j < k → IsFalse ((holding_in w).gone j)
       → IsPairBelow x ((holding_in w).heads j)
   pub pins : (j : ℕ) → IsNode w.clusters j → j < k → IsFalse ((holding_in w).gone j)

@@ -114,7 +114,7 @@ pub record AreReading (start : Start) (past : Past) (t : Table) (formers : Forme
       → IsReading start (documents_in t.documents) past formers r
   -- its pair is above the bounds so far
   pub above : (s : ℕ) (r : Reader) → reading s ≡ Some r → IsAboveBounds start past r.pin
-  -- it reads at the base of its session, with a sweep vector that goes with it
+  -- a reader reads at the base of its session, with a sweep vector that goes with it
   pub at_base : (s : ℕ) (r : Reader) → reading s ≡ Some r → live_base past s ≡ Some r.pin.base
   pub pairs : (s : ℕ) (r : Reader) → reading s ≡ Some r → IsPair r.pin.base r.pin.sweep
 

@@ -46,8 +46,8 @@ use Rattle.core_world.specs.States.{State, base_in, memory_at, memory_of, node_o
 
 -- ---- documents
 
--- the table with the document that an update makes, under the next number; a refused update leaves
--- it as it was
+-- the table with the document that an update makes, under the next number; a refused update
+-- leaves the table as it was
 abbrev pub with_result : Table → DocId → Result Document OpFault → Table
 with_result t id (Ok d) = with_document t id d (next_number t)
 with_result t id (Err fault) = t
@@ -80,40 +80,40 @@ after_login w s = record w {
   memories = memories_with w s (pinned (memory_of w s) s);
 }
 
--- its pin moves to the head
+-- session s refreshes: its pin moves to the head of its node
 abbrev pub after_refresh : State → ℕ → State
 after_refresh w s = record w {
   past = event.Refresh s (memory_of w s).head ∷ w.past;
   memories = memories_with w s (pinned (memory_of w s) s);
 }
 
--- it leaves, and has no pin any more, nor has its cursor
+-- session s leaves, and has no pin any more, nor has its cursor
 abbrev pub after_leave : State → ℕ → State
 after_leave w s = record w {
   past = event.Went s kind.End ∷ w.past;
   memories = memories_with w s (without_session (memory_of w s) s);
 }
 
--- it observes: its cursor is pinned at its own pin
+-- session s observes: its cursor is pinned at its own pin
 abbrev pub after_observe : State → ℕ → Pin → State
 after_observe w s pin = record w {
   past = event.Went s kind.Pin ∷ w.past;
   memories = memories_with w s (with_pin (memory_of w s) (cursor_owner s) pin);
 }
 
--- it says its reply of index i
+-- session s says its reply of index i
 abbrev pub after_said : State → ℕ → ℕ → Text → State
 after_said w s i text = record w { past = event.Said s i text ∷ w.past }
 
--- it makes a step of a kind that changes neither documents nor memories
+-- session s makes a step of a kind that changes neither documents nor memories
 abbrev pub after_went : State → ℕ → StepKind → State
 after_went w s k = record w { past = event.Went s k ∷ w.past }
 
--- its reader is this now, or it has none
+-- the reader of session s is r now, or it has none
 abbrev pub with_reader : State → ℕ → Option Reader → State
 with_reader w s r = record w { reading = with_session w.reading s r }
 
--- its reader of changes is this now, or it has none
+-- the reader of changes of session s is r now, or it has none
 abbrev pub with_observer : State → ℕ → Option ChangesReader → State
 with_observer w s r = record w { observing = with_session w.observing s r }
 
@@ -176,7 +176,8 @@ after_write w s x p rest = record w {
   });
 }
 
--- the same, but memory is refused for what it meets there: it turns to undoing
+-- the committer x writes the document of p, but memory is refused for what it meets there, so it
+-- turns to undoing
 abbrev pub after_write_in_want : State → ℕ → Running → Path → List Path → State
 after_write_in_want w s x p rest = record w {
   past = event.Went s kind.Write ∷ w.past;
@@ -190,7 +191,7 @@ after_write_in_want w s x p rest = record w {
   });
 }
 
--- it is refused with its item and the other revision, and turns to undoing
+-- the committer x is refused with its item and the other revision, and turns to undoing
 abbrev pub refused : State → ℕ → Running → Item → Revision → State
 refused w s x item o = record w {
   past = event.Refuse x.draw.revision item o ∷ w.past;
@@ -206,8 +207,8 @@ marked_by w s x f rest (Ok d) = record w {
 }
 marked_by w s x f rest (Err fault) = refused w s x f.mine f.other
 
--- it marks the collision f on the commit root of the other, with `rest` to mark still; or the other
--- is committed, and it is refused
+-- the committer x marks the collision f on the commit root of the other, with `rest` to mark
+-- still; or the other is committed, and x is refused
 abbrev pub after_mark : State → ℕ → Running → Met → List Met → State
 after_mark w s x f rest =
     marked_by w s x f rest
@@ -226,7 +227,8 @@ lasted_by w s x (Ok d) = record w {
 lasted_by w s x (Err (fault.Unmet c (kept.Entry o item))) = refused w s x item o
 lasted_by w s x (Err _) = w
 
--- it commits on its commit root; or somebody marked a collision with it there, and it is refused
+-- the committer x commits on its commit root, or is refused where somebody marked a collision
+-- with it there
 abbrev pub after_last : State → ℕ → Running → State
 after_last w s x =
     lasted_by w s x
@@ -239,7 +241,7 @@ after_want w s x = record w {
   running = goes_on w s x (record x.writer { due = []; undoing = true; wants = true });
 }
 
--- it undoes the document of p, with `rest` to undo still
+-- the committer x undoes the document of p, with `rest` to undo still
 abbrev pub after_undoing : State → ℕ → Running → Path → List Path → State
 after_undoing w s x p rest = record w {
   past = event.Went s kind.Undo ∷ w.past;
@@ -252,7 +254,7 @@ abbrev pub moved_head : ℕ → NodeState → NodeState → Past → Past
 moved_head k old new past =
     cond (is_before (own_entry old) (own_entry new)) (event.Head k new.head ∷ past) past
 
--- its revision ends, and its committer is gone
+-- the revision of session s ends, and its committer is gone
 abbrev pub after_finish : State → ℕ → Running → State
 after_finish w s x = let done = finished (memory_of w s) x.draw.revision in record w {
   past = moved_head (node_of w s) (memory_of w s) done (event.End x.draw.revision ∷ w.past);
@@ -260,7 +262,7 @@ after_finish w s x = let done = finished (memory_of w s) x.draw.revision in reco
   running = with_session w.running s None;
 }
 
--- it has committed, or has undone all that it wrote
+-- the committer x has committed, or has undone all that it wrote
 abbrev pub IsThrough : Running → Type 0
 IsThrough x = (x.committed ≡ true) ⊎ ((x.writer.undoing ≡ true) × (x.writer.written ≡ []))
 
@@ -291,14 +293,14 @@ after_pending w s = record w {
   memories = memories_with w s (without_seen (memory_of w s));
 }
 
--- it tells the document of a changed node, or of one above it
+-- a background write tells the document of a changed node, or of one above it
 abbrev pub after_back : State → ℕ → Path → Revision → State
 after_back w s p r = record w {
   past = event.Went s kind.Back ∷ w.past;
   table = after_update w.table (back_op p r);
 }
 
--- and last the root: r is published
+-- a background write tells the root last: r is published
 abbrev pub after_out : State → ℕ → Revision → State
 after_out w s r = record w {
   past = event.Out (node_of w s) r ∷ w.past;
@@ -319,7 +321,7 @@ after_learn w s last sweep = let m = learned (memory_of w s) last sweep in recor
   memories = memories_with w s m;
 }
 
--- the same memory, with the sweep vector raised to r
+-- a cluster node's memory, with the sweep vector raised to r
 abbrev pub swept_to : NodeState → Revision → NodeState
 swept_to m r = record m { sweep = raised m.sweep r }
 
@@ -336,7 +338,7 @@ after_learn_swept w s r = record w {
 abbrev pub settings_ops : List Change → UpdateOp
 settings_ops cs = record { id = id.Settings; create = false; cond = None; changes = cs }
 
--- and for one
+-- the settings' update for one change
 abbrev pub settings_op : Change → UpdateOp
 settings_op c = settings_ops (c ∷ [])
 

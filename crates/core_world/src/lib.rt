@@ -380,8 +380,8 @@ pub fn checkpoints_keep_the_world<L: Law>(law: &L)
 /// What is held, the heads and the pins of the cluster nodes and what the settings keep, rises with
 /// each step as a collection's bound wants it (`bounds_are_below`): heads and sweep vectors rise, a
 /// pin is an old one or goes to the head, and the settings keep what they kept or a pin. So a bound
-/// that was read node by node, the settings last, is at most all that is held then and later; where
-/// it sees with an edit all that the edit saw, it may be taken, and the world is kept.
+/// that was read node by node, the settings last, is at most all that is held then and later. Where
+/// such a bound sees with an edit all that the edit saw, it may be taken, and the world is kept.
 pub fn what_is_held_rises<L: Law>(law: &L)
     ensures login { let kept = IsKept (L.may_start law.now) (L.may_say law.now) in
         (w : State) (s : ℕ) → kept w → IsFalse (is_stopped_under w.sessions w.past s)

@@ -25,6 +25,8 @@ abbrev pub AnswersFor : Option Name → List TypeDef → Nodes → Query → Lis
 AnswersFor (Some n) types tree q text = text ≡ no_text (no_type n)
 AnswersFor None types tree q text = ShowsRows types tree q text
 
+-- the text tells that the type of a query's selector is not registered, or shows the rows of the
+-- query over a tree
 abbrev pub AnswersQuery : List TypeDef → Nodes → Query → List ℕ → Type 0
 AnswersQuery types tree q text = AnswersFor (unknown_selector types q) types tree q text
 

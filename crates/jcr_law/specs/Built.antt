@@ -38,6 +38,7 @@ pub data Asked : Type 0 where
   Allowed : Command → Asked
   Unsupported : Command → Asked
 
+-- a command as a session, attached to a checkpoint or not, asks for it
 abbrev pub asked : (attached : Bool) → Command → Asked
 asked attached m =
     cond (is_built m && not (is_forbidden attached m)) (Allowed m) (Unsupported m)

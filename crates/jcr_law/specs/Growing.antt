@@ -112,9 +112,11 @@ module _ (begin : Begin) (old new : Past) (v : RevVec) (same : seen_edits new v 
           ∙ ap (λ (rest : List CommitChanges). of e (tree_below begin old v e.0) ∷ rest) (all es)
 
 module _ (law : JcrLaw) (clusters : ℕ) (sessions : List ℕ) (begin : Begin) (s : ℕ) (old new : Past) (grows : HasAllOf law begin s old new) where
+  -- the history with the old past
   abbrev pub at_old : History
   at_old = record { clusters = clusters; sessions = sessions; begin = begin; past = old }
 
+  -- the history with the new past
   abbrev pub at_new : History
   at_new = record { clusters = clusters; sessions = sessions; begin = begin; past = new }
 

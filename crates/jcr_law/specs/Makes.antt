@@ -71,6 +71,7 @@ IsAskedAt law s i (event.Went t kind.End) = command_at law s i ≡ None
 IsAskedAt law s i e =
     (m : Command) × (command_at law s i ≡ Some m) × IsTrue (is_built m) × Makes m e
 
+-- the events that the law's commands ask for, as the machine takes them
 abbrev pub asks_of : JcrLaw → Asks
 asks_of law = λ s i e. IsAskedAt law s i e
 

@@ -29,6 +29,7 @@ not_beginning whole s (event.Login t v) h = h
 not_beginning whole s (event.Said t i text) h = ap (λ b. b || false) h
 not_beginning whole s e h = refl
 
+-- events of other sessions leave the state of session s
 pub state_stays : (law : JcrLaw) (begin : Begin) (whole added past : Past) (s : ℕ) → list_any (is_event_of whole s) added ≡ false
     → state_of law begin (added ++ past) s ≡ state_of law begin past s
 state_stays law begin whole [] past s h = refl
@@ -38,12 +39,14 @@ state_stays law begin whole (event.Attach t id ∷ added) past s h = let n = nei
 state_stays law begin whole (event.Said t i text ∷ added) past s h = let n = neither (t == s) _ h in other (t == s) _ _ _ n.0 (state_stays law begin whole added past s n.1)
 state_stays law begin whole (e ∷ added) past s h = state_stays law begin whole added past s (neither (is_event_of whole s e) _ h).1
 
+-- events of other sessions leave the past before the command of s under way
 pub before_stays : (whole added past : Past) (s : ℕ) → list_any (is_event_of whole s) added ≡ false → before_turn (added ++ past) s ≡ before_turn past s
 before_stays whole [] past s h = refl
 before_stays whole (e ∷ added) past s h =
     let n = neither (is_event_of whole s e) _ h in
     other (is_beginning s e) (e ∷ (added ++ past)) (before_turn (added ++ past) s) (before_turn past s) (not_beginning whole s e n.0) (before_stays whole added past s n.1)
 
+-- events of other sessions come on top of those since the command of s began
 pub since_stays : (whole added past : Past) (s : ℕ) → list_any (is_event_of whole s) added ≡ false → since (added ++ past) s ≡ added ++ since past s
 since_stays whole [] past s h = refl
 since_stays whole (e ∷ added) past s h =
@@ -64,6 +67,7 @@ no_move whole (e ∷ added) past s h =
     let n = neither (is_event_of whole s e) _ h in
     ap (λ (b : Bool). b || list_any (is_move_of s) (added ++ past)) (not_move whole s e n.0) ∙ no_move whole added past s n.1
 
+-- events of other sessions leave whether the base of s moved since its command began
 pub unmoved_stays : (whole added past : Past) (s : ℕ) → list_any (is_event_of whole s) added ≡ false → is_unmoved (added ++ past) s ≡ is_unmoved past s
 unmoved_stays whole added past s h =
     ap (λ (p : Past). not (list_any (is_move_of s) p)) (since_stays whole added past s h)
@@ -80,6 +84,7 @@ no_pinning whole (e ∷ added) past s h =
     let n = neither (is_event_of whole s e) _ h in
     ap (λ (b : Bool). b || list_any (is_pinning s) (added ++ past)) (not_pinning whole s e n.0) ∙ no_pinning whole added past s n.1
 
+-- events of other sessions leave whether the cursor of s moved since its command began
 pub unpinned_stays : (whole added past : Past) (s : ℕ) → list_any (is_event_of whole s) added ≡ false → is_unpinned (added ++ past) s ≡ is_unpinned past s
 unpinned_stays whole added past s h =
     ap (λ (p : Past). not (list_any (is_pinning s) p)) (since_stays whole added past s h)
@@ -97,10 +102,13 @@ came_stays test whole (e ∷ added) past s h is =
     later true b k = refl
     later false b k = k
 
+-- an event since the command of s began is still such after events of other sessions
 pub contains_stays : (x : Event) (whole added past : Past) (s : ℕ) → list_any (is_event_of whole s) added ≡ false → Contains (since past s) x → Contains (since (added ++ past) s) x
 contains_stays x whole added past s h is =
     subst (λ (p : Past). Contains p x) (sym (since_stays whole added past s h)) (Contains-append_right added (since past s) x is)
 
+-- a cluster node that was stopped since the command of s began is still such after events of other
+-- sessions
 pub stopped_stays : (k : ℕ) (whole added past : Past) (s : ℕ) → list_any (is_event_of whole s) added ≡ false → is_stopped (since past s) k ≡ true → is_stopped (since (added ++ past) s) k ≡ true
 stopped_stays k whole added past s h is =
     ap (λ (p : Past). is_stopped p k) (since_stays whole added past s h) ∙ any_later (is_stop_of k) added (since past s) is
@@ -111,6 +119,7 @@ draws_stay whole [] rest s h = refl
 draws_stay whole (event.Draw d ∷ added) rest s h = let n = neither (d.session == s) _ h in other (d.session == s) _ _ _ n.0 (draws_stay whole added rest s n.1)
 draws_stay whole (e ∷ added) rest s h = draws_stay whole added rest s (neither (is_event_of whole s e) _ h).1
 
+-- events of other sessions leave the draw that s made for its command under way
 pub draw_stays : (whole added past : Past) (s : ℕ) → list_any (is_event_of whole s) added ≡ false → draw_since (added ++ past) s ≡ draw_since past s
 draw_stays whole added past s h =
     ap (λ (p : Past). draw_among p s) (since_stays whole added past s h) ∙ draws_stay whole added (since past s) s h
@@ -120,6 +129,7 @@ detached_rest whole [] rest s h = refl
 detached_rest whole (event.Detach t ∷ added) rest s h = let n = neither (t == s) _ h in other (t == s) _ _ _ n.0 (detached_rest whole added rest s n.1)
 detached_rest whole (e ∷ added) rest s h = detached_rest whole added rest s (neither (is_event_of whole s e) _ h).1
 
+-- events of other sessions leave where the base of s stood when its command detached it
 pub detached_stays : (whole added past : Past) (s : ℕ) → list_any (is_event_of whole s) added ≡ false → detached_among (since (added ++ past) s) s ≡ detached_among (since past s) s
 detached_stays whole added past s h =
     ap (λ (p : Past). detached_among p s) (since_stays whole added past s h) ∙ detached_rest whole added (since past s) s h

@@ -53,6 +53,8 @@ starts_plan law h s edit marks may =
     (sym (ap (λ (o : Option RevVec). option_map_or (tree_at h.begin h.past) o (begin_tree h.begin)) (call_has_base law h.begin h.past s may.call may.next.call)))
     (subst (λ (c : Call). PlanOk c.types c.base c.state.tokens edit.writes marks) (call_based law h.begin h.past s may.call may.next.call) may.plan)
 
+-- an edit that the law lets start is proper on the tree at the base of its session, with the marks
+-- of its writes
 pub proper_starts : (law : JcrLaw) → StartsProper (λ h s edit marks. MayStart law h s edit marks)
 proper_starts law h s edit marks v base may =
     subst (λ (t : Nodes). IsProper t edit.writes × AreOfWrites t edit marks)

@@ -68,6 +68,7 @@ moved old new state = record state { view = moved_view old new state.view }
 abbrev pub with_token : List (List ℕ) → List ℕ → List (List ℕ)
 with_token tokens t = cond (list_any (same_bytes t) tokens) tokens (t ∷ tokens)
 
+-- the lock tokens without one
 abbrev pub without_token : List (List ℕ) → List ℕ → List (List ℕ)
 without_token tokens t = filter (λ u. not (same_bytes t u)) tokens
 

@@ -36,6 +36,7 @@ abbrev pub is_out : ℕ → Revision → Event → Bool
 is_out k r (event.Out m q) = (m == k) && is_same r q
 is_out k r _ = false
 
+-- the event tells that cluster node k swept up to revision r
 abbrev pub is_sweep : ℕ → Revision → Event → Bool
 is_sweep k r (event.Sweep m q) = (m == k) && is_same r q
 is_sweep k r _ = false

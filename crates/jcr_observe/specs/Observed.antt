@@ -31,6 +31,7 @@ is_observed f i = option_map_or (λ n. is_place_observed f i.path) i.name (optio
 abbrev pub passes : Filter → ItemChange → Bool
 passes f c = is_in_mask (code_of c) f.mask && is_observed f c.item
 
+-- the event of the change of an item: its code, and the item
 abbrev pub event_of : ItemChange → JcrEvent
 event_of c = record { code = code_of c; item = Some c.item }
 

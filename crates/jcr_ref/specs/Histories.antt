@@ -32,6 +32,7 @@ history_of t p = version_storage ++ identifier_of t p ∷ []
 abbrev pub root_of : Path → Path
 root_of h = h ++ root_version ∷ []
 
+-- the path of the node that has the labels of the history at h
 abbrev pub labels_of : Path → Path
 labels_of h = h ++ version_labels ∷ []
 
@@ -96,6 +97,7 @@ BeginsHistory t p who (Some made) = (made.writes ≡ history_writes t p who) × 
 abbrev pub place_of : Name → Place
 place_of n = record { later = not (same_name root_version n); bytes = length n; name = n }
 
+-- places in the order of making: the root version, then by the number of bytes, then by name
 abbrev pub place_cmp : Place → Place → Ordering
 place_cmp = then_cmp (on (λ q. q.later) bool_cmp) (then_cmp (on (λ q. q.bytes) nat_cmp) (on (λ q. q.name) name_cmp))
 

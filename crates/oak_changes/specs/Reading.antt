@@ -36,6 +36,7 @@ due r = due_at r.step
     due_at (step.Roots left) = ask.Find left.first
     due_at (step.Done o) = ask.Done
 
+-- a reader of changes that knows one document more, where one is found under the id
 abbrev pub noted : ChangesReader → DocId → Option Document → ChangesReader
 noted r x found = record r { known = with_known r.known x found }
 
@@ -79,6 +80,7 @@ abbrev pub with_document : ChangesReader → DocId → Document → ChangesReade
 with_document r (id.Node p) d = begun_at r p d
 with_document r _ d = ended r
 
+-- what a reader keeps once the next document in store order comes, or none is left
 abbrev pub fed_next : ChangesReader → Option Document → ChangesReader
 fed_next r None = ended r
 fed_next r (Some d) = with_document r d.id d

@@ -38,6 +38,7 @@ states_before from r states = filter (λ e. sees from e.0 || is_before e.0 r) st
 abbrev pub was_there : RevVec → Revision → States → Bool
 was_there from r states = option_map_or (λ e. e.1) (latest (states_before from r states)) false
 
+-- whether the commit of a revision leaves the item there, by that revision's state
 abbrev pub is_there : Revision → States → Bool
 is_there r states = unwrap_or (of_revision states r) false
 
@@ -58,6 +59,7 @@ module _ (ds : Documents) (t from to : RevVec) where
   abbrev pub node_said : Path → List Document → List Said
   node_said p all = item_said from (record { path = p; name = None }) (states_of ds t to (λ d. d.deleted) not all)
 
+  -- the changes of one property of a node, over the documents of the node
   abbrev pub property_said : Path → List Document → Name → List Said
   property_said p all n = item_said from (record { path = p; name = Some n }) (states_of ds t to (λ d. values_of_property d.props n) is_some all)
 
@@ -74,6 +76,7 @@ module _ (ds : Documents) (t from to : RevVec) where
 abbrev pub Grouped : Type 0
 Grouped = List (Revision × List (Item × ItemChange))
 
+-- the changes of a revision so far, by their items, or none
 abbrev pub changes_at : Grouped → Revision → List (Item × ItemChange)
 changes_at groups r = unwrap_or (lookup (is_at (revision_cmp r)) groups) []
 

@@ -55,5 +55,6 @@ pub record AreDropped (sessions : List ℕ) (d e : Document) : Type 0 where
   pub gone : (s : ℕ) → Contains sessions s → reader_of e s ≡ None
   pub others : (s : ℕ) → (Contains sessions s → ⊥) → reader_of e s ≡ reader_of d s
 
+-- none of the sessions is a reader any more, and nothing but the readers differs, and the number
 abbrev pub DropsReaders : List ℕ → Document → Document → Type 0
 DropsReaders sessions d e = AreDropped sessions d e × ElseSameButReaders d e

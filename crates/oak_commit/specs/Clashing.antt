@@ -21,6 +21,7 @@ use Rattle.oak_doc.specs.declared.update.Cond.TheVariants.{NotCommitted}
 use Rattle.oak_doc.specs.declared.update.Change.TheVariants as change
 use Rattle.oak_doc.specs.Updates.{of_revision, values_of_property}
 
+-- a list of entries by revision has one of revision r
 abbrev pub has : {X : Type 0} → List (Revision × X) → Revision → Bool
 has es r = is_some (of_revision es r)
 
@@ -31,6 +32,7 @@ has_mark d r Guard = has d.guard r
 has_mark d r Touch = has d.touched r
 has_mark d r (Prop n) = has (values_of_property d.props n) r
 
+-- the document, where it is there, has the entry that a mark of r leaves
 abbrev pub marked : Option Document → Revision → Mark → Bool
 marked None r m = false
 marked (Some d) r m = has_mark d r m
@@ -65,6 +67,7 @@ pub record Met : Type 0 where
 abbrev pub met_among : Path → List Mark → List Mark → Option Item
 met_among p ms os = option_map (item_of p) (first_mark (filter (λ m. list_any (clash m) os) ms))
 
+-- the other revision o as met, where there are both one's own item and its
 abbrev pub met_with : Revision → Option Item → Option Item → Option Met
 met_with o (Some mine) (Some theirs) = Some (record { other = o; mine = mine; theirs = theirs })
 met_with o _ _ = None

@@ -107,6 +107,7 @@ module _ (c : Committing) where
 abbrev pub due_of : Committing → Ask
 due_of c = due_by c c.outcome
 
+-- the ask is for an undoing in a document
 abbrev pub asks_undo : Ask → Bool
 asks_undo (ask.Undo r) = true
 asks_undo _ = false
@@ -186,6 +187,7 @@ module _ (c : Committing) where
   advanced_by (f ∷ fs) before = record c { writer = record c.writer { due = fs }; roots = drop 1 c.roots }
   advanced_by [] before = written_by c.writer.left before
 
+  -- the update that was due is made, on the document as it was before
   abbrev pub advanced : Option Document → Committing
   advanced before = advanced_by c.writer.due before
 
@@ -223,6 +225,7 @@ module _ (c : Committing) where
   going_by None r = fed_update r
   going_by (Some k) r = fed_look k r
 
+  -- before the commit point a reply comes, of a look under way or of an update
   abbrev pub fed_going : Reply → Committing
   fed_going r = going_by c.looking r
 
@@ -246,6 +249,7 @@ module _ (c : Committing) where
   fed_undoing reply.Finished = ended_by c.writer.written
   fed_undoing _ = c
 
+  -- a reply comes to a committer, by how it ends: still open, committed, or to be undone
   abbrev pub fed_by : Option CommitEnd → Reply → Committing
   fed_by None r = fed_going r
   fed_by (Some (end.Committed o)) r = fed_end r

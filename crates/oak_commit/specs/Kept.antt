@@ -14,15 +14,18 @@ use Rattle.oak_commit.specs.declared.met.Due.{Due}
 use Rattle.oak_commit.specs.declared.outcome.CommitEnd.{CommitEnd}
 use Rattle.oak_commit.specs.declared.outcome.CommitEnd.TheVariants as end
 
+-- what a mark that is due says was met, without the commit root that it goes on
 abbrev pub met_by : Due → Met
 met_by d = record { other = d.other; mine = d.mine; theirs = d.theirs }
 
+-- a committer that ends so undoes what it wrote: after a clash, or for want of memory
 abbrev pub undoes : Option CommitEnd → Bool
 undoes None = false
 undoes (Some (end.Committed r)) = false
 undoes (Some (end.Clash item o)) = true
 undoes (Some end.Memory) = true
 
+-- a committer that ends so undoes for want of memory
 abbrev pub wants : Option CommitEnd → Bool
 wants None = false
 wants (Some (end.Committed r)) = false
@@ -40,6 +43,8 @@ writer_of ps written undone dues outcome = record {
   wants = wants outcome;
 }
 
+-- the committer that the fields of the code stand for: of the documents of its plan so many are
+-- written, and so many of these undone
 abbrev pub shown : Revision → RevVec → Planned → ℕ → ℕ → List Due → Option Look → Option CommitEnd → Bool → Committing
 shown r base plan written undone dues looking outcome ended = record {
   revision = r;

@@ -38,6 +38,7 @@ undo_stage c = by c.writer.written
     by (p ∷ ps) = stage.Undo
     by [] = end_stage c
 
+-- the kind of operation that a committer has due
 abbrev pub stage_of : Committing → Stage
 stage_of c = by c.outcome
   where

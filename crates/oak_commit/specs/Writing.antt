@@ -42,6 +42,7 @@ marking_of r Touch = change.Touched r ∷ []
 marking_of r Guard = change.Guard r ∷ []
 marking_of r _ = []
 
+-- the entries, in the document of the node at p, of its marks that are no item's
 abbrev pub markings_at : Revision → Path → List MarkAt → List Change
 markings_at r p ms = flat_map (marking_of r) (marks_at p ms)
 

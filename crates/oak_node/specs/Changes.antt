@@ -30,7 +30,7 @@ oldest_own s =
     fold (λ e pin. ord_min revision_cmp e (own_in s.cluster pin.1.base))
     (own_entry s) (knowing_pins s)
 
--- the same memory, which keeps what changed since e
+-- the memory of the node, which keeps what changed since e
 abbrev pub kept_since : NodeState → Revision → NodeState
 kept_since s e = record s {
   since = e;

@@ -24,7 +24,7 @@ known_time s = max (greatest_time s.head) s.last_time
 abbrev pub next_draw : NodeState → Revision
 next_draw s = record { time = known_time s + 1; counter = 0; cluster = s.cluster }
 
--- the same memory, with r drawn and in flight
+-- the memory of the node, with r drawn and in flight
 abbrev pub with_draw : NodeState → Revision → NodeState
 with_draw s r = record s { last_time = r.time; above = s.above ++ record { revision = r; ended = false } ∷ [] }
 
@@ -58,11 +58,11 @@ local_from e drawn = fold greater_of e (filter (λ r. list_all (is_before r) (fl
 abbrev pub with_end : List Drawn → Revision → List Drawn
 with_end drawn r = map (λ d. cond (is_same d.revision r) (record { revision = d.revision; ended = true }) d) drawn
 
--- the same memory, with e as the head's own entry; it keeps the draws above it
+-- the memory of the node, with e as the head's own entry; it keeps the draws above it
 abbrev pub with_own : NodeState → Revision → NodeState
 with_own s e = record s { head = with_entry s.head e; above = filter (λ d. is_before e d.revision) s.above }
 
--- the same memory, once r has ended
+-- the memory of the node, once r has ended
 abbrev pub finished : NodeState → Revision → NodeState
 finished s r = with_own (record s { above = with_end s.above r }) (local_from (own_entry s) (with_end s.above r))
 

@@ -10,15 +10,15 @@ use Rattle.oak_node.specs.Changes.{kept_since, oldest_own}
 use Rattle.oak_node.specs.Memory.{NodeState, own_entry}
 use Rattle.oak_node.specs.Seen.{seen_paths}
 
--- the same memory, with the path noted with r, behind what was noted before: to be published, and
--- as one that changed
+-- the memory of the node, with the path noted with r, behind what was noted before: to be
+-- published, and as one that changed
 abbrev pub with_note : NodeState → List (List ℕ) → Revision → NodeState
 with_note s path r = record s {
   notes = s.notes ++ record { path = path; revision = r } ∷ [];
   changed = s.changed ++ record { path = path; revision = r } ∷ [];
 }
 
--- the same memory, with the paths noted with r, one behind another
+-- the memory of the node, with the paths noted with r, one behind another
 abbrev pub with_notes : Revision → NodeState → List (List (List ℕ)) → NodeState
 with_notes r s paths = fold (λ s path. with_note s path r) s paths
 
@@ -26,8 +26,8 @@ with_notes r s paths = fold (λ s path. with_note s path r) s paths
 abbrev pub notes_of : Revision → List (List (List ℕ)) → List Note
 notes_of r paths = map (λ path. record { path = path; revision = r }) paths
 
--- the same memory, without the notes whose revision the head sees, and without what changed up to
--- the oldest own entry in use
+-- the memory of the node, without the notes whose revision the head sees, and without what
+-- changed up to the oldest own entry in use
 abbrev pub without_seen : NodeState → NodeState
 without_seen s =
     kept_since (record s { notes = filter (λ note. not (sees s.head note.revision)) s.notes })

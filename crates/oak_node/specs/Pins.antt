@@ -15,11 +15,11 @@ pin_of s owner = lookup (is_at (nat_cmp owner)) s.pins
 abbrev pub pin_now : NodeState → Pin
 pin_now s = record { base = s.head; sweep = s.sweep }
 
--- the same memory, with this pin for the owner, in the place of one that it has
+-- the memory of the node, with a new pin for the owner, in the place of one that it has
 abbrev pub with_pin : NodeState → ℕ → Pin → NodeState
 with_pin s owner pin = record s { pins = insert_entry nat_cmp s.pins owner pin }
 
--- the same memory, with no pin for the owner
+-- the memory of the node, with no pin for the owner
 abbrev pub without_pin : NodeState → ℕ → NodeState
 without_pin s owner = record s { pins = remove_entry (is_at (nat_cmp owner)) s.pins }
 

@@ -48,6 +48,8 @@ nodes_of table = filter_map node_path (keys_of table)
 abbrev pub asks_behind : Revision → List Path → List Ask
 asks_behind target nodes = map (λ p. ask.NextAfter (Some (id.Node p))) nodes ++ (ask.Update (sweep_op target) ∷ ask.Memory (memory.Learn no_entries (raised no_entries target)) ∷ [])
 
+-- a sweep over documents at rest asks for the root's document, and for each node's in store order,
+-- raises the entry of `_sweepRev` to what the cluster node had published, and is done
 abbrev pub SweepsAll : Type 0
 SweepsAll = (table : List (DocId × Document)) (a : Global) (cluster : ℕ) → reading.IsTable table
     → let target = target_in cluster (documents_in table (id.Node [])) in
@@ -83,6 +85,8 @@ AllKnow y s (r ∷ rs) = KnowsOf y (due s) r × AllKnow y (fed s r) rs
 abbrev pub WasShown : DocId → List Reply → Type 0
 WasShown y rs = (d : Document) × Contains rs (reply.Found (Some d)) × (d.id ≡ y)
 
+-- a sweep that comes to its update of the root was shown the document of a node, where each reply
+-- knew of that document
 abbrev pub MissesNone : Type 0
 MissesNone = (p : Path) (a : Global) (cluster : ℕ) (rs : List Reply) → AllKnow (id.Node p) (begun a cluster) rs
     → (target : Revision) → due (fold fed (begun a cluster) rs) ≡ ask.Update (sweep_op target) → WasShown (id.Node p) rs

@@ -50,6 +50,7 @@ due s = by s.step
     by step.Learn = ask.Memory (memory.Learn no_entries (raised no_entries s.target))
     by step.Done = ask.Done
 
+-- the stage of a sweep, by the step that it has due
 abbrev pub stage_of : Sweeper → Stage
 stage_of s = by s.step
   where

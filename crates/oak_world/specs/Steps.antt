@@ -69,8 +69,9 @@ pub record HasPlace (says : Says) (h : History) (reply : Option ℕ) (s i : ℕ)
 -- ---- a step
 
 module _ (s : ℕ) (w : State) (c : Committing) (u : State) (d : Committing) where
-  -- a committer makes the next mark, or it is refused by that; it writes the next document, and turns to undoing where memory is refused for what it met there;
-  -- it makes the last write, or it is refused by that; or it undoes the first document that is written and not undone
+  -- a committer makes the next mark, or is refused by that; or writes the next document, and turns
+  -- to undoing where memory is refused for what it met there; or makes the last write, or is
+  -- refused by that; or undoes the first document that is written and not undone
   abbrev pub MakesUpdate : StepKind → Type 0
   MakesUpdate kind.Mark = (f : Met) × (rest : List Met) × (c.outcome ≡ None)
       × (c.writer.due ≡ f ∷ rest) × (u ≡ after_mark w s (running_as s c) f rest)

@@ -226,7 +226,7 @@ impl<L: Law + Drop> World<L> {
     /// its cursor, and one that the settings keep as a checkpoint or for an attached session. Pins are
     /// where the journal has their owners; the settings have just the last checkpoint of each id that
     /// wasn't released since, and readers just of sessions that attached and weren't detached since.
-    /// It does nothing: callers learn the facts.
+    /// The function does nothing: callers learn the facts.
     pub fn holds_pairs(&self)
         ensures pins { (k owner : ℕ) (pin : Pin) → IsNode self.now.history.clusters k
             → pin_of (memory_at self.now.memories k) owner ≡ Some pin
@@ -267,7 +267,7 @@ impl<L: Law + Drop> World<L> {
     }
 
     /// One step of a session that has a task. A port tells of it what the second clause says, whatever the reference that leads to the world.
-    /// It lowers the number of steps that are left of the task, or the session waits.
+    /// A step lowers the number of steps that are left of the task, or the session waits.
     pub fn step(&mut self, actor: u32) -> StepOut
         requires there { IsTrue (is_some (slice_get self.old.history.sessions actor)) }
         requires busy { work_in self.old.actors actor ≢ work.Rest }

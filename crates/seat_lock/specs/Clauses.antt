@@ -13,9 +13,11 @@ use Rattle.seat_lock.specs.Views.{OwnsPart, OwnsAuthor, InOrder, spent_view}
 use Rattle.seat_lock.specs.Rule.{total, LockState, LockMe, TakesTurn, Loads, Adds, GivesTurn, Looks}
 
 module _ {T E P F S : Type 0} where
+  -- the turn, in word 0: 1 while a pass has it, else 0
   abbrev pub turn_of : LockState T E P F S → ℕ
   turn_of s = slice_index s.words 0
 
+  -- the count of the events, in word 1
   abbrev pub count_of : LockState T E P F S → ℕ
   count_of s = slice_index s.words 1
 
@@ -23,6 +25,7 @@ module _ {T E P F S : Type 0} where
   abbrev pub At : LockState T E P F S → ℕ → View T E P F S → Type 0
   At s by v = get_elem? s.views by ≡ some v
 
+  -- the value x is at home, in the slot of the lock
   abbrev pub IsAtHome : LockState T E P F S → T → Type 0
   IsAtHome s x = s.homes ≡ some (Some x) ∷ []
 
@@ -30,9 +33,11 @@ module _ {T E P F S : Type 0} where
   abbrev pub IsAway : LockState T E P F S → Type 0
   IsAway s = s.homes ≡ none ∷ []
 
+  -- the view is the one that a spent pass has
   abbrev pub IsSpent : View T E P F S → Type 0
   IsSpent v = v ≡ spent_view
 
+  -- the pass of the view has the turn
   abbrev pub HasTurn : View T E P F S → Type 0
   HasTurn v = v.round ≢ Idle
 
@@ -40,6 +45,7 @@ module _ {T E P F S : Type 0} where
   abbrev pub HasLoaded : View T E P F S → T → Type 0
   HasLoaded v x = v.round ≡ Out x
 
+  -- the pass of the view has added its events to the count
   abbrev pub HasAdded : View T E P F S → Type 0
   HasAdded v = v.round ≡ Added
 
@@ -48,6 +54,7 @@ module _ {T E P F S : Type 0} where
   OneHolder s = (by : ℕ) × (v : View T E P F S) × At s by v × ¬ IsSpent v × HasTurn v × ((other : ℕ) (w : View T E P F S) → At s other w → HasTurn w → other ≡ by)
 
 module _ {T E P F S : Type 0} (law : Ghosts T E P F S) where
+  -- what the rule of the lock gives of each state of the lock
   pub record Clauses (s : LockState T E P F S) : Type 0 where
     -- the counted events
     pub events : List E

@@ -14,6 +14,7 @@ abbrev pub InOrder : ℕ → List ℕ → ℕ → Type 0
 InOrder low [] high = low ≤ high
 InOrder low (p ∷ ps) high = (low ≤ p) × InOrder (p + 1) ps high
 
+-- places lie in order in one way at most
 pub InOrder-prop : (low : ℕ) (ps : List ℕ) (high : ℕ) → IsProp (InOrder low ps high)
 InOrder-prop low [] high = le_prop
 InOrder-prop low (p ∷ ps) high = ×_prop le_prop (InOrder-prop (p + 1) ps high)

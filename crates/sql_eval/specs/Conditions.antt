@@ -37,6 +37,7 @@ spot_of t selector = option_flatten (slice_get t selector)
 abbrev pub property_in : Option Spot → Name → Option Property
 property_in s n = option_and_then (λ e. lookup (is_at (name_cmp n)) e.1.props) s
 
+-- a property of one selector's node in a tuple, where there is a node that has it
 abbrev pub property_of : Tuple → PropertyOf → Option Property
 property_of t p = property_in (spot_of t p.selector) p.name
 
@@ -57,9 +58,11 @@ operand_of t (operand.Upper' b o) = option_map (in_case (cased Upper)) (operand_
 abbrev pub is_same : Path → Path → Bool
 is_same p q = eq_by_cmp path_cmp p q
 
+-- the first path is that of a child of the node at the second
 abbrev pub is_child : Path → Path → Bool
 is_child p q = is_child_of q p
 
+-- the first path is that of a descendant of the node at the second
 abbrev pub is_descendant : Path → Path → Bool
 is_descendant p q = is_under p q && not (is_same p q)
 

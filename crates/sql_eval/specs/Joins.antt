@@ -63,6 +63,7 @@ pairs on ls rs = filter (joins on) (flat_map (λ l. map (with_spot l) rs) ls)
 abbrev pub is_lonely_tuple : On → List Spot → Tuple → Bool
 is_lonely_tuple on rs l = not (list_any (λ r. joins on (with_spot l r)) rs)
 
+-- a node has no partner among the tuples
 abbrev pub is_lonely_spot : On → List Tuple → Spot → Bool
 is_lonely_spot on ls r = not (list_any (λ l. joins on (with_spot l r)) ls)
 

@@ -28,9 +28,11 @@ abbrev pub key_in : Direction → Option Property → Key
 key_in Ascending o = Rising o
 key_in Descending o = Falling o
 
+-- the key of a tuple by one order of a query, in the direction of that order
 abbrev pub key_of : Tuple → Order → Key
 key_of t o = key_in o.direction (operand_of t o.operand)
 
+-- a tuple with its keys by all orders of a query
 abbrev pub ranked_of : List Order → Tuple → Ranked
 ranked_of orders t = record { keys = map (key_of t) orders; tuple = t }
 
@@ -97,12 +99,15 @@ same (value.Reference a) (value.Reference b) = then_equal (nat_cmp a b)
 same (value.WeakReference a) (value.WeakReference b) = then_equal (nat_cmp a b)
 same _ _ = refl
 
+-- the order of values by their kinds, and within a kind by what they are, is total
 pub kinds_first_total : IsTotalOrder kinds_first
 kinds_first_total = subst IsTotalOrder (λ i x y. same x y i) sorts_total
 
+-- the order of properties that has a missing one first is total
 pub missing_first_total : IsTotalOrder missing_first
 missing_first_total = on_total (option_map values_of) (options_total (lists_total kinds_first_total))
 
+-- the order of tuples by the paths of their nodes is total
 pub by_paths_total : IsTotalOrder by_paths
 by_paths_total = lists_total (options_total (on_total (λ (e : Spot). e.0) (lists_total nat_list_cmp_total)))
 
@@ -132,8 +137,10 @@ keys_congr (Falling a) (Falling b) (Rising c) p = refl
 keys_congr (Rising a) (Falling b) z p = absurd (true≢false (ap is_lt p))
 keys_congr (Falling a) (Rising b) z p = absurd (true≢false (ap is_gt p))
 
+-- the order of keys is total
 pub key_cmp_total : IsTotalOrder key_cmp
 key_cmp_total = record { antisymm = keys_antisymm; trans = keys_trans; congr = keys_congr }
 
+-- the order of tuples by their keys is total
 pub ranked_cmp_total : IsTotalOrder ranked_cmp
 ranked_cmp_total = on_total (λ r. r.keys) (lists_total key_cmp_total)

@@ -31,6 +31,7 @@ by_paths = slice_cmp (option_cmp (on (λ e. e.0) path_cmp))
 abbrev pub by_order : Order → Tuple → Tuple → Ordering
 by_order o = on (λ t. operand_of t o.operand) (directed o.direction missing_first)
 
+-- two tuples by all orders of a query, each of which decides where those before it tie
 abbrev pub by_orders : List Order → Tuple → Tuple → Ordering
 by_orders [] t u = Equal
 by_orders (o ∷ os) t u = ordering_then (by_order o t u) (by_orders os t u)
@@ -46,6 +47,7 @@ abbrev pub cell_of : Tuple → Column → Cell
 cell_of t (column.Node selector) = option_map_or (λ e. cell.Node e.0) (spot_of t selector) cell.Null
 cell_of t (column.Property p) = option_map_or cell.Value (property_of t p) cell.Null
 
+-- the row of a tuple: what each column has in it
 abbrev pub row_of : List Column → Tuple → Row
 row_of columns t = record { cells = map (cell_of t) columns }
 

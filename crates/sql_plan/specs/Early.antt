@@ -16,6 +16,7 @@ use Rattle.jr_tree.specs.Trees.{Nodes}
 use Rattle.sql_eval.specs.Conditions.{Spot, Tuple, holds}
 use Rattle.sql_eval.specs.Joins.{joined, nodes_of_type}
 
+-- two kinds of joins are equal
 abbrev pub kind_is : JoinKind → JoinKind → Bool
 kind_is Inner Inner = true
 kind_is LeftOuter LeftOuter = true
@@ -42,6 +43,7 @@ asks_only s (condition.Same selector q) = selector == s
 asks_only s (condition.Child selector q) = selector == s
 asks_only s (condition.Descendant selector q) = selector == s
 
+-- the condition, where it asks of this selector alone
 abbrev pub only_asked : ℕ → Condition → List Condition
 only_asked s c = if asks_only s c then c ∷ [] else []
 
@@ -50,6 +52,7 @@ abbrev pub asked_in : ℕ → Condition → List Condition
 asked_in s (condition.And' b c d e) = asked_in s c ++ asked_in s e
 asked_in s c = only_asked s c
 
+-- the join is a right outer one
 abbrev pub is_right_outer : Join → Bool
 is_right_outer j = kind_is RightOuter j.kind
 

@@ -23,10 +23,12 @@ sought key.Any = Any
 sought (key.Value x) = Value x.now
 sought (key.Path p) = Path p.now
 
+-- the value that is sought, if it is one
 abbrev pub value_in : Sought → Option ValueOf
 value_in (Value x) = Some x
 value_in _ = None
 
+-- the path that is sought, if it is one
 abbrev pub path_in : Sought → Option PathOf
 path_in (Path p) = Some p
 path_in _ = None
@@ -35,6 +37,7 @@ path_in _ = None
 abbrev pub key_cmp : Sought → Sought → Ordering
 key_cmp = then_cmp (on value_in (option_cmp kinds_first)) (on path_in (option_cmp path_cmp))
 
+-- two keys are equal in their order
 abbrev pub is_same_key : Sought → Sought → Bool
 is_same_key = eq_by_cmp key_cmp
 
@@ -42,5 +45,6 @@ is_same_key = eq_by_cmp key_cmp
 abbrev pub placed_key : Entry → Sought × ℕ
 placed_key e = (sought e.key, e.place)
 
+-- the entries of an index by their keys alone
 abbrev pub by_key : Entry → Entry → Ordering
 by_key = on (λ e. sought e.key) key_cmp

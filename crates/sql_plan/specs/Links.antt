@@ -35,9 +35,11 @@ chosen true false a b = a
 chosen false true a b = b
 chosen _ _ a b = All
 
+-- the link of a join on two equal properties, where n is the new selector
 abbrev pub equal_link : PropertyOf → PropertyOf → ℕ → Linked
 equal_link p q n = chosen (p.selector == n) (q.selector == n) (Equal q p.name) (Equal p q.name)
 
+-- the link of a join where a's node reaches the path of b's, and n is the new selector
 abbrev pub paths_link : ℕ → ℕ → Reach → ℕ → Linked
 paths_link a b reach n = chosen (a == n) (b == n) (Paths b Itself reach) (Paths a reach Itself)
 
@@ -48,6 +50,7 @@ link_of (join_on.Same a b) n = paths_link a b Itself n
 link_of (join_on.Child a b) n = paths_link a b Parent n
 link_of (join_on.Descendant a b) n = paths_link a b Above n
 
+-- values, each as what is sought
 abbrev pub values_sought : List ValueOf → List Sought
 values_sought xs = map Value xs
 
@@ -62,6 +65,7 @@ reached Itself p = Path p ∷ []
 reached Parent p = option_map_or (λ q. Path q ∷ []) (parent_of p) []
 reached Above p = map Path (above p)
 
+-- the paths that a node of a tuple reaches; none where the node is missing
 abbrev pub reached_by : Reach → Option Spot → List Sought
 reached_by reach s = option_map_or (λ e. reached reach e.0) s []
 
@@ -71,6 +75,7 @@ keys_of_tuple All t = Any ∷ []
 keys_of_tuple (Equal p n) t = values_sought (values_in (property_of t p))
 keys_of_tuple (Paths selector a b) t = reached_by a (spot_of t selector)
 
+-- the keys of a node of the new selector
 abbrev pub keys_of_node : Linked → Spot → List Sought
 keys_of_node All r = Any ∷ []
 keys_of_node (Equal p n) r = values_sought (values_in (property_in (Some r) n))
