@@ -1,5 +1,5 @@
-// What is kept of a task of the cluster node, of the settings or of the cursor for its reply, and how
-// it ends.
+// What is kept of a task of the cluster node, of the settings or of the cursor for its reply, and
+// how it ends.
 ghost use Rattle.std.specs.Prelude.{◌≡◌, Some};
 ghost use Rattle.jcr_steps.specs.Answered.{IsErrandAnswer, MayEnd, came_by, kind_told, told_by};
 ghost use Rattle.jcr_steps.specs.Kept.{HasPlace, kept_for, place_bytes};
@@ -32,7 +32,7 @@ pub enum Errand {
 /// How such a task has ended.
 #[derive(Drop)]
 pub enum Told {
-    /// This is published.
+    /// What was local is published, up to this revision.
     Published(Revision),
     /// The head, which has learned, is this.
     Learnt(RevVec),
@@ -56,8 +56,8 @@ pub enum Came {
     Refused,
 }
 
-/// The bytes of the place that is kept for the reply: just what the longer needs of the text that is
-/// kept and of a vector.
+/// The bytes of the place that is kept for the reply: just what the longer needs of the text that
+/// is kept and of a vector.
 pub fn place_of(errand: &Errand) -> usize
     ensures place { HasPlace (Some result) (kept_for errand.now) }
     ensures bytes { result ≡ place_bytes (kept_for errand.now) }
