@@ -9,8 +9,7 @@ ghost use Rattle.jr_rev.specs.Revisions.{is_before};
 ghost use Rattle.jr_rev.specs.Vectors.{is_below, sees};
 ghost use Rattle.jr_path.specs.declared.path.Path.{Path};
 ghost use Rattle.jr_tree.specs.Trees.{node_at};
-ghost use Rattle.core_read.specs.Holds.{the_start};
-ghost use Rattle.core_read.specs.Told.{IsTold};
+ghost use Rattle.core_begun.specs.Told.{start_in, IsToldSince};
 ghost use Rattle.oak_machine.specs.declared.event.Draw.{Draw};
 ghost use Rattle.oak_machine.specs.declared.event.Event.{Event};
 ghost use Rattle.oak_machine.specs.declared.event.Event.TheVariants as event;
@@ -91,13 +90,14 @@ pub fn changes_follow_the_journal()
         TellsSince past k old new notes }
 {}
 
-/// The tree at such a vector up to the head is, at each path that isn't told, that of the vector since
-/// which it's told. The journal begins before any commit.
+/// The tree at such a vector up to the head is, at each path that isn't told, that of the vector
+/// since which it's told, whatever the journal begins with.
 pub fn untold_paths_stay()
-    ensures { (past : Past) (k : ℕ) (old new : RevVec) (notes : List Note) (p : Path) →
-        IsTold past → IsTrue (sees old the_start) → IsTrue (is_below old new) →
-        TellsSince past k old new notes → ((note : Note) → Contains notes note → note.path ≢ p) →
-        node_at (tree_at None past new) p ≡ node_at (tree_at None past old) p }
+    ensures { (clusters : ℕ) (begin : Begin) (past : Past) (k : ℕ) (old new : RevVec)
+        (notes : List Note) (p : Path) → IsBegun clusters begin
+        → IsToldSince (start_in clusters begin) past → IsTrue (is_below old new)
+        → TellsSince past k old new notes → ((note : Note) → Contains notes note → note.path ≢ p)
+        → node_at (tree_at begin past new) p ≡ node_at (tree_at begin past old) p }
 {}
 
 /// The pins of a cluster node are those of its sessions that have come and not left, each at the vector of its latest
