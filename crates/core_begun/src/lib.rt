@@ -171,8 +171,8 @@ pub fn events_keep_what_began_with_a_start()
         → IsKeptSince start ds (e ∷ past) done }
 {}
 
-/// What is held stays held, where a bound is at most what is held; and where what a collection reads
-/// is settled and closed, so is its bound.
+/// What is held stays held, where a bound is at most what is held; and where what a collection
+/// reads is settled and closed, so is its bound.
 pub fn held_pairs_last_since_a_start()
     ensures commit { (start : Start) (past : Past) (r : Revision) (drawn : Draw) (v t : RevVec)
         → IsToldSince start past → MayCommit past r → draw_of past r ≡ Some drawn
