@@ -20,21 +20,12 @@ use Rattle.oak_machine.specs.declared.event.Event.TheVariants as event
 use Rattle.oak_machine.specs.History.{Past}
 use Rattle.oak_machine.specs.Commits.{draw_of, committed_edits, is_in_base}
 use Rattle.core_read.specs.Commits.{Commits, Sight, Apart}
-use Rattle.core_read.specs.Holds.{onto}
 use Rattle.core_read.proofs.Committed.{Apart-flip}
 use Rattle.core_read.proofs.Falling.{not_both}
 use Rattle.core_read.proofs.Latest.{same_revision, before_itself}
 use Rattle.core_keep.specs.From.{falling_from, tree_from}
+use Rattle.core_keep.proofs.From.{tree_onto}
 use Rattle.core_begun.specs.Told.{edit_since, IsReadyOn, IsSoundOn}
-
--- the tree of edits that are turned round
-pub tree_onto : (b : Nodes) (s : Sight) (done es : Commits) → tree_from b s (onto done es) ≡ fold (λ t e. applied (Some e.0) t e.1) (tree_from b s done) (filter (λ e. s e.0) es)
-tree_onto b s done [] = refl
-tree_onto b s done (e ∷ es) = tree_onto b s (e ∷ done) es ∙ by (s e.0)
-  where
-    by : (c : Bool) → fold (λ t e. applied (Some e.0) t e.1) (cond c (applied (Some e.0) (tree_from b s done) e.1) (tree_from b s done)) (filter (λ e. s e.0) es) ≡ fold (λ t e. applied (Some e.0) t e.1) (tree_from b s done) (cond c (e ∷ filter (λ e. s e.0) es) (filter (λ e. s e.0) es))
-    by true = refl
-    by false = refl
 
 -- an edit that isn't seen changes nothing of what is seen
 filter-unseen : (s : Sight) (r : Revision) (ws : List Write) → s r ≡ false → (es : Commits) → filter (λ e. s e.0) (insert_entry revision_cmp es r ws) ≡ filter (λ e. s e.0) es

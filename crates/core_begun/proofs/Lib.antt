@@ -9,3 +9,4 @@ pub mod Events
 pub mod Collecting
 pub mod Beginning
 pub mod Start
+pub mod Bounding

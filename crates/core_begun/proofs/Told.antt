@@ -29,7 +29,8 @@ use Rattle.core_read.proofs.Marks.{apart_marks}
 use Rattle.core_read.proofs.Told.{edit_committed, marks_is, is_calm}
 use Rattle.core_keep.specs.From.{falling_from, tree_from}
 use Rattle.core_begun.specs.Told.{edit_since, IsClosedSince, IsGoodSince, IsInUseSince, IsReadyOn, IsSoundOn, IsToldSince}
-use Rattle.core_begun.proofs.Committed.{commit_sound, ready_stays, split, tree_onto, tree_same}
+use Rattle.core_keep.proofs.From.{tree_onto}
+use Rattle.core_begun.proofs.Committed.{commit_sound, ready_stays, split, tree_same}
 
 -- the tree at a vector is that of the edits that it sees
 pub tree_since : (start : Start) (past : Past) (v : RevVec) → tree_from start.tree (sees v) (falling_from past) ≡ tree_at (Some start) past v

@@ -1,5 +1,5 @@
-//! The past of each run from a start can be read: its edits are sound from the tree of the start
-//! on.
+//! From every beginning the past of a run can be read: its edits are sound from the tree of its
+//! start on, or from what there is before any commit.
 #![tactic(auto)]
 
 ghost use Rattle.std.specs.Prelude.{◌≡◌, ◌||◌, ◌&&◌, ◌≤◌, ℕ, Bool, Option, is_some, ◌∷◌, [], List, None, Some, false, not, IsTrue, IsFalse};
@@ -31,9 +31,11 @@ ghost use Rattle.core_read.specs.Commits.{Closed};
 ghost use Rattle.core_read.specs.Committing.{is_marking, IsWriteOp};
 ghost use Rattle.core_read.specs.Holds.{is_at_path};
 ghost use Rattle.core_read.specs.Start.{start_documents};
+ghost use Rattle.core_read.specs.Told.{IsIn};
 ghost use Rattle.core_read.specs.World.{Progress};
 ghost use Rattle.core_read.specs.Writes.{IsOrderedDocument};
 ghost use Rattle.core_heads.specs.Sound.{IsInHand, IsNodesRun};
+ghost use Rattle.core_keep.specs.Bounds.{bound_of, bounding_pairs, Told};
 ghost use Rattle.core_keep.specs.Formers.{AreFormers, Former, Formers};
 ghost use Rattle.core_keep.specs.From.{AreSoundFrom, course_from, falling_from, IsFirst};
 ghost use Rattle.core_keep.specs.Journal.{is_idle, leaves_held, with_progress};
@@ -169,7 +171,8 @@ pub fn events_keep_what_began_with_a_start()
         → IsKeptSince start ds (e ∷ past) done }
 {}
 
-/// What is held stays held, where a bound is at most what is held.
+/// What is held stays held, where a bound is at most what is held; and where what a collection
+/// reads is settled and closed, so is its bound.
 pub fn held_pairs_last_since_a_start()
     ensures commit { (start : Start) (past : Past) (r : Revision) (drawn : Draw) (v t : RevVec)
         → IsToldSince start past → MayCommit past r → draw_of past r ≡ Some drawn
@@ -182,6 +185,10 @@ pub fn held_pairs_last_since_a_start()
         → IsHeldSince start (event.Bound m s ∷ past) v t }
     ensures others { (start : Start) (past : Past) (e : Event) (v t : RevVec)
         → IsTrue (leaves_held e) → IsHeldSince start past v t → IsHeldSince start (e ∷ past) v t }
+    ensures read { (past : Past) (root : Document) (nodes : List Told) (settings : Document)
+        → IsUsedSince past (sees root.last_rev)
+        → ((x : Pin) → IsIn x (bounding_pairs nodes settings) → IsUsedSince past (sees x.base))
+        → IsUsedSince past (sees (bound_of root nodes settings).base) }
 {}
 
 /// What is garbage of a bound by the definition may go: any entries of it, previous documents that

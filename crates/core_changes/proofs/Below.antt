@@ -17,7 +17,7 @@ use Rattle.oak_machine.specs.History.{Past}
 use Rattle.core_keep.proofs.Item.{and_both, not_true}
 use Rattle.core_begun.proofs.Sound.{falls, found}
 use Rattle.core_begun.proofs.Course.{tells_since}
-use Rattle.core_begun.proofs.Committed.{tree_onto}
+use Rattle.core_keep.proofs.From.{tree_onto}
 use Rattle.core_keep.proofs.From.{shows_from, TellsFrom}
 use Rattle.core_keep.specs.From.{course_from, falling_from, IsFirst}
 use Rattle.core_keep.specs.Journal.{Separate}

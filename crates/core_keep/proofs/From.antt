@@ -146,9 +146,10 @@ shows_from c first s t tells = record {
 
 -- ---- a journal with a start
 
-tree_onto_from : (b : Nodes) (s : Sight) (done es : Commits) → tree_from b s (onto done es) ≡ fold (λ t e. applied (Some e.0) t e.1) (tree_from b s done) (filter (λ e. s e.0) es)
-tree_onto_from b s done [] = refl
-tree_onto_from b s done (e ∷ es) = tree_onto_from b s (e ∷ done) es ∙ by (s e.0)
+-- the tree of edits that are turned round
+pub tree_onto : (b : Nodes) (s : Sight) (done es : Commits) → tree_from b s (onto done es) ≡ fold (λ t e. applied (Some e.0) t e.1) (tree_from b s done) (filter (λ e. s e.0) es)
+tree_onto b s done [] = refl
+tree_onto b s done (e ∷ es) = tree_onto b s (e ∷ done) es ∙ by (s e.0)
   where
     by : (c : Bool) → fold (λ t e. applied (Some e.0) t e.1) (cond c (applied (Some e.0) (tree_from b s done) e.1) (tree_from b s done)) (filter (λ e. s e.0) es) ≡ fold (λ t e. applied (Some e.0) t e.1) (tree_from b s done) (cond c (e ∷ filter (λ e. s e.0) es) (filter (λ e. s e.0) es))
     by true = refl
@@ -160,4 +161,4 @@ pub reading_from : (start : Start) (past : Past) (base : Revision → Sight) (ds
 reading_from start past base ds v t first sound closed keeps course down held p =
     found ds (course_from start past) keeps course down t v held p (tree_at (Some start) past v)
     (shows_from (course_from start past) first (sees v) (tree_at (Some start) past v)
-    (subst (λ (tree : Nodes). TellsFrom start.tree tree (sees v) (falling_from past)) (tree_onto_from start.tree (sees v) [] (committed_edits past)) (tells_from start.tree first.tree base (falling_from past) sound (sees v) closed)))
+    (subst (λ (tree : Nodes). TellsFrom start.tree tree (sees v) (falling_from past)) (tree_onto start.tree (sees v) [] (committed_edits past)) (tells_from start.tree first.tree base (falling_from past) sound (sees v) closed)))

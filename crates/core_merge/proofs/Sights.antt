@@ -18,7 +18,7 @@ use Rattle.core_read.proofs.Told.{base_is, edit_committed}
 use Rattle.core_heads.proofs.Below.{below_seen}
 use Rattle.core_keep.specs.From.{falling_from, tree_from}
 use Rattle.core_begun.specs.Told.{IsClosedSince, IsToldSince}
-use Rattle.core_begun.proofs.Committed.{tree_onto}
+use Rattle.core_keep.proofs.From.{tree_onto}
 
 -- what a journal begins with is a tree
 pub begin_is_tree : (clusters : ℕ) (begin : Begin) → IsBegun clusters begin → IsTree (begin_tree begin)

@@ -2,7 +2,6 @@
 use Rattle.std.proofs.Common.{◌≡◌, ◌⊎◌, inl, inr, ℕ, Bool, true, false, cond, ◌&&◌, ◌||◌, Option, Some, None, List, [], ◌∷◌, is_some, refl, sym, ap, subst, ◌∙◌}
 use Rattle.std.specs.Prelude.{Contains}
 use Rattle.std.specs.Option.{option_map, option_map_or, option_or}
-use Rattle.std.specs.Cmp.{Equal-is}
 use Rattle.std.specs.Ordering.{eq_by_cmp, is_eq}
 use Rattle.std.specs.List.{fold}
 use Rattle.std.specs.Map.{lookup, remove_entry}
@@ -16,10 +15,8 @@ use Rattle.jr_path.specs.declared.path.Path.{Path}
 use Rattle.jr_path.proofs.Maps.{lookup-insert_entry, path_total}
 use Rattle.jr_rev.specs.declared.revision.Revision.{Revision}
 use Rattle.jr_rev.specs.declared.vector.RevVec.{RevVec}
-use Rattle.jr_rev.specs.Revisions.{revision_cmp}
 use Rattle.jr_rev.specs.Vectors.{is_below, sees}
 use Rattle.jr_rev.proofs.Bounds.{below_seen}
-use Rattle.jr_rev.proofs.Order.{same_revision}
 use Rattle.jr_value.specs.declared.value.Property.{Property}
 use Rattle.jr_tree.specs.declared.tree.Node.{Node}
 use Rattle.jr_tree.specs.declared.edit.Write.{Write}
@@ -34,23 +31,26 @@ use Rattle.oak_clash.specs.declared.mark.Mark.TheVariants.{Exists, Prop}
 use Rattle.oak_clash.specs.declared.mark.MarkAt.{MarkAt}
 use Rattle.oak_clash.specs.Clashes.{marked_paths}
 use Rattle.oak_machine.specs.declared.event.Draw.{Draw}
-use Rattle.oak_machine.specs.History.{Past}
-use Rattle.oak_machine.specs.Commits.{draw_of, marks_of, tree_at}
+use Rattle.oak_machine.specs.declared.event.Start.{Start}
+use Rattle.oak_machine.specs.History.{Begin, IsBegun, Past}
+use Rattle.oak_machine.specs.Commits.{committed_edits, draw_of, marks_of, tree_at}
 use Rattle.oak_node.specs.declared.pending.Note.{Note}
-use Rattle.core_read.specs.Commits.{Commits, Each, Sight, tree_of}
-use Rattle.core_read.specs.Holds.{edit_of, falling, the_start}
-use Rattle.core_read.specs.Told.{Covers, IsIn, IsTold}
-use Rattle.core_read.proofs.Falling.{each_edit, tree_falling}
+use Rattle.core_read.specs.Commits.{Commits, Each, Sight}
+use Rattle.core_read.specs.Told.{Covers, IsIn}
+use Rattle.core_keep.specs.From.{falling_from, tree_from}
+use Rattle.core_begun.specs.Told.{edit_since, start_in, IsToldSince}
+use Rattle.core_keep.proofs.From.{tree_onto}
+use Rattle.core_begun.proofs.Sound.{each_edit}
 use Rattle.core_nodes.specs.Nodes.{TellsSince}
 
 -- ---- two sights
 
-order_of : (s : Sight) (es : Commits) → InOrder (tree_of s es)
-order_of s [] = refl
-order_of s (e ∷ es) = by (order_of s es) (s e.0)
+order_of : (b : Nodes) → InOrder b → (s : Sight) (es : Commits) → InOrder (tree_from b s es)
+order_of b order s [] = order
+order_of b order s (e ∷ es) = by (order_of b order s es) (s e.0)
   where
-    by : InOrder (tree_of s es) → (b : Bool) → InOrder (cond b (applied (Some e.0) (tree_of s es) e.1) (tree_of s es))
-    by order true = order-applied (Some e.0) (tree_of s es) e.1 order
+    by : InOrder (tree_from b s es) → (c : Bool) → InOrder (cond c (applied (Some e.0) (tree_from b s es) e.1) (tree_from b s es))
+    by order true = order-applied (Some e.0) (tree_from b s es) e.1 order
     by order false = order
 
 -- a write of another node
@@ -89,24 +89,34 @@ untouched born t ws p order h =
 abbrev AgreesAt : Sight → Sight → Path → Revision × List Write → Type 0
 AgreesAt s t p e = (s e.0 ≡ t e.0) ⊎ (is_touched (last_writes e.1) p ≡ false)
 
-same_at : (s t : Sight) (p : Path) (es : Commits) → Each (AgreesAt s t p) es → node_at (tree_of s es) p ≡ node_at (tree_of t es) p
-same_at s t p [] h = refl
-same_at s t p (e ∷ es) h = by (same_at s t p es h.1) h.0
-  where
-    one : (x : Sight) → is_touched (last_writes e.1) p ≡ false → (b : Bool) → node_at (cond b (applied (Some e.0) (tree_of x es) e.1) (tree_of x es)) p ≡ node_at (tree_of x es) p
-    one x clear true = untouched (Some e.0) (tree_of x es) e.1 p (order_of x es) clear
-    one x clear false = refl
+module _ (first : Nodes) (order : InOrder first) (s t : Sight) (p : Path) where
+  -- of a sight the node at p, behind an edit or without it
+  abbrev With : Sight → Revision × List Write → Commits → Bool → Type 0
+  With x e es b = node_at (cond b (applied (Some e.0) (tree_from first x es) e.1) (tree_from first x es)) p ≡ node_at (tree_from first x es) p
 
-    alike : node_at (tree_of s es) p ≡ node_at (tree_of t es) p → (b : Bool) → node_at (cond b (applied (Some e.0) (tree_of s es) e.1) (tree_of s es)) p ≡ node_at (cond b (applied (Some e.0) (tree_of t es) e.1) (tree_of t es)) p
-    alike rest true =
-        node_at-applied (Some e.0) p (tree_of s es) e.1 (order_of s es)
-        ∙ (ap (λ (o : Option Node). fold (filled p) (fold (come (Some e.0) p) o (last_writes e.1)) (last_writes e.1)) rest
-        ∙ sym (node_at-applied (Some e.0) p (tree_of t es) e.1 (order_of t es)))
-    alike rest false = rest
+  same_at : (es : Commits) → Each (AgreesAt s t p) es → node_at (tree_from first s es) p ≡ node_at (tree_from first t es) p
+  same_at [] h = refl
+  same_at (e ∷ es) h = by (same_at es h.1) h.0
+    where
+      one : (x : Sight) → is_touched (last_writes e.1) p ≡ false → (b : Bool) → With x e es b
+      one x clear true = untouched (Some e.0) (tree_from first x es) e.1 p (order_of first order x es) clear
+      one x clear false = refl
 
-    by : node_at (tree_of s es) p ≡ node_at (tree_of t es) p → AgreesAt s t p e → node_at (tree_of s (e ∷ es)) p ≡ node_at (tree_of t (e ∷ es)) p
-    by rest (inl same) = ap (λ (b : Bool). node_at (cond b (applied (Some e.0) (tree_of s es) e.1) (tree_of s es)) p) same ∙ alike rest (t e.0)
-    by rest (inr clear) = one s clear (s e.0) ∙ (rest ∙ sym (one t clear (t e.0)))
+      alike : node_at (tree_from first s es) p ≡ node_at (tree_from first t es) p → (b : Bool)
+          → node_at (cond b (applied (Some e.0) (tree_from first s es) e.1) (tree_from first s es)) p
+          ≡ node_at (cond b (applied (Some e.0) (tree_from first t es) e.1) (tree_from first t es)) p
+      alike rest true =
+          node_at-applied (Some e.0) p (tree_from first s es) e.1 (order_of first order s es)
+          ∙ (ap (λ (o : Option Node). fold (filled p) (fold (come (Some e.0) p) o (last_writes e.1)) (last_writes e.1)) rest
+          ∙ sym (node_at-applied (Some e.0) p (tree_from first t es) e.1 (order_of first order t es)))
+      alike rest false = rest
+
+      by : node_at (tree_from first s es) p ≡ node_at (tree_from first t es) p → AgreesAt s t p e
+          → node_at (tree_from first s (e ∷ es)) p ≡ node_at (tree_from first t (e ∷ es)) p
+      by rest (inl same) =
+          ap (λ (b : Bool). node_at (cond b (applied (Some e.0) (tree_from first s es) e.1) (tree_from first s es)) p) same
+          ∙ alike rest (t e.0)
+      by rest (inr clear) = one s clear (s e.0) ∙ (rest ∙ sym (one t clear (t e.0)))
 
 -- ---- what an edit writes at a path is marked
 
@@ -207,23 +217,26 @@ covered p ms ws covers h = by (touched_writes p ws (touched_last p ws h))
 
 -- ---- the tree
 
-module _ (past : Past) (k : ℕ) (old new : RevVec) (notes : List Note) (p : Path) (told : IsTold past) (start : sees old the_start ≡ true) (below : is_below old new ≡ true) (tells : TellsSince past k old new notes) (silent : (note : Note) → Contains notes note → note.path ≡ p → ⊥) where
+module _ (start : Start) (past : Past) (k : ℕ) (old new : RevVec) (notes : List Note) (p : Path) (order : InOrder start.tree)
+    (told : IsToldSince start past) (below : is_below old new ≡ true) (tells : TellsSince past k old new notes)
+    (silent : (note : Note) → Contains notes note → note.path ≡ p → ⊥) where
   -- an edit that only the greater vector sees writes nothing at the path
-  clear : (r : Revision) (ws : List Write) → edit_of past r ≡ Some ws → sees new r ≡ true → sees old r ≡ false → is_touched (last_writes ws) p ≡ false
-  clear r ws edit seen unseen = false_from_ne_true (is_touched (last_writes ws) p) (λ h. silent (record { path = p; revision = r }) ((tells r seen unseen).1 p (there h)) refl)
+  clear : (r : Revision) (ws : List Write) → edit_since past r ≡ Some ws → sees new r ≡ true → sees old r ≡ false
+      → is_touched (last_writes ws) p ≡ false
+  clear r ws edit seen unseen =
+      false_from_ne_true (is_touched (last_writes ws) p)
+      (λ h. silent (record { path = p; revision = r }) ((tells r seen unseen).1 p (there h)) refl)
     where
-      later : eq_by_cmp revision_cmp r the_start ≡ false
-      later = false_from_ne_true (eq_by_cmp revision_cmp r the_start) (λ same. both_ways (sees old r) unseen (ap (sees old) (same_revision r the_start same) ∙ start))
-
       drawn : (d : Draw) × (draw_of past r ≡ Some d) × (d.edit.writes ≡ ws)
-      drawn = told.edits r ws edit later
+      drawn = told.edits r ws edit
 
       there : is_touched (last_writes ws) p ≡ true → Contains (marked_paths (marks_of past r)) p
       there h =
           subst (λ (o : Option Draw). Contains (marked_paths (option_map_or (λ d. d.marks) o [])) p) (sym drawn.1)
-          (covered p (drawn.0).marks ws (subst (λ (us : List Write). Covers (drawn.0).marks us) drawn.2 (told.draws r drawn.0 drawn.1).covers) h)
+          (covered p (drawn.0).marks ws
+          (subst (λ (us : List Write). Covers (drawn.0).marks us) drawn.2 (told.draws r drawn.0 drawn.1).covers) h)
 
-  agrees : (r : Revision) (ws : List Write) → edit_of past r ≡ Some ws → AgreesAt (sees new) (sees old) p (r, ws)
+  agrees : (r : Revision) (ws : List Write) → edit_since past r ≡ Some ws → AgreesAt (sees new) (sees old) p (r, ws)
   agrees r ws edit = by (sees new r) (sees old r) refl refl
     where
       by : (a b : Bool) → sees new r ≡ a → sees old r ≡ b → AgreesAt (sees new) (sees old) p (r, ws)
@@ -232,8 +245,18 @@ module _ (past : Past) (k : ℕ) (old new : RevVec) (notes : List Note) (p : Pat
       by true false a b = inr (clear r ws edit a b)
       by false true a b = absurd (both_ways (sees new r) a (below_seen old new r below b))
 
-  pub untold : node_at (tree_at None past new) p ≡ node_at (tree_at None past old) p
+  pub untold : node_at (tree_at (Some start) past new) p ≡ node_at (tree_at (Some start) past old) p
   untold =
-      ap (λ (t : Nodes). node_at t p) (sym (tree_falling past new (below_seen old new the_start below start)))
-      ∙ (same_at (sees new) (sees old) p (falling past) (each_edit past told.sound.begun (AgreesAt (sees new) (sees old) p) agrees)
-      ∙ ap (λ (t : Nodes). node_at t p) (tree_falling past old start))
+      ap (λ (t : Nodes). node_at t p) (sym (tree_onto start.tree (sees new) [] (committed_edits past)))
+      ∙ (same_at start.tree order (sees new) (sees old) p (falling_from past) (each_edit past (AgreesAt (sees new) (sees old) p) agrees)
+      ∙ ap (λ (t : Nodes). node_at t p) (tree_onto start.tree (sees old) [] (committed_edits past)))
+
+-- from each beginning
+pub untold_in : (clusters : ℕ) (begin : Begin) (past : Past) (k : ℕ) (old new : RevVec) (notes : List Note) (p : Path)
+    → IsBegun clusters begin → IsToldSince (start_in clusters begin) past → is_below old new ≡ true
+    → TellsSince past k old new notes → ((note : Note) → Contains notes note → note.path ≡ p → ⊥)
+    → node_at (tree_at begin past new) p ≡ node_at (tree_at begin past old) p
+untold_in clusters None past k old new notes p begun told below tells silent =
+    untold (start_in clusters None) past k old new notes p refl told below tells silent
+untold_in clusters (Some s) past k old new notes p begun told below tells silent =
+    untold (start_in clusters (Some s)) past k old new notes p begun.tree.paths told below tells silent

@@ -48,21 +48,26 @@ pub record IsAboveOf (begin : Begin) (past : Past) (k : ℕ) (r : Revision) (e :
   pub above : IsTrue (is_before (local begin past k) r)
   pub ended : is_ended past r ≡ e
 
--- a vector with the sweep vector that it is taken with: this has eight entries, sees the start, and sees no more than the vector
+-- a vector with the sweep vector that it is taken with: this has eight entries, sees the start, and
+-- sees no more than the vector
 pub record IsPair (base sweep : RevVec) : Type 0 where
   pub vector : IsVector sweep
   pub begun : IsTrue (sees sweep (start_of 1))
   pub below : (x : Revision) → IsTrue (sees sweep x) → IsTrue (sees base x)
 
--- two vectors of the root at a moment: what was public, and with it how far each cluster node had swept
-pub record IsOnRoot (begin : Begin) (clusters : ℕ) (moment : Past) (last sweep : RevVec) : Type 0 where
+-- two vectors of the root at a moment: what was public, and with it how far each cluster node had
+-- swept
+pub record IsOnRoot (begin : Begin) (clusters : ℕ) (moment : Past)
+    (last sweep : RevVec) : Type 0 where
   pub vector : IsVector last
   pub public : (x : Revision) → IsTrue (sees last x) ↔ Public clusters begin moment x
   pub pair : IsPair last sweep
 
--- the memory of cluster node k is that of the past: its head, with a sweep vector that goes with it, its last draw, what it
--- drew above its local revision, and whether it was stopped and recovered
-pub record IsMemoryOf (begin : Begin) (clusters : ℕ) (past : Past) (k : ℕ) (s : NodeState) : Type 0 where
+-- the memory of cluster node k is that of the past: its head, with a sweep vector that goes with
+-- it, its last draw, what it drew above its local revision, and whether it was stopped and
+-- recovered
+pub record IsMemoryOf (begin : Begin) (clusters : ℕ) (past : Past) (k : ℕ)
+    (s : NodeState) : Type 0 where
   pub cluster : s.cluster ≡ k
   pub head : s.head ≡ head_of clusters begin past k
   pub sweep : IsPair s.head s.sweep
@@ -72,8 +77,8 @@ pub record IsMemoryOf (begin : Begin) (clusters : ℕ) (past : Past) (k : ℕ) (
   pub recovered : s.recovered ≡ is_recovered past k
   pub memory : IsMemory s
 
--- the event leaves the memory of cluster node k: k neither draws, nor ends a revision, nor learns, and is neither stopped
--- nor recovered
+-- the event leaves the memory of cluster node k: k neither draws, nor ends a revision, nor learns,
+-- and is neither stopped nor recovered
 abbrev pub leaves_memory : ℕ → Event → Bool
 leaves_memory k (event.Draw d) = not (d.revision.cluster == k)
 leaves_memory k (event.End r) = not (r.cluster == k)
@@ -94,12 +99,14 @@ draws_made past = count_by is_draw past
 -- ---- waiting
 
 -- the head of k doesn't see r, and q is the earliest revision of k in flight
-pub record AwaitsFlight (begin : Begin) (clusters : ℕ) (past : Past) (k : ℕ) (r q : Revision) : Type 0 where
+pub record AwaitsFlight (begin : Begin) (clusters : ℕ) (past : Past) (k : ℕ)
+    (r q : Revision) : Type 0 where
   pub unseen : sees (head_of clusters begin past k) r ≡ false
   pub flying : IsTrue (is_in_flight past q)
   pub node : q.cluster ≡ k
   pub earlier : IsTrue (is_before q r)
-  pub earliest : (o : Revision) → o.cluster ≡ k → IsTrue (is_in_flight past o) → IsTrue (is_at_most q o)
+  pub earliest : (o : Revision) → o.cluster ≡ k → IsTrue (is_in_flight past o)
+      → IsTrue (is_at_most q o)
 
 -- the head of k sees r, or r awaits a revision in flight
 abbrev pub IsAwaitedAt : Begin → ℕ → Past → ℕ → Revision → Awaits → Type 0
@@ -108,15 +115,15 @@ IsAwaitedAt begin clusters past k r (Pending q) = AwaitsFlight begin clusters pa
 
 -- ---- what changed
 
--- the memory keeps what changed: each path that a draw of cluster node k marks is noted with it, of all
--- draws of the node behind the revision since which the memory keeps such notes
+-- the memory keeps what changed: each path that a draw of cluster node k marks is noted with it, of
+-- all draws of the node behind the revision since which the memory keeps such notes
 abbrev pub KeepsChanges : Past → ℕ → NodeState → Type 0
 KeepsChanges past k s = (r : Revision) (path : List (List ℕ)) →
     r.cluster ≡ k → IsTrue (is_before s.since r) → Contains (marked_paths (marks_of past r)) path
     → Contains s.changed (record { path = path; revision = r })
 
--- what new sees of the past and old doesn't was drawn by cluster node k, and each path that it marks is
--- among the notes with it
+-- what new sees of the past and old doesn't was drawn by cluster node k, and each path that it
+-- marks is among the notes with it
 abbrev pub TellsSince : Past → ℕ → RevVec → RevVec → List Note → Type 0
 TellsSince past k old new notes = (r : Revision) → IsTrue (sees new r) → IsFalse (sees old r) →
     (r.cluster ≡ k)
@@ -135,7 +142,8 @@ abbrev pub after_ends : List Revision → Past → Past
 after_ends [] past = past
 after_ends (r ∷ rs) past = after_ends rs (event.End r ∷ past)
 
--- the past, once cluster node k is recovered: all that it had in flight has ended, in the order in which it was drawn
+-- the past, once cluster node k is recovered: all that it had in flight has ended, in the order in
+-- which it was drawn
 abbrev pub after_recovery : Past → ℕ → Past
 after_recovery past k = event.Recover k ∷ after_ends (reverse (flying past k)) past
 
@@ -151,11 +159,15 @@ cursor_owner s = 64 + s
 
 -- the vector of an owner that is no session: it's the cursor of a session of cluster node k
 abbrev pub cursor_base : List ℕ → Past → ℕ → ℕ → Option RevVec
-cursor_base sessions past k owner = cond (nat_le 64 owner && is_of_node sessions k (owner - 64)) (cursor_at past (owner - 64)) None
+cursor_base sessions past k owner = cond (nat_le 64 owner && is_of_node sessions k (owner - 64))
+    (cursor_at past (owner - 64)) None
 
--- the vector at which cluster node k pins an owner: a session of the node at its base, a cursor of one at its own
+-- the vector at which cluster node k pins an owner: a session of the node at its base, a cursor of
+-- one at its own
 abbrev pub owner_base : List ℕ → Past → ℕ → ℕ → Option RevVec
-owner_base sessions past k owner = cond (is_some (slice_get sessions owner)) (cond (is_of_node sessions k owner) (session_base past owner) None) (cursor_base sessions past k owner)
+owner_base sessions past k owner = cond (is_some (slice_get sessions owner))
+    (cond (is_of_node sessions k owner) (session_base past owner) None)
+    (cursor_base sessions past k owner)
 
 -- the vector at which cluster node k pins an owner, until the node is recovered, when all its
 -- pins go
@@ -166,12 +178,14 @@ kept_base sessions past k owner = cond (is_recovered past k) None (owner_base se
 abbrev pub base_of_pin : Option Pin → Option RevVec
 base_of_pin pin = option_map (λ (p : Pin). p.base) pin
 
--- the pins of the memory of cluster node k are at the vectors of their owners by the past, each with a sweep vector that goes with it
+-- the pins of the memory of cluster node k are at the vectors of their owners by the past, each
+-- with a sweep vector that goes with it
 pub record ArePinsOf (sessions : List ℕ) (past : Past) (k : ℕ) (s : NodeState) : Type 0 where
   pub bases : (owner : ℕ) → base_of_pin (pin_of s owner) ≡ kept_base sessions past k owner
   pub pairs : (owner : ℕ) (pin : Pin) → pin_of s owner ≡ Some pin → IsPair pin.base pin.sweep
 
--- the session is of cluster node k, which wasn't recovered, has come and not left, and was pinned at this vector
+-- the session is of cluster node k, which wasn't recovered, has come and not left, and was pinned
+-- at this vector
 pub record IsPinnedAt (sessions : List ℕ) (past : Past) (k s : ℕ) (v : RevVec) : Type 0 where
   pub kept : IsFalse (is_recovered past k)
   pub node : slice_get sessions s ≡ Some k
@@ -179,7 +193,8 @@ pub record IsPinnedAt (sessions : List ℕ) (past : Past) (k s : ℕ) (v : RevVe
   pub stays : IsFalse (has_left past s)
   pub base : pinned_at past s ≡ Some v
 
--- the owner is the cursor of a session of cluster node k, which wasn't recovered, and was pinned at this vector
+-- the owner is the cursor of a session of cluster node k, which wasn't recovered, and was pinned at
+-- this vector
 pub record IsCursorAt (sessions : List ℕ) (past : Past) (k owner : ℕ) (v : RevVec) : Type 0 where
   pub kept : IsFalse (is_recovered past k)
   pub session : ℕ
@@ -201,4 +216,5 @@ moved_pin _ = None
 
 -- the event moves no pin of a session of cluster node k, which it doesn't recover
 abbrev pub leaves_pins : List ℕ → ℕ → Event → Bool
-leaves_pins sessions k e = not (is_recovery_of k e) && option_map_or (λ s. not (is_of_node sessions k s)) (moved_pin e) true
+leaves_pins sessions k e = not (is_recovery_of k e)
+    && option_map_or (λ s. not (is_of_node sessions k s)) (moved_pin e) true

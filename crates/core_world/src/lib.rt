@@ -275,7 +275,8 @@ pub fn changes_are_observed<L: Law>(law: &L)
     ensures feeds { let kept = IsKept (L.may_start law.now) (L.may_say law.now) in
         (w : State) (s : ℕ) (r : ChangesReader) → kept w → w.observing s ≡ Some r
         → IsTable w.table.documents
-        → kept (with_observer w s (Some (changes.fed r (answer w.table.documents (changes.due r))))) }
+        → kept (with_observer w s
+        (Some (changes.fed r (answer w.table.documents (changes.due r))))) }
     ensures gone { let kept = IsKept (L.may_start law.now) (L.may_say law.now) in
         (w : State) (s : ℕ) → kept w → kept (with_observer w s None) }
     ensures lies { let kept = IsKept (L.may_start law.now) (L.may_say law.now) in
@@ -316,7 +317,8 @@ pub fn background_work_keeps_the_world<L: Law>(law: &L)
     ensures learn_swept { let kept = IsKept (L.may_start law.now) (L.may_say law.now) in
         (w : State) (s : ℕ) (r : Revision) → kept w → IsTrue (has_login w.past s)
         → IsFalse (has_left w.past s) → r.cluster ≡ node_of w s
-        → IsTrue (is_at_most r (local w.begin w.past (node_of w s))) → kept (after_learn_swept w s r) }
+        → IsTrue (is_at_most r (local w.begin w.past (node_of w s)))
+        → kept (after_learn_swept w s r) }
     ensures heard { let kept = IsKept (L.may_start law.now) (L.may_say law.now) in
         (w : State) (s : ℕ) (last sweep : RevVec) (r : Revision) → kept w
         → IsTrue (has_login w.past s) → WereOnRoot w.begin w.clusters w.past last sweep
@@ -568,7 +570,8 @@ pub fn stops_and_recoveries_keep_the_world<L: Law>(law: &L)
         → meaning.is_committed (documents_in w.table.documents) pin.sweep d r
         ≡ is_committed w.past r }
     ensures status { let kept = IsKept (L.may_start law.now) (L.may_say law.now) in
-        (w : State) (r : Revision) → kept w → IsFalse (is_swept w.past r) → IsFalse (sees (origin w).at r)
+        (w : State) (r : Revision) → kept w → IsFalse (is_swept w.past r)
+        → IsFalse (sees (origin w).at r)
         → noted (nodes_in w.table (root_of w.past r)) r ≡ is_committed w.past r }
 {}
 

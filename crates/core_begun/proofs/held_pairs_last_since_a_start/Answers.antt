@@ -1,3 +1,4 @@
+use Rattle.core_begun.proofs.Bounding.{bound_used}
 use Rattle.core_begun.proofs.Events.{held_commit, held_draw, held_bound, held_else}
 use Rattle.core_begun.proofs.held_pairs_last_since_a_start.Goals as goal
 
@@ -12,3 +13,6 @@ returns-clause-bound c = λ start past m s v t below below_swept held. held_boun
 
 pub returns-clause-others : goal.returns-clause-others
 returns-clause-others c = held_else
+
+pub returns-clause-read : goal.returns-clause-read
+returns-clause-read c = bound_used
