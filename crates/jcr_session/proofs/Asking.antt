@@ -6,7 +6,6 @@ use Rattle.oak_machine.specs.declared.event.Event.{Event}
 use Rattle.oak_machine.specs.declared.event.Event.TheVariants as event
 use Rattle.oak_machine.specs.declared.event.StepKind.TheVariants as kind
 use Rattle.oak_machine.specs.Asked.{is_of_commit}
-use Rattle.oak_machine.specs.Laws.{Asks}
 use Rattle.oak_machine.specs.Sessions.{next_index}
 use Rattle.oak_port.specs.Ports.{Appends, IsAskedOf, Shown}
 use Rattle.oak_port.specs.declared.task.Task.TheVariants as task
@@ -17,19 +16,16 @@ use Rattle.jcr_law.specs.declared.law.JcrLaw.{JcrLaw}
 use Rattle.jcr_law.specs.Built.{is_built}
 use Rattle.jcr_law.specs.Makes.{IsAskedAt, Makes, commits}
 use Rattle.jcr_law.specs.State.{command_at}
-use Rattle.jcr_session.specs.declared.next.Due.TheVariants as due
-use Rattle.jcr_session.specs.declared.run.Phase.TheVariants as phase
-use Rattle.jcr_session.specs.declared.run.SessionRun.{SessionRun}
-use Rattle.jcr_session.specs.Asked.{MayDrawFor}
-use Rattle.jcr_session.specs.Standing.{Stands, due_for}
+use Rattle.jcr_run.specs.declared.next.Due.TheVariants as due
+use Rattle.jcr_run.specs.declared.run.Phase.TheVariants as phase
+use Rattle.jcr_run.specs.declared.run.SessionRun.{SessionRun}
+use Rattle.jcr_session.specs.Begins.{MayDrawFor}
+use Rattle.jcr_run.specs.Standing.{Stands, due_for}
 use Rattle.jcr_session.proofs.Drawing.{commit_commits, next_mid}
 use Rattle.jcr_session.proofs.Living.{outside_at}
-use Rattle.jcr_session.proofs.Stages.{next_is}
-use Rattle.jcr_session.proofs.Starting.{left_none}
-
--- by the law
-abbrev pub asks_of : JcrLaw → Asks
-asks_of law = λ s i e. IsAskedAt law s i e
+use Rattle.jcr_run.proofs.Lawful.{asks_of}
+use Rattle.jcr_run.proofs.Stages.{next_is}
+use Rattle.jcr_run.proofs.Starting.{left_none}
 
 module _ (law : JcrLaw) (p : Shown) (run : SessionRun) (stands : Stands law p run) where
   -- a login, before the first command

@@ -36,20 +36,20 @@ use Rattle.jcr_law.specs.State.{Call, call_of, command_at}
 use Rattle.jcr_law.specs.Tasks.{misses}
 use Rattle.core_calls.specs.Seeing.{SeesTrees, SeesTyped}
 use Rattle.core_calls.proofs.Called.{attach_call, call_stays, refresh_call}
-use Rattle.jcr_session.specs.declared.run.Phase.{Phase}
-use Rattle.jcr_session.specs.declared.run.Phase.TheVariants as phase
-use Rattle.jcr_session.specs.declared.run.SessionRun.{SessionRun}
-use Rattle.jcr_session.specs.declared.turn.Turn.TheVariants as turn
-use Rattle.jcr_session.specs.Standing.{HasAwaited, HasCounted, HasCursor, IsBetween, IsCalled, IsFresh, IsIn, KeepsCursor, Stands, StandsAt}
-use Rattle.jcr_session.specs.Standing.{is_allowed, is_step_event, is_writing, stage_at, stage_of}
-use Rattle.jcr_session.proofs.Committing.{own}
-use Rattle.jcr_session.proofs.Cursors.{cursor_moved, cursor_of_call, has_cursor_over}
-use Rattle.jcr_session.proofs.Lawful.{asked_allowed, at_between, idle_by}
-use Rattle.jcr_session.proofs.Stages.{inside_order, next_is, next_later}
-use Rattle.jcr_session.proofs.Starting.{added, called_moment, fresh_moment, inside_mid, inside_moment, run_new, stands_by, unmoved_moment}
-use Rattle.jcr_session.proofs.Starting.{unpinned_moment}
-use Rattle.jcr_session.proofs.Turning.{is_awaiting, not_ended, plain_step, started, turned_later}
-use Rattle.jcr_session.proofs.Waiting.{by_waits}
+use Rattle.jcr_run.specs.declared.run.Phase.{Phase}
+use Rattle.jcr_run.specs.declared.run.Phase.TheVariants as phase
+use Rattle.jcr_run.specs.declared.run.SessionRun.{SessionRun}
+use Rattle.jcr_run.specs.declared.turn.Turn.TheVariants as turn
+use Rattle.jcr_run.specs.Standing.{HasAwaited, HasCounted, HasCursor, IsBetween, IsCalled, IsFresh, IsIn, KeepsCursor, Stands, StandsAt}
+use Rattle.jcr_run.specs.Standing.{is_allowed, is_step_event, is_writing, stage_at, stage_of}
+use Rattle.jcr_run.proofs.Committing.{own}
+use Rattle.jcr_run.proofs.Cursors.{cursor_moved, cursor_of_call, has_cursor_over}
+use Rattle.jcr_run.proofs.Lawful.{asked_allowed, at_between, idle_by}
+use Rattle.jcr_run.proofs.Stages.{inside_order, next_is, next_later}
+use Rattle.jcr_run.proofs.Starting.{added, called_moment, fresh_moment, inside_mid, inside_moment, run_new, stands_by, unmoved_moment}
+use Rattle.jcr_run.proofs.Starting.{unpinned_moment}
+use Rattle.jcr_run.proofs.Turning.{is_awaiting, not_ended, plain_step, started, turned_later}
+use Rattle.jcr_run.proofs.Waiting.{by_waits}
 
 -- ---- vectors of eight entries
 

@@ -48,30 +48,32 @@ use Rattle.jcr_session.specs.declared.errand.Start.TheVariants as start
 use Rattle.jcr_steps.specs.declared.errand.Told.{Told}
 use Rattle.jcr_steps.specs.declared.errand.Told.TheVariants as ended
 use Rattle.jcr_steps.specs.declared.limits.TheConstants.{COMMIT_REPLY_BYTES, VECTOR_REPLY_BYTES}
-use Rattle.jcr_session.specs.declared.next.Due.{Due}
-use Rattle.jcr_session.specs.declared.next.Due.TheVariants as due
-use Rattle.jcr_session.specs.declared.run.Phase.{Phase}
-use Rattle.jcr_session.specs.declared.run.Phase.TheVariants as phase
-use Rattle.jcr_session.specs.declared.run.SessionRun.{SessionRun}
-use Rattle.jcr_session.specs.declared.turn.Turn.{Turn}
-use Rattle.jcr_session.specs.Asked.{IsAsked, IsSaidAtOnce, IsTaskFor, IsUnviewedNext, MayAnswer, MayForgo, MayObserve, MaySetOut, MaySettle}
-use Rattle.jcr_session.specs.Asked.{MayTell, ObservesNext, SettlesBy, StartsNext, StartsWith}
-use Rattle.jcr_session.specs.Standing.{AreSince, HasCounted, HasCursor, IsBeside, IsBetween, IsIn, IsTold, IsToldFor, IsWorkFor, Stands}
+use Rattle.jcr_run.specs.declared.next.Due.{Due}
+use Rattle.jcr_run.specs.declared.next.Due.TheVariants as due
+use Rattle.jcr_run.specs.declared.run.Phase.{Phase}
+use Rattle.jcr_run.specs.declared.run.Phase.TheVariants as phase
+use Rattle.jcr_run.specs.declared.run.SessionRun.{SessionRun}
+use Rattle.jcr_run.specs.declared.turn.Turn.{Turn}
+use Rattle.jcr_run.specs.Asked.{IsAsked, IsUnviewedNext, MayAnswer, MayForgo, MaySettle}
+use Rattle.jcr_session.specs.Begins.{IsSaidAtOnce, IsTaskFor, MayObserve, MaySetOut}
+use Rattle.jcr_run.specs.Asked.{ObservesNext, SettlesBy}
+use Rattle.jcr_session.specs.Begins.{MayTell, StartsNext, StartsWith}
+use Rattle.jcr_run.specs.Standing.{AreSince, HasCounted, HasCursor, IsBeside, IsBetween, IsIn, IsTold, IsToldFor, IsWorkFor, Stands}
 use Rattle.jcr_steps.specs.Kept.{HasPlace, IsEight}
-use Rattle.jcr_session.specs.Standing.{due_by, due_for, is_errand, is_told_for, is_writing, stage_at}
+use Rattle.jcr_run.specs.Standing.{due_by, due_for, is_errand, is_told_for, is_writing, stage_at}
 use Rattle.jcr_steps.specs.Kept.{kept_for, kept_of, reply_of}
-use Rattle.jcr_session.specs.Standing.{stage_of}
-use Rattle.jcr_session.proofs.Asking.{asks_of}
-use Rattle.jcr_session.proofs.Cursors.{accepts_by}
-use Rattle.jcr_session.proofs.Lawful.{at_between, attached_still, between_asked, refusal_settles, refused_text, says_allowed}
-use Rattle.jcr_session.proofs.Nexts.{IsErrand, allowed_due, due_at, errand_checkpoint, errand_events, errand_observe, errand_read}
-use Rattle.jcr_session.proofs.Nexts.{errand_release, errand_some, errand_there, errand_viewed, errand_write, only_attach}
-use Rattle.jcr_session.proofs.Nexts.{only_errand, same_next, unattached_runs}
-use Rattle.jcr_session.proofs.Since.{kept_beside}
-use Rattle.jcr_session.proofs.Saying.{asked_like, asked_waits, drawn_waits, get_within, room_less, turned_like}
-use Rattle.jcr_session.proofs.Turning.{has_turned_later, is_awaiting, never_ends, started}
-use Rattle.jcr_session.proofs.Waiting.{by_waits, called_beside, fresh_beside, in_beside, next_beside, unmoved_beside}
-use Rattle.jcr_session.proofs.Waiting.{unpinned_beside}
+use Rattle.jcr_run.specs.Standing.{stage_of}
+use Rattle.jcr_run.proofs.Lawful.{asks_of}
+use Rattle.jcr_run.proofs.Cursors.{accepts_by}
+use Rattle.jcr_run.proofs.Lawful.{at_between, attached_still, between_asked, refusal_settles, refused_text, says_allowed}
+use Rattle.jcr_run.proofs.Nexts.{IsErrand, allowed_due, due_at, errand_checkpoint, errand_events, errand_observe, errand_read}
+use Rattle.jcr_run.proofs.Nexts.{errand_release, errand_some, errand_there, errand_viewed, errand_write, only_attach}
+use Rattle.jcr_run.proofs.Nexts.{only_errand, same_next, unattached_runs}
+use Rattle.jcr_run.proofs.Since.{kept_beside}
+use Rattle.jcr_run.proofs.Saying.{asked_like, asked_waits, drawn_waits, get_within, room_less, turned_like}
+use Rattle.jcr_run.proofs.Turning.{has_turned_later, is_awaiting, never_ends, started}
+use Rattle.jcr_run.proofs.Waiting.{by_waits, called_beside, fresh_beside, in_beside, next_beside, unmoved_beside}
+use Rattle.jcr_run.proofs.Waiting.{unpinned_beside}
 
 -- ---- the command
 

@@ -39,25 +39,30 @@ use Rattle.jcr_call.specs.declared.coming.Coming.TheVariants as coming
 use Rattle.core_calls.specs.Seeing.{SeesTrees, SeesTyped}
 use Rattle.core_calls.proofs.Called.{call_stays}
 use Rattle.core_calls.proofs.Unmoved.{attached_stands}
-use Rattle.jcr_session.specs.declared.next.Due.TheVariants as due
-use Rattle.jcr_session.specs.declared.commit.Pledge.{Pledge}
-use Rattle.jcr_session.specs.declared.run.Phase.{Phase}
-use Rattle.jcr_session.specs.declared.run.Phase.TheVariants as phase
-use Rattle.jcr_session.specs.declared.run.SessionRun.{SessionRun}
-use Rattle.jcr_session.specs.declared.turn.Turn.TheVariants as turn
-use Rattle.jcr_session.specs.Asked.{ComesNext, IsAsked, MayDrawFor, MayForgo}
-use Rattle.jcr_session.specs.Standing.{HasDrawnFor, HasCounted, IsBeside, IsCalled, IsCommitting, IsFresh, IsIn, IsInOrder, IsPlace, IsPrepared, IsTurned, KeepsCursor, Stands, StandsAt, due_for, due_to, is_allowed, is_writing, stage_at, stage_of}
-use Rattle.jcr_session.specs.Standing.{is_events, reads_for}
-use Rattle.jcr_session.proofs.Readying.{ready_by}
-use Rattle.jcr_session.proofs.Committing.{committing_drawn, own as same_number}
-use Rattle.jcr_session.proofs.Lawful.{asked_allowed, at_between, between_asked, called_typed}
-use Rattle.jcr_session.proofs.Cursors.{cursor_of_call, has_cursor_over}
-use Rattle.jcr_session.proofs.Nexts.{allowed_due, commits_due, commits_forbidden, due_at, next_due, unattached_runs}
-use Rattle.jcr_session.proofs.Stages.{commit_order, next_later}
-use Rattle.jcr_session.proofs.Starting.{some_is}
-use Rattle.jcr_session.proofs.Saying.{asked_like, asked_waits, drawn_waits, get_within}
-use Rattle.jcr_session.proofs.Turning.{is_awaiting, not_ended, plain_step, started, turned_later}
-use Rattle.jcr_session.proofs.Waiting.{by_waits, called_beside, in_beside, next_beside, unmoved_beside, unpinned_beside}
+use Rattle.jcr_run.specs.declared.next.Due.TheVariants as due
+use Rattle.jcr_run.specs.declared.run.Pledge.{Pledge}
+use Rattle.jcr_run.specs.declared.run.Phase.{Phase}
+use Rattle.jcr_run.specs.declared.run.Phase.TheVariants as phase
+use Rattle.jcr_run.specs.declared.run.SessionRun.{SessionRun}
+use Rattle.jcr_run.specs.declared.turn.Turn.TheVariants as turn
+use Rattle.jcr_run.specs.Asked.{ComesNext, IsAsked, MayForgo}
+use Rattle.jcr_session.specs.Begins.{MayDrawFor}
+use Rattle.jcr_run.specs.Standing.{HasDrawnFor, HasCounted, IsBeside, IsCalled, IsCommitting, IsFresh, IsIn, IsInOrder, IsPlace, IsPrepared, IsTurned, KeepsCursor, Stands, StandsAt, due_for, due_to, is_allowed, is_writing, stage_at, stage_of}
+use Rattle.jcr_run.specs.Standing.{is_events, reads_for}
+use Rattle.jcr_run.proofs.Readying.{ready_by}
+use Rattle.jcr_run.proofs.Committing.{committing_drawn, own as same_number}
+use Rattle.jcr_run.proofs.Lawful.{asked_allowed, at_between, between_asked, called_typed}
+use Rattle.jcr_run.proofs.Cursors.{cursor_of_call, has_cursor_over}
+use Rattle.jcr_run.proofs.Nexts.{allowed_due, commits_due, commits_forbidden, due_at, next_due, unattached_runs}
+use Rattle.jcr_run.proofs.Stages.{commit_order, next_later}
+use Rattle.jcr_run.proofs.Starting.{some_is}
+use Rattle.jcr_run.proofs.Saying.{asked_like, asked_waits, drawn_waits, get_within}
+use Rattle.jcr_run.proofs.Turning.{is_awaiting, not_ended, plain_step, started, turned_later}
+use Rattle.jcr_run.proofs.Waiting.{by_waits, called_beside, in_beside, next_beside, unmoved_beside, unpinned_beside}
+
+-- by a law that stays the plan may still be drawn for
+pub draws_law : (law later : JcrLaw) → later ≡ law → (p : Shown) (run : SessionRun) (plan : Plan) → MayDrawFor law p run plan → MayDrawFor later p run plan
+draws_law law later laws p run plan may = subst (λ (l : JcrLaw). MayDrawFor l p run plan) (sym laws) may
 
 -- a command for which a commit is due may be run
 pub commit_allowed : (run : SessionRun) (m : Command) → slice_get run.commands run.index ≡ Some m → due_for run ≡ due.Commit → is_allowed run.attached m ≡ true
@@ -207,8 +212,8 @@ module _ (law : JcrLaw) (mid : Shown) (run : SessionRun) (plan : Plan) (may : Ma
     fresh_mid = record { first = may.first; idle = may.asked.still }
 
     fresh_behind : IsFresh behind s
-    fresh_behind = Rattle.jcr_session.proofs.Waiting.fresh_beside law begun waiting waited in_begun.nodes
-        (Rattle.jcr_session.proofs.Waiting.fresh_beside law mid begun first_beside may.asked.inside.nodes fresh_mid)
+    fresh_behind = Rattle.jcr_run.proofs.Waiting.fresh_beside law begun waiting waited in_begun.nodes
+        (Rattle.jcr_run.proofs.Waiting.fresh_beside law mid begun first_beside may.asked.inside.nodes fresh_mid)
 
     unmoved_behind : is_unmoved behind s ≡ true
     unmoved_behind = unmoved_beside law begun waiting waited in_begun.nodes (unmoved_beside law mid begun first_beside may.asked.inside.nodes may.unmoved)
@@ -349,7 +354,7 @@ module _ (law : JcrLaw) (mid : Shown) (run : SessionRun) (plan : Plan) (may : Ma
   draw_stops begun new begins answer steps memory =
       let made : (steps.own ≡ []) × (new.work ≡ Idle) = subst (λ (w : Work). Makes (after steps.others begun.history) begun.session w out.Memory steps.own new.work) begins.work_is
       (subst (λ (a : Rattle.oak_port.specs.declared.task.StepOut.StepOut). Makes (after steps.others begun.history) begun.session begun.work a steps.own new.work) memory steps.makes) in record {
-        beside = Rattle.jcr_session.proofs.Starting.stopped_beside law mid begun new (Starting (task.Commit plan.edit plan.marks)) mid.room answer may.asked.inside.nodes begins steps made.0;
+        beside = Rattle.jcr_run.proofs.Starting.stopped_beside law mid begun new (Starting (task.Commit plan.edit plan.marks)) mid.room answer may.asked.inside.nodes begins steps made.0;
         idle = made.1;
         room = subst (λ (x : Option Rattle.std.proofs.Common.ℕ). Rattle.oak_port.specs.Ports.HasRoom x 40) (sym (steps.room ∙ begins.room_is)) may.place.told;
       }

@@ -45,18 +45,19 @@ use Rattle.core_calls.proofs.Alone.{tree_next}
 use Rattle.core_calls.proofs.Draws.{draw_known}
 use Rattle.core_calls.proofs.Unmoved.{drawn_where_begun}
 use Rattle.jcr_steps.specs.declared.limits.TheConstants.{COMMIT_REPLY_BYTES}
-use Rattle.jcr_session.specs.declared.commit.Pledge.{Pledge}
-use Rattle.jcr_session.specs.declared.next.Due.TheVariants as due
-use Rattle.jcr_session.specs.declared.run.Phase.TheVariants as phase
-use Rattle.jcr_session.specs.declared.run.SessionRun.{SessionRun}
-use Rattle.jcr_session.specs.Asked.{HasClashed, IsAsked, MayAnswer, MayForgo, SeesCommit, Settles, has_drawn}
-use Rattle.jcr_session.specs.Standing.{IsAtEnd, IsCalled, IsMadeFor, IsUnmade, Stands, due_by}
+use Rattle.jcr_run.specs.declared.run.Pledge.{Pledge}
+use Rattle.jcr_run.specs.declared.next.Due.TheVariants as due
+use Rattle.jcr_run.specs.declared.run.Phase.TheVariants as phase
+use Rattle.jcr_run.specs.declared.run.SessionRun.{SessionRun}
+use Rattle.jcr_run.specs.Asked.{IsAsked, MayAnswer, MayForgo, Settles, has_drawn}
+use Rattle.jcr_session.specs.Begins.{HasClashed, SeesCommit}
+use Rattle.jcr_run.specs.Standing.{IsAtEnd, IsCalled, IsMadeFor, IsUnmade, Stands, due_by}
 use Rattle.jcr_session.proofs.Drawing.{commit_allowed, commit_detached}
-use Rattle.jcr_session.proofs.Cursors.{accepts_by, cursor_refused, cursor_settled}
-use Rattle.jcr_session.proofs.Lawful.{attached_still, forgo_answers, refused_text, says_allowed, settled_asked, settled_attached, settled_leaves}
-use Rattle.jcr_session.proofs.Lawful.{settled_says}
-use Rattle.jcr_session.proofs.Nexts.{allowed_due, apart, due_at, due_number, sets_cursor, sets_none, unviewed_due}
-use Rattle.jcr_session.proofs.Saying.{asked_like}
+use Rattle.jcr_run.proofs.Cursors.{accepts_by, cursor_refused, cursor_settled}
+use Rattle.jcr_run.proofs.Lawful.{attached_still, forgo_answers, refused_text, says_allowed, settled_asked, settled_attached, settled_leaves}
+use Rattle.jcr_run.proofs.Lawful.{settled_says}
+use Rattle.jcr_run.proofs.Nexts.{allowed_due, apart, due_at, due_number, sets_cursor, sets_none, unviewed_due}
+use Rattle.jcr_run.proofs.Saying.{asked_like}
 
 -- ---- the command whose commit has ended
 

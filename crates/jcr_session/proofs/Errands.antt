@@ -49,8 +49,8 @@ use Rattle.jcr_law.specs.Tasks.{is_out, knows_published, misses}
 use Rattle.jcr_law.specs.Starting.{call_has_base}
 use Rattle.jcr_law.specs.State.{Call, call_of, command_at, is_ok_text, next_id}
 use Rattle.jcr_held.specs.Accepts.{IsFilterOf}
-use Rattle.jcr_session.specs.declared.next.Due.{Due}
-use Rattle.jcr_session.specs.declared.next.Due.TheVariants as due
+use Rattle.jcr_run.specs.declared.next.Due.{Due}
+use Rattle.jcr_run.specs.declared.next.Due.TheVariants as due
 use Rattle.core_calls.proofs.Called.{call_stays}
 use Rattle.jcr_steps.specs.declared.errand.Came.{Came}
 use Rattle.jcr_steps.specs.declared.errand.Came.TheVariants as coming
@@ -59,37 +59,37 @@ use Rattle.jcr_steps.specs.declared.errand.Errand.TheVariants as errand
 use Rattle.jcr_steps.specs.declared.errand.Told.{Told}
 use Rattle.jcr_steps.specs.declared.errand.Told.TheVariants as ended
 use Rattle.jcr_steps.specs.declared.limits.TheConstants.{COMMIT_REPLY_BYTES, VECTOR_REPLY_BYTES}
-use Rattle.jcr_session.specs.declared.run.Phase.{Phase}
-use Rattle.jcr_session.specs.declared.run.Phase.TheVariants as phase
-use Rattle.jcr_session.specs.declared.run.SessionRun.{SessionRun}
-use Rattle.jcr_session.specs.declared.turn.Turn.{Turn}
-use Rattle.jcr_session.specs.declared.turn.Turn.TheVariants as turn
-use Rattle.jcr_session.specs.Asked.{MayForgo}
-use Rattle.jcr_session.specs.Nearing.{IsReply}
+use Rattle.jcr_run.specs.declared.run.Phase.{Phase}
+use Rattle.jcr_run.specs.declared.run.Phase.TheVariants as phase
+use Rattle.jcr_run.specs.declared.run.SessionRun.{SessionRun}
+use Rattle.jcr_run.specs.declared.turn.Turn.{Turn}
+use Rattle.jcr_run.specs.declared.turn.Turn.TheVariants as turn
+use Rattle.jcr_run.specs.Asked.{MayForgo}
+use Rattle.jcr_run.specs.Nearing.{IsReply}
 use Rattle.jcr_steps.specs.Answered.{IsErrandAnswer, MayCome, MayEnd, came_by, kind_told, told_by}
 use Rattle.jcr_session.specs.Phases.{phase_came, turn_came}
-use Rattle.jcr_session.specs.Standing.{HasCounted, HasCursor, IsAtWork, IsBeside, IsFresh, IsIn, IsToldFor, due_for, is_errand, is_told_for}
+use Rattle.jcr_run.specs.Standing.{HasCounted, HasCursor, IsAtWork, IsBeside, IsFresh, IsIn, IsToldFor, due_for, is_errand, is_told_for}
 use Rattle.jcr_steps.specs.Kept.{HasPlace, IsEight}
-use Rattle.jcr_session.specs.Standing.{IsInOrder, IsKeptFor, IsOnCommand, IsWorkFor, Stands, StandsAt, is_writing}
+use Rattle.jcr_run.specs.Standing.{IsInOrder, IsKeptFor, IsOnCommand, IsWorkFor, Stands, StandsAt, is_writing}
 use Rattle.jcr_steps.specs.Kept.{kept_for}
 use Rattle.jcr_steps.specs.Kept.{kept_of, reply_of}
-use Rattle.jcr_session.specs.Standing.{stage_at, stage_of}
-use Rattle.jcr_session.proofs.Calling.{is_idle}
-use Rattle.jcr_session.proofs.Committing.{own as same_number, same_itself}
-use Rattle.jcr_session.proofs.Cursors.{cursor_settled, has_cursor_over}
-use Rattle.jcr_session.proofs.Lawful.{asked_allowed}
-use Rattle.jcr_session.proofs.Nexts.{errand_there, sets_cursor, unattached_runs}
+use Rattle.jcr_run.specs.Standing.{stage_at, stage_of}
+use Rattle.jcr_run.proofs.Calling.{is_idle}
+use Rattle.jcr_run.proofs.Committing.{own as same_number, same_itself}
+use Rattle.jcr_run.proofs.Cursors.{cursor_settled, has_cursor_over}
+use Rattle.jcr_run.proofs.Lawful.{asked_allowed}
+use Rattle.jcr_run.proofs.Nexts.{errand_there, sets_cursor, unattached_runs}
 use Rattle.jcr_session.proofs.Pinned.{pinned_base}
 use Rattle.jcr_session.proofs.Plain.{IsPlain, plain_back, plain_checkpoint, plain_in, plain_out, plain_pin, plain_release, plain_setting}
-use Rattle.jcr_session.proofs.Since.{kept_still}
+use Rattle.jcr_run.proofs.Since.{kept_still}
 use Rattle.jcr_session.proofs.Rising.{knows_more, knows_public, local_before}
-use Rattle.jcr_session.proofs.Saying.{replied_like, room_less}
-use Rattle.jcr_session.proofs.Stages.{inside_order, next_is}
-use Rattle.jcr_session.proofs.Starting.{some_is}
+use Rattle.jcr_run.proofs.Saying.{replied_like, room_less}
+use Rattle.jcr_run.proofs.Stages.{inside_order, next_is}
+use Rattle.jcr_run.proofs.Starting.{some_is}
 use Rattle.jcr_session.proofs.Stepping.{inside_moment, inside_quiet, moved, run_moment, run_new, turned_quiet}
-use Rattle.jcr_session.proofs.Turning.{is_awaiting, replied_later, unawaited}
-use Rattle.jcr_session.proofs.Waiting.{all_same, call_still, command_beside, fresh_still, in_beside, next_beside, unmoved_beside, unpinned_beside, work_still}
-use Rattle.jcr_session.proofs.Works.{WorkCase, learning, publishing, to_keep, to_observe, to_read, to_release, to_show, to_write, work_case}
+use Rattle.jcr_run.proofs.Turning.{is_awaiting, replied_later, unawaited}
+use Rattle.jcr_run.proofs.Waiting.{all_same, call_still, command_beside, fresh_still, in_beside, next_beside, unmoved_beside, unpinned_beside, work_still}
+use Rattle.jcr_run.proofs.Works.{WorkCase, learning, publishing, to_keep, to_observe, to_read, to_release, to_show, to_write, work_case}
 
 -- ---- what is kept
 

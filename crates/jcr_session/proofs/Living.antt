@@ -31,19 +31,19 @@ use Rattle.jcr_held.specs.declared.held.Held.{Held}
 use Rattle.core_calls.specs.Events.{state_at_login}
 use Rattle.core_calls.specs.Seeing.{SeesTrees, SeesTyped}
 use Rattle.core_calls.proofs.Called.{login_call}
-use Rattle.jcr_session.specs.declared.read.Fetch.{Fetch}
-use Rattle.jcr_session.specs.declared.run.Phase.{Phase}
-use Rattle.jcr_session.specs.declared.run.Phase.TheVariants as phase
-use Rattle.jcr_session.specs.declared.run.SessionRun.{SessionRun}
-use Rattle.jcr_session.specs.declared.turn.Turn.{Turn}
-use Rattle.jcr_session.specs.declared.turn.Turn.TheVariants as turn
-use Rattle.jcr_session.specs.Standing.{AreSince, HasCounted, IsBetween, IsFetchFor, IsFresh, IsIn, IsOutside, IsReading, KeepsCursor, Stands, StandsAt, is_writing}
-use Rattle.jcr_session.proofs.Committing.{own}
-use Rattle.jcr_session.proofs.Cursors.{cursor_of_call}
-use Rattle.jcr_session.proofs.Nexts.{unwanted}
-use Rattle.jcr_session.proofs.Stages.{outside_order}
-use Rattle.jcr_session.proofs.Turning.{is_awaiting, not_ended, plain_step, started, turned_later}
-use Rattle.jcr_session.proofs.Waiting.{by_waits, login_stays}
+use Rattle.jcr_run.specs.declared.run.Fetch.{Fetch}
+use Rattle.jcr_run.specs.declared.run.Phase.{Phase}
+use Rattle.jcr_run.specs.declared.run.Phase.TheVariants as phase
+use Rattle.jcr_run.specs.declared.run.SessionRun.{SessionRun}
+use Rattle.jcr_run.specs.declared.turn.Turn.{Turn}
+use Rattle.jcr_run.specs.declared.turn.Turn.TheVariants as turn
+use Rattle.jcr_run.specs.Standing.{AreSince, HasCounted, IsBetween, IsFetchFor, IsFresh, IsIn, IsOutside, IsReading, KeepsCursor, Stands, StandsAt, is_writing}
+use Rattle.jcr_run.proofs.Committing.{own}
+use Rattle.jcr_run.proofs.Cursors.{cursor_of_call}
+use Rattle.jcr_run.proofs.Nexts.{unwanted}
+use Rattle.jcr_run.proofs.Stages.{outside_order}
+use Rattle.jcr_run.proofs.Turning.{is_awaiting, not_ended, plain_step, started, turned_later}
+use Rattle.jcr_run.proofs.Waiting.{by_waits, login_stays}
 
 same_number : (t s : ℕ) → (t == s) ≡ true → t ≡ s
 same_number t s h = grind (arith, nat_tests)

@@ -49,31 +49,32 @@ use Rattle.jcr_steps.specs.declared.limits.TheConstants.{COMMIT_REPLY_BYTES, VEC
 use Rattle.jcr_steps.specs.Answered.{IsPinAnswer}
 use Rattle.jcr_steps.specs.Kept.{HasPlace}
 use Rattle.jcr_session.specs.declared.moves.Target.{Target}
-use Rattle.jcr_session.specs.declared.next.Due.TheVariants as due
-use Rattle.jcr_session.specs.declared.run.Phase.{Phase}
-use Rattle.jcr_session.specs.declared.run.Phase.TheVariants as phase
-use Rattle.jcr_session.specs.declared.run.SessionRun.{SessionRun}
-use Rattle.jcr_session.specs.declared.turn.Turn.{Turn}
-use Rattle.jcr_session.specs.declared.turn.Turn.TheVariants as turn
-use Rattle.jcr_session.specs.Nearing.{IsReply}
-use Rattle.jcr_session.specs.Asked.{IsAsked, IsTargetNext, IsTargetOf, MayAnswer, MayStayHalf, Settles, has_drawn}
-use Rattle.jcr_session.specs.Standing.{HasAwaited, HasCounted, IsBeside, IsBetween, IsDetaching, IsFresh, IsHalfDetached, IsIn}
-use Rattle.jcr_session.specs.Standing.{IsInOrder, IsMoved, Stands, StandsAt, due_for, is_allowed, is_attaching, is_moving, is_told_for}
-use Rattle.jcr_session.specs.Standing.{is_writing, stage_at}
-use Rattle.jcr_session.proofs.Asking.{asks_of}
+use Rattle.jcr_run.specs.declared.next.Due.TheVariants as due
+use Rattle.jcr_run.specs.declared.run.Phase.{Phase}
+use Rattle.jcr_run.specs.declared.run.Phase.TheVariants as phase
+use Rattle.jcr_run.specs.declared.run.SessionRun.{SessionRun}
+use Rattle.jcr_run.specs.declared.turn.Turn.{Turn}
+use Rattle.jcr_run.specs.declared.turn.Turn.TheVariants as turn
+use Rattle.jcr_run.specs.Nearing.{IsReply}
+use Rattle.jcr_run.specs.Asked.{IsAsked, MayAnswer, Settles, has_drawn}
+use Rattle.jcr_session.specs.Begins.{IsTargetNext, IsTargetOf, MayStayHalf}
+use Rattle.jcr_run.specs.Standing.{HasAwaited, HasCounted, IsBeside, IsBetween, IsDetaching, IsFresh, IsHalfDetached, IsIn}
+use Rattle.jcr_run.specs.Standing.{IsInOrder, IsMoved, Stands, StandsAt, due_for, is_allowed, is_attaching, is_moving, is_told_for}
+use Rattle.jcr_run.specs.Standing.{is_writing, stage_at}
+use Rattle.jcr_run.proofs.Lawful.{asks_of}
 use Rattle.jcr_session.proofs.Bases.{IsBased, attached_base, based_attached, by_event, first_of, first_turn, looked_on, missed_came, refreshed_base}
 use Rattle.jcr_session.proofs.Bases.{says_event, unmoved_then}
-use Rattle.jcr_session.proofs.Committing.{own}
-use Rattle.jcr_session.proofs.Cursors.{cursor_refused}
-use Rattle.jcr_session.proofs.Calling.{is_idle}
-use Rattle.jcr_session.proofs.Lawful.{asked_allowed, at_between, refused_text, settled_leaves}
-use Rattle.jcr_session.proofs.Nexts.{allowed_due, due_at, next_due, only_attach, only_detach, only_refresh, unattached_runs, detaches_attached}
-use Rattle.jcr_session.proofs.Saying.{asked_like, room_less}
-use Rattle.jcr_session.proofs.Stages.{inside_order, next_is}
-use Rattle.jcr_session.proofs.Starting.{made, of_step}
+use Rattle.jcr_run.proofs.Committing.{own}
+use Rattle.jcr_run.proofs.Cursors.{cursor_refused}
+use Rattle.jcr_run.proofs.Calling.{is_idle}
+use Rattle.jcr_run.proofs.Lawful.{asked_allowed, at_between, refused_text, settled_leaves}
+use Rattle.jcr_run.proofs.Nexts.{allowed_due, due_at, next_due, only_attach, only_detach, only_refresh, unattached_runs, detaches_attached}
+use Rattle.jcr_run.proofs.Saying.{asked_like, room_less}
+use Rattle.jcr_run.proofs.Stages.{inside_order, next_is}
+use Rattle.jcr_run.proofs.Starting.{made, of_step}
 use Rattle.jcr_session.proofs.Stepping.{inside_moment, inside_quiet, moved, run_moment, run_new, turned_with}
-use Rattle.jcr_session.proofs.Turning.{IsQuiet, is_awaiting, quiet_by, replied_later, unawaited}
-use Rattle.jcr_session.proofs.Waiting.{half_beside, in_beside, next_beside}
+use Rattle.jcr_run.proofs.Turning.{IsQuiet, is_awaiting, quiet_by, replied_later, unawaited}
+use Rattle.jcr_run.proofs.Waiting.{half_beside, in_beside, next_beside}
 
 -- ---- which command it is
 

@@ -12,13 +12,13 @@ use Rattle.jcr_trans.specs.declared.command.Command.TheVariants as command
 use Rattle.jcr_law.specs.declared.law.JcrLaw.{JcrLaw}
 use Rattle.jcr_law.specs.Since.{is_unmoved}
 use Rattle.jcr_law.specs.State.{Call}
-use Rattle.jcr_session.specs.declared.run.Phase.{Phase}
-use Rattle.jcr_session.specs.declared.run.Phase.TheVariants as phase
-use Rattle.jcr_session.specs.declared.run.SessionRun.{SessionRun}
-use Rattle.jcr_session.specs.Standing.{HasCommitted, IsCommitting, MovesBase, Stands, StandsAt, due_by, due_for, is_move, is_moving}
-use Rattle.jcr_session.proofs.Lawful.{moving_due}
-use Rattle.jcr_session.proofs.Nexts.{due_at}
-use Rattle.jcr_session.proofs.Stages.{next_is}
+use Rattle.jcr_run.specs.declared.run.Phase.{Phase}
+use Rattle.jcr_run.specs.declared.run.Phase.TheVariants as phase
+use Rattle.jcr_run.specs.declared.run.SessionRun.{SessionRun}
+use Rattle.jcr_run.specs.Standing.{HasCommitted, IsCommitting, MovesBase, Stands, StandsAt, due_by, due_for, is_move, is_moving}
+use Rattle.jcr_run.proofs.Lawful.{moving_due}
+use Rattle.jcr_run.proofs.Nexts.{due_at}
+use Rattle.jcr_run.proofs.Stages.{next_is}
 
 -- a command that is to move the base
 moves_its_base : (run : SessionRun) (m : Command) → slice_get run.commands run.index ≡ Some m → is_moving (due_for run) ≡ true → is_move m ≡ true

@@ -15,12 +15,12 @@ use Rattle.core_calls.proofs.Beginning.{next_reply}
 use Rattle.core_heads.proofs.Passing.{next_stays}
 use Rattle.jcr_trans.specs.declared.command.Command.{Command}
 use Rattle.jcr_law.specs.declared.law.JcrLaw.{JcrLaw}
-use Rattle.jcr_session.specs.declared.commit.Pledge.{Pledge}
-use Rattle.jcr_session.specs.declared.run.Phase.{Phase}
-use Rattle.jcr_session.specs.declared.run.Phase.TheVariants as phase
-use Rattle.jcr_session.specs.declared.run.SessionRun.{SessionRun}
-use Rattle.jcr_session.specs.declared.turn.Turn.{Turn}
-use Rattle.jcr_session.specs.declared.turn.Turn.TheVariants as turn
+use Rattle.jcr_run.specs.declared.run.Pledge.{Pledge}
+use Rattle.jcr_run.specs.declared.run.Phase.{Phase}
+use Rattle.jcr_run.specs.declared.run.Phase.TheVariants as phase
+use Rattle.jcr_run.specs.declared.run.SessionRun.{SessionRun}
+use Rattle.jcr_run.specs.declared.turn.Turn.{Turn}
+use Rattle.jcr_run.specs.declared.turn.Turn.TheVariants as turn
 use Rattle.jcr_steps.specs.declared.errand.Came.{Came}
 use Rattle.jcr_steps.specs.declared.errand.Came.TheVariants as came
 use Rattle.jcr_steps.specs.declared.errand.Errand.{Errand}
@@ -28,10 +28,10 @@ use Rattle.jcr_steps.specs.declared.errand.Told.{Told}
 use Rattle.jcr_steps.specs.declared.errand.Told.TheVariants as told
 use Rattle.jcr_steps.specs.Answered.{IsErrandAnswer, told_by}
 use Rattle.jcr_session.specs.Phases.{phase_by, phase_came, turn_by, turn_came}
-use Rattle.jcr_session.specs.Nearing.{ComesNearer, EndsOrStays, EndsSooner, IsReply, ReadsOn, StaysBehindStep, StepsOn, WorksSooner}
-use Rattle.jcr_session.specs.Nearing.{turns_left, stages_left}
-use Rattle.jcr_session.specs.Standing.{HasCounted, HasTurned, IsSame, Stands, is_committing, is_detaching, is_on_errand, is_working}
-use Rattle.jcr_session.proofs.Nearing.{memory_sooner, sooner_by}
+use Rattle.jcr_run.specs.Nearing.{ComesNearer, EndsOrStays, EndsSooner, IsReply, ReadsOn, StaysBehindStep, StepsOn, WorksSooner}
+use Rattle.jcr_run.specs.Nearing.{turns_left, stages_left}
+use Rattle.jcr_run.specs.Standing.{HasCounted, HasTurned, IsSame, Stands, is_committing, is_detaching, is_on_errand, is_working}
+use Rattle.jcr_fetch.proofs.Nearing.{memory_sooner, sooner_by}
 
 -- ---- what is left
 

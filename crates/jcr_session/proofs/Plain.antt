@@ -12,9 +12,9 @@ use Rattle.oak_machine.specs.Sessions.{drawn_since, is_drawing, since}
 use Rattle.oak_port.specs.Ports.{Work, is_by_due}
 use Rattle.core_heads.proofs.Passing.{among_same}
 use Rattle.jcr_law.specs.Since.{is_pinning, is_unmoved, is_unpinned}
-use Rattle.jcr_session.specs.Standing.{HasAwaited, IsOneStep}
-use Rattle.jcr_session.proofs.Committing.{own as same_number}
-use Rattle.jcr_session.proofs.Turning.{IsQuiet}
+use Rattle.jcr_run.specs.Standing.{HasAwaited, IsOneStep}
+use Rattle.jcr_run.proofs.Committing.{own as same_number}
+use Rattle.jcr_run.proofs.Turning.{IsQuiet}
 
 pub record IsPlain (s : ℕ) (own : Past) : Type 0 where
   pub quiet : IsQuiet s own

@@ -32,22 +32,22 @@ use Rattle.jcr_law.specs.State.{Call, call_of}
 use Rattle.jcr_held.specs.declared.held.Held.{Held}
 use Rattle.core_calls.specs.Seeing.{SeesTrees, SeesTyped}
 use Rattle.core_calls.proofs.Called.{call_stays, refresh_call}
-use Rattle.jcr_session.specs.declared.commit.Pledge.{Pledge}
-use Rattle.jcr_session.specs.declared.run.Phase.{Phase}
-use Rattle.jcr_session.specs.declared.run.Phase.TheVariants as phase
-use Rattle.jcr_session.specs.declared.run.SessionRun.{SessionRun}
-use Rattle.jcr_session.specs.declared.turn.Turn.{Turn}
-use Rattle.jcr_session.specs.declared.turn.Turn.TheVariants as turn
+use Rattle.jcr_run.specs.declared.run.Pledge.{Pledge}
+use Rattle.jcr_run.specs.declared.run.Phase.{Phase}
+use Rattle.jcr_run.specs.declared.run.Phase.TheVariants as phase
+use Rattle.jcr_run.specs.declared.run.SessionRun.{SessionRun}
+use Rattle.jcr_run.specs.declared.turn.Turn.{Turn}
+use Rattle.jcr_run.specs.declared.turn.Turn.TheVariants as turn
 use Rattle.jcr_steps.specs.Answered.{kind_of_end}
 use Rattle.jcr_session.specs.Phases.{phase_by, turn_by}
-use Rattle.jcr_session.specs.Standing.{HasAwaited, HasCommitted, HasDrawnFor, HasCounted, IsBeside, IsCalled, IsCommitting, IsFor, IsIn, IsInCommit, IsInOrder, IsMade, IsMadeFor, IsPlace, IsSeenFor, IsStep, IsToldEnd, IsTurned, KeepsCursor, Stands, StandsAt, Tells, is_writing, stage_at, stage_of}
-use Rattle.jcr_session.proofs.Cursors.{cursor_moved, has_cursor_over}
-use Rattle.jcr_session.proofs.Committing.{clash_end, committing_finish, committing_undo, committing_write, own, still_moved, unmade_end}
+use Rattle.jcr_run.specs.Standing.{HasAwaited, HasCommitted, HasDrawnFor, HasCounted, IsBeside, IsCalled, IsCommitting, IsFor, IsIn, IsInCommit, IsInOrder, IsMade, IsMadeFor, IsPlace, IsSeenFor, IsStep, IsToldEnd, IsTurned, KeepsCursor, Stands, StandsAt, Tells, is_writing, stage_at, stage_of}
+use Rattle.jcr_run.proofs.Cursors.{cursor_moved, has_cursor_over}
+use Rattle.jcr_run.proofs.Committing.{clash_end, committing_finish, committing_undo, committing_write, own, still_moved, unmade_end}
 use Rattle.jcr_session.proofs.Drawing.{commit_commits}
-use Rattle.jcr_session.proofs.Reading.{tree_called}
-use Rattle.jcr_session.proofs.Stages.{commit_order, next_is, refusal_kind}
-use Rattle.jcr_session.proofs.Turning.{IsQuiet, Link, awaited_finish, awaited_write, due_finish, free, has_turned_later, is_awaiting, never_ends, one_finish, one_write, quiet_by, quiet_finish, quiet_write}
-use Rattle.jcr_session.proofs.Waiting.{all_same, call_still, committing_still, in_beside}
+use Rattle.jcr_run.proofs.Reading.{tree_called}
+use Rattle.jcr_run.proofs.Stages.{commit_order, next_is, refusal_kind}
+use Rattle.jcr_run.proofs.Turning.{IsQuiet, Link, awaited_finish, awaited_write, due_finish, free, has_turned_later, is_awaiting, never_ends, one_finish, one_write, quiet_by, quiet_finish, quiet_write}
+use Rattle.jcr_run.proofs.Waiting.{all_same, call_still, committing_still, in_beside}
 
 -- ---- a step
 
@@ -216,12 +216,12 @@ module _ (law : JcrLaw) (old new : Shown) (answer : StepOut) (run : SessionRun) 
     undone r (commit.Clash item o) finish (has, unmade, told) = (
       r,
       called_quiet (quiet_finish old.session r steps.own finish),
-      moved (λ h s. Rattle.jcr_session.specs.Standing.IsClash h.past s r (commit.Clash item o)) (clash_end moment.past old.session r (commit.Clash item o) steps.own finish has unmade told),
+      moved (λ h s. Rattle.jcr_run.specs.Standing.IsClash h.past s r (commit.Clash item o)) (clash_end moment.past old.session r (commit.Clash item o) steps.own finish has unmade told),
     )
     undone r commit.Memory finish (has, unmade, told) = (
       r,
       called_quiet (quiet_finish old.session r steps.own finish),
-      moved (λ h s. Rattle.jcr_session.specs.Standing.IsUnmade h.past s r) (unmade_end moment.past old.session r steps.own finish has unmade),
+      moved (λ h s. Rattle.jcr_run.specs.Standing.IsUnmade h.past s r) (unmade_end moment.past old.session r steps.own finish has unmade),
     )
     undone r (commit.Committed q) finish (has, unmade, told) = absurd told
 

@@ -20,15 +20,15 @@ use Rattle.oak_port.specs.declared.task.StepOut.{StepOut}
 use Rattle.oak_port.specs.declared.task.StepOut.TheVariants as out
 use Rattle.oak_port.specs.declared.task.TaskEnd.TheVariants as end
 use Rattle.jcr_law.specs.declared.law.JcrLaw.{JcrLaw}
-use Rattle.jcr_session.specs.declared.commit.Pledge.{Pledge}
-use Rattle.jcr_session.specs.declared.run.Phase.{Phase}
-use Rattle.jcr_session.specs.declared.run.Phase.TheVariants as phase
-use Rattle.jcr_session.specs.declared.run.SessionRun.{SessionRun}
-use Rattle.jcr_session.specs.declared.turn.Turn.{Turn}
-use Rattle.jcr_session.specs.declared.turn.Turn.TheVariants as turn
-use Rattle.jcr_session.specs.Nearing.{DrawsNoOther, IsReply}
-use Rattle.jcr_session.specs.Standing.{HasCounted, IsCommitting, IsGranted, Stands, StandsAt}
-use Rattle.jcr_session.proofs.Others.{is_draw_of, no_draws}
+use Rattle.jcr_run.specs.declared.run.Pledge.{Pledge}
+use Rattle.jcr_run.specs.declared.run.Phase.{Phase}
+use Rattle.jcr_run.specs.declared.run.Phase.TheVariants as phase
+use Rattle.jcr_run.specs.declared.run.SessionRun.{SessionRun}
+use Rattle.jcr_run.specs.declared.turn.Turn.{Turn}
+use Rattle.jcr_run.specs.declared.turn.Turn.TheVariants as turn
+use Rattle.jcr_run.specs.Nearing.{DrawsNoOther, IsReply}
+use Rattle.jcr_run.specs.Standing.{HasCounted, IsCommitting, IsGranted, Stands, StandsAt}
+use Rattle.jcr_run.proofs.Others.{is_draw_of, no_draws}
 
 -- ---- events with no draw of a session
 

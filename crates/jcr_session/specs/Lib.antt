@@ -1,4 +1,2 @@
-pub mod Asked
-pub mod Nearing
+pub mod Begins
 pub mod Phases
-pub mod Standing

@@ -7,10 +7,10 @@ use Rattle.jcr_steps.specs.declared.errand.Came.{Came}
 use Rattle.jcr_steps.specs.declared.errand.Came.TheVariants as came
 use Rattle.jcr_steps.specs.declared.errand.Errand.{Errand}
 use Rattle.jcr_steps.specs.Answered.{kind_of_end, kind_told, told_by}
-use Rattle.jcr_session.specs.declared.run.Phase.{Phase}
-use Rattle.jcr_session.specs.declared.run.Phase.TheVariants as phase
-use Rattle.jcr_session.specs.declared.turn.Turn.{Turn}
-use Rattle.jcr_session.specs.declared.turn.Turn.TheVariants as turn
+use Rattle.jcr_run.specs.declared.run.Phase.{Phase}
+use Rattle.jcr_run.specs.declared.run.Phase.TheVariants as phase
+use Rattle.jcr_run.specs.declared.turn.Turn.{Turn}
+use Rattle.jcr_run.specs.declared.turn.Turn.TheVariants as turn
 
 -- the turn of a commit, by what its step answered
 abbrev pub turn_by : StepOut → Turn
@@ -34,7 +34,8 @@ abbrev pub turn_came : Came → Turn
 turn_came (came.Going k) = turn.Stepped k
 turn_came x = turn.Stepped (kind_told x)
 
--- where the session stands then
+-- where the session stands behind a step of a task that wasn't refused memory, by what that step
+-- came to
 abbrev pub phase_came : Came → Errand → Phase
 phase_came (came.Going k) e = phase.Working e
 phase_came x e = phase.Told (told_by x e)

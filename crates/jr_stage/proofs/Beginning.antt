@@ -14,7 +14,7 @@ use Rattle.jr_types.specs.Rules.{TypesOk}
 use Rattle.jr_types.specs.declared.TypeDef.{TypeDef}
 use Rattle.jcr_law.specs.declared.law.JcrLaw.{JcrLaw}
 use Rattle.core_obeys.specs.Seeing.{SeesTrees, SeesTyped}
-use Rattle.jcr_session.proofs.Staying.{new_stands}
+use Rattle.jcr_run.proofs.Staying.{new_stands}
 use Rattle.jr_script.specs.Bounds.{IsWithin}
 use Rattle.jr_script.specs.declared.script.Script.{Script}
 use Rattle.jcr_trans.specs.declared.command.SessionScript.{SessionScript}

@@ -6,8 +6,8 @@ use mathlib.Core.Bool.{false≢true}
 use Rattle.oak_machine.specs.declared.event.StepKind.{StepKind}
 use Rattle.oak_machine.specs.History.{Past}
 use Rattle.oak_machine.specs.Steps.{is_one_step}
-use Rattle.jcr_session.specs.declared.turn.Turn.{Turn}
-use Rattle.jcr_session.specs.declared.turn.Turn.TheVariants as turn
+use Rattle.jcr_run.specs.declared.turn.Turn.{Turn}
+use Rattle.jcr_run.specs.declared.turn.Turn.TheVariants as turn
 use Rattle.jr_script.specs.declared.script.Script.{Script}
 use Rattle.jr_script.specs.declared.script.Entry.TheVariants as entry
 use Rattle.jr_stage.specs.declared.stage.Stage.{Stage}

@@ -27,11 +27,11 @@ use Rattle.oak_port.specs.Ports.{Awaiting, Beside, Deciding, Idle, Seat as PortS
 use Rattle.oak_world.specs.Seen.{no_seat, seat_of, shown_at, shown_work}
 use Rattle.oak_world.specs.Worlds.{ActorState, WorldOf, actor_in, idle, live, work_in}
 use Rattle.jcr_law.specs.declared.law.JcrLaw.{JcrLaw}
-use Rattle.jcr_session.specs.declared.run.SessionRun.{SessionRun}
-use Rattle.jcr_session.specs.declared.turn.Turn.{Turn}
+use Rattle.jcr_run.specs.declared.run.SessionRun.{SessionRun}
+use Rattle.jcr_run.specs.declared.turn.Turn.{Turn}
 use Rattle.jcr_law.specs.Lasting.{says_of, starts_of}
-use Rattle.jcr_session.specs.Standing.{HasAwaited, IsBeside, IsMade, IsOneStep, IsSeenFor, IsStep, IsTurned, Stands, Tells, is_step_event}
-use Rattle.jcr_session.proofs.Staying.{stands_beside}
+use Rattle.jcr_run.specs.Standing.{HasAwaited, IsBeside, IsMade, IsOneStep, IsSeenFor, IsStep, IsTurned, Stands, Tells, is_step_event}
+use Rattle.jcr_run.proofs.Staying.{stands_beside}
 use Rattle.jr_script.specs.declared.script.Script.{Script}
 use Rattle.jcr_trans.specs.declared.command.SessionScript.{SessionScript}
 use Rattle.jr_stage.specs.declared.stage.Seat.{Seat}

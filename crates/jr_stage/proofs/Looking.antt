@@ -21,13 +21,13 @@ use Rattle.oak_world.specs.Worlds.{WorldOf, actor_in, live, work_in}
 use Rattle.jcr_law.specs.declared.law.JcrLaw.{JcrLaw}
 use Rattle.jcr_law.specs.State.{Call, call_of}
 use Rattle.jcr_trans.specs.declared.command.Command.{Command}
-use Rattle.jcr_session.specs.Nearing.{EndsSooner, HasNeared, LessIsUnread, turns_left, stages_left, unread_of}
-use Rattle.jcr_session.specs.declared.read.Fetch.{Fetch}
-use Rattle.jcr_session.specs.declared.read.Fetch.TheVariants as fetch
-use Rattle.jcr_session.specs.declared.run.Phase.{Phase}
-use Rattle.jcr_session.specs.declared.run.Phase.TheVariants as phase
-use Rattle.jcr_session.specs.declared.run.SessionRun.{SessionRun}
-use Rattle.jcr_session.specs.Standing.{HasLooked, IsCalled, IsReading, Stands, StandsAt, due_of, is_between, is_working, may_read, reads_for}
+use Rattle.jcr_run.specs.Nearing.{EndsSooner, HasNeared, LessIsUnread, turns_left, stages_left, unread_of}
+use Rattle.jcr_run.specs.declared.run.Fetch.{Fetch}
+use Rattle.jcr_run.specs.declared.run.Fetch.TheVariants as fetch
+use Rattle.jcr_run.specs.declared.run.Phase.{Phase}
+use Rattle.jcr_run.specs.declared.run.Phase.TheVariants as phase
+use Rattle.jcr_run.specs.declared.run.SessionRun.{SessionRun}
+use Rattle.jcr_run.specs.Standing.{HasLooked, IsCalled, IsReading, Stands, StandsAt, due_of, is_between, is_working, may_read, reads_for}
 use Rattle.jr_script.specs.declared.script.Entry.TheVariants as entry
 use Rattle.jr_script.specs.Bounds.{IsWithin}
 use Rattle.jr_script.specs.declared.script.Script.{Script}

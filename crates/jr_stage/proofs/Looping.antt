@@ -8,9 +8,9 @@ use Rattle.oak_machine.specs.declared.event.StepKind.{StepKind}
 use Rattle.oak_machine.specs.History.{Past}
 use Rattle.oak_machine.specs.Sessions.{has_left, is_drawing, next_index}
 use Rattle.oak_world.specs.Seen.{shown_at}
-use Rattle.jcr_session.specs.Standing.{is_saving}
-use Rattle.jcr_session.specs.declared.turn.Turn.{Turn}
-use Rattle.jcr_session.specs.declared.turn.Turn.TheVariants as turn
+use Rattle.jcr_run.specs.Standing.{is_saving}
+use Rattle.jcr_run.specs.declared.turn.Turn.{Turn}
+use Rattle.jcr_run.specs.declared.turn.Turn.TheVariants as turn
 use Rattle.jr_script.specs.declared.script.Script.{Script}
 use Rattle.jr_script.specs.declared.script.Entry.TheVariants as entry
 use Rattle.jr_stage.specs.declared.stage.Seat.{Seat}

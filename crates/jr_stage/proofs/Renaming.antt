@@ -7,11 +7,11 @@ use Rattle.oak_commit.specs.declared.outcome.CommitEnd.TheVariants as commit
 use Rattle.jcr_law.specs.declared.law.JcrLaw.{JcrLaw}
 use Rattle.jcr_law.specs.State.{Call}
 use Rattle.jr_rev.specs.declared.vector.RevVec.{RevVec}
-use Rattle.jcr_session.specs.declared.commit.Pledge.{Pledge}
-use Rattle.jcr_session.specs.declared.run.Phase.{Phase}
-use Rattle.jcr_session.specs.declared.run.Phase.TheVariants as phase
-use Rattle.jcr_session.specs.declared.run.SessionRun.{SessionRun}
-use Rattle.jcr_session.specs.Standing.{HasCommitted, IsFor, IsHalfDetached, IsIn, IsOnCommand, Stands, StandsAt}
+use Rattle.jcr_run.specs.declared.run.Pledge.{Pledge}
+use Rattle.jcr_run.specs.declared.run.Phase.{Phase}
+use Rattle.jcr_run.specs.declared.run.Phase.TheVariants as phase
+use Rattle.jcr_run.specs.declared.run.SessionRun.{SessionRun}
+use Rattle.jcr_run.specs.Standing.{HasCommitted, IsFor, IsHalfDetached, IsIn, IsOnCommand, Stands, StandsAt}
 use Rattle.jcr_trans.specs.declared.command.Command.{Command}
 
 module _ (law : JcrLaw) (p : Shown) (b : Beside) (d : Option StepKind) (run : SessionRun) where

@@ -25,13 +25,13 @@ use Rattle.jcr_law.specs.State.{Call}
 use Rattle.jcr_law.specs.declared.law.JcrLaw.{JcrLaw}
 use Rattle.jcr_trans.specs.declared.command.Command.{Command}
 use Rattle.jcr_trans.specs.declared.command.Command.TheVariants as command
-use Rattle.jcr_session.specs.declared.read.Fetch.{Fetch}
-use Rattle.jcr_session.specs.declared.read.Fetch.TheVariants as fetch
-use Rattle.jcr_session.specs.declared.run.Phase.{Phase}
-use Rattle.jcr_session.specs.declared.run.Phase.TheVariants as phase
-use Rattle.jcr_session.specs.declared.run.SessionRun.{SessionRun}
-use Rattle.jcr_session.specs.declared.turn.Turn.TheVariants as turn
-use Rattle.jcr_session.specs.Standing.{HasCommitted, HasDrawn, IsCommitting, IsIn, IsOneStep, IsReading, IsTurned, IsWorkFor, Stands, StandsAt, due_for, is_between, is_committing, is_saving, is_step_event, may_read, reads_for}
+use Rattle.jcr_run.specs.declared.run.Fetch.{Fetch}
+use Rattle.jcr_run.specs.declared.run.Fetch.TheVariants as fetch
+use Rattle.jcr_run.specs.declared.run.Phase.{Phase}
+use Rattle.jcr_run.specs.declared.run.Phase.TheVariants as phase
+use Rattle.jcr_run.specs.declared.run.SessionRun.{SessionRun}
+use Rattle.jcr_run.specs.declared.turn.Turn.TheVariants as turn
+use Rattle.jcr_run.specs.Standing.{HasCommitted, HasDrawn, IsCommitting, IsIn, IsOneStep, IsReading, IsTurned, IsWorkFor, Stands, StandsAt, due_for, is_between, is_committing, is_saving, is_step_event, may_read, reads_for}
 use Rattle.jr_stage.specs.Awaited.{KeepsWaiting}
 use Rattle.jr_stage.proofs.First.{kept_by_another}
 

@@ -11,11 +11,11 @@ use Rattle.oak_world.specs.Left.{left_in}
 use Rattle.oak_world.specs.Seen.{shown_at}
 use Rattle.oak_world.specs.Worlds.{WorldOf}
 use Rattle.jcr_law.specs.declared.law.JcrLaw.{JcrLaw}
-use Rattle.jcr_session.specs.declared.run.SessionRun.{SessionRun}
-use Rattle.jcr_session.specs.declared.turn.Turn.{Turn}
-use Rattle.jcr_session.specs.declared.turn.Turn.TheVariants as turn
-use Rattle.jcr_session.specs.Nearing.{ComesNearer, WorksSooner, DrawsNoOther, EndsSooner, HasNeared, ReadsOn, turns_left}
-use Rattle.jcr_session.specs.Standing.{HasLooked, HasTurned, IsTurned, Stands, is_saving, may_read}
+use Rattle.jcr_run.specs.declared.run.SessionRun.{SessionRun}
+use Rattle.jcr_run.specs.declared.turn.Turn.{Turn}
+use Rattle.jcr_run.specs.declared.turn.Turn.TheVariants as turn
+use Rattle.jcr_run.specs.Nearing.{ComesNearer, WorksSooner, DrawsNoOther, EndsSooner, HasNeared, ReadsOn, turns_left}
+use Rattle.jcr_run.specs.Standing.{HasLooked, HasTurned, IsTurned, Stands, is_saving, may_read}
 use Rattle.jr_script.specs.declared.script.Script.{Script}
 use Rattle.jcr_trans.specs.declared.command.SessionScript.{SessionScript}
 use Rattle.jr_stage.specs.declared.stage.Seat.{Seat}

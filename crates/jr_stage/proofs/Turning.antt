@@ -23,13 +23,13 @@ use Rattle.oak_world.specs.Worlds.{WorldOf, live, work_in}
 use Rattle.jcr_law.specs.State.{command_at}
 use Rattle.jcr_law.specs.declared.law.JcrLaw.{JcrLaw}
 use Rattle.jcr_law.specs.Lasting.{says_of, starts_of}
-use Rattle.jcr_session.specs.Nearing.{ComesNearer, WorksSooner, DrawsNoOther, IsLess, turns_left, stages_left}
-use Rattle.jcr_session.specs.declared.run.Phase.{Phase}
-use Rattle.jcr_session.specs.declared.run.Phase.TheVariants as phase
-use Rattle.jcr_session.specs.declared.run.SessionRun.{SessionRun}
-use Rattle.jcr_session.specs.declared.turn.Turn.{Turn}
-use Rattle.jcr_session.specs.declared.turn.Turn.TheVariants as turn
-use Rattle.jcr_session.specs.Standing.{IsStep, IsTurned, IsUnseen, Tells, is_working, is_saving, stage_at}
+use Rattle.jcr_run.specs.Nearing.{ComesNearer, WorksSooner, DrawsNoOther, IsLess, turns_left, stages_left}
+use Rattle.jcr_run.specs.declared.run.Phase.{Phase}
+use Rattle.jcr_run.specs.declared.run.Phase.TheVariants as phase
+use Rattle.jcr_run.specs.declared.run.SessionRun.{SessionRun}
+use Rattle.jcr_run.specs.declared.turn.Turn.{Turn}
+use Rattle.jcr_run.specs.declared.turn.Turn.TheVariants as turn
+use Rattle.jcr_run.specs.Standing.{IsStep, IsTurned, IsUnseen, Tells, is_working, is_saving, stage_at}
 use Rattle.jr_script.specs.Bounds.{IsWithin}
 use Rattle.jr_script.specs.declared.script.Script.{Script}
 use Rattle.jcr_trans.specs.declared.command.Command.{Command}

@@ -1,5 +1,5 @@
 -- No step of a session that commits appends an event that tells of no session.
-use Rattle.std.proofs.Common.{◌≡◌, ℕ, zero, suc, Bool, true, false, cond, ◌||◌, Some, None, Option, List, [], ◌∷◌, ◌++◌, refl, sym, ap, ◌∙◌, subst, arith}
+use Rattle.std.proofs.Common.{◌≡◌, ℕ, zero, suc, Bool, true, false, ◌||◌, Some, None, Option, List, [], ◌∷◌, ◌++◌, refl, sym, ap, ◌∙◌, subst, arith}
 use Rattle.std.specs.Prelude.{◌==◌, slice_get}
 use Rattle.std.specs.List.{list_any}
 use Rattle.std.proofs.lemmas.Bool.Decides.{nat_tests}
@@ -14,19 +14,19 @@ use Rattle.oak_machine.specs.Steps.{is_kind, kind_number, kinds_for, where_test}
 use Rattle.oak_port.specs.Ports.{Idle, Learning, Publishing, Shown, Starting, Work}
 use Rattle.oak_port.specs.declared.task.Task.TheVariants as task
 use Rattle.jr_part.specs.declared.need.Need.TheVariants as need
-use Rattle.jcr_law.specs.Makes.{commit_stages, steps_of}
+use Rattle.jcr_law.specs.Makes.{commit_stages}
 use Rattle.jcr_law.specs.State.{Call, command_at}
 use Rattle.jcr_law.specs.declared.law.JcrLaw.{JcrLaw}
 use Rattle.jcr_trans.specs.declared.command.Command.{Command}
 use Rattle.jcr_trans.specs.declared.command.Command.TheVariants as command
-use Rattle.jcr_session.specs.declared.read.Fetch.{Fetch}
-use Rattle.jcr_session.specs.declared.read.Fetch.TheVariants as fetch
-use Rattle.jcr_session.specs.declared.run.Phase.{Phase}
-use Rattle.jcr_session.specs.declared.run.Phase.TheVariants as phase
-use Rattle.jcr_session.specs.declared.run.SessionRun.{SessionRun}
-use Rattle.jcr_session.specs.Standing.{IsFor, IsInTurn, IsOfCommand, IsOfStage, IsReading, IsWorkFor, Stands, StandsAt, is_committing}
+use Rattle.jcr_run.specs.declared.run.Fetch.{Fetch}
+use Rattle.jcr_run.specs.declared.run.Fetch.TheVariants as fetch
+use Rattle.jcr_run.specs.declared.run.Phase.{Phase}
+use Rattle.jcr_run.specs.declared.run.Phase.TheVariants as phase
+use Rattle.jcr_run.specs.declared.run.SessionRun.{SessionRun}
+use Rattle.jcr_run.specs.Standing.{IsInTurn, IsOfCommand, IsReading, IsWorkFor, Stands, StandsAt, is_committing}
 use Rattle.jcr_session.proofs.Drawing.{commit_commits}
-use Rattle.jcr_session.proofs.Stages.{commit_steps}
+use Rattle.jcr_run.proofs.Stages.{commit_steps}
 use Rattle.jr_stage.specs.Places.{tells_of_none}
 use Rattle.jr_stage.proofs.Due.{at_commit}
 use Rattle.jr_stage.proofs.Flying.{none_is_some, some_is_some}

@@ -6,11 +6,11 @@ use Rattle.oak_machine.specs.History.{Past}
 use Rattle.oak_world.specs.Left.{left_in}
 use Rattle.oak_world.specs.Worlds.{live}
 use Rattle.jcr_law.specs.State.{Call, call_of}
-use Rattle.jcr_session.specs.Nearing.{turns_left, unread_of}
-use Rattle.jcr_session.specs.Standing.{is_saving, is_working}
-use Rattle.jcr_session.specs.declared.run.Phase.{Phase}
-use Rattle.jcr_session.specs.declared.turn.Turn.{Turn}
-use Rattle.jcr_session.specs.declared.turn.Turn.TheVariants as turn
+use Rattle.jcr_run.specs.Nearing.{turns_left, unread_of}
+use Rattle.jcr_run.specs.Standing.{is_saving, is_working}
+use Rattle.jcr_run.specs.declared.run.Phase.{Phase}
+use Rattle.jcr_run.specs.declared.turn.Turn.{Turn}
+use Rattle.jcr_run.specs.declared.turn.Turn.TheVariants as turn
 use Rattle.jr_stage.specs.declared.stage.Stage.{Stage}
 use Rattle.jr_stage.specs.Awaited.{KeepsWaiting}
 

@@ -1,7 +1,7 @@
 -- Sessions before any turn.
 use Rattle.std.specs.Prelude.{◌≡◌, ℕ, List, length, slice_get, Some, None}
 use Rattle.jr_types.specs.declared.TypeDef.{TypeDef}
-use Rattle.jcr_session.specs.Standing.{IsNew}
+use Rattle.jcr_run.specs.Standing.{IsNew}
 use Rattle.jcr_trans.specs.declared.command.SessionScript.{SessionScript}
 use Rattle.jr_stage.specs.declared.stage.Seat.{Seat}
 

@@ -17,12 +17,12 @@ use Rattle.oak_world.specs.Seen.{shown_at, shown_work}
 use Rattle.oak_step.specs.Works.{kind_due}
 use Rattle.oak_world.specs.Worlds.{WorldOf, live, work_in}
 use Rattle.jcr_law.specs.declared.law.JcrLaw.{JcrLaw}
-use Rattle.jcr_session.specs.declared.run.SessionRun.{SessionRun}
-use Rattle.jcr_session.specs.declared.turn.Turn.{Turn}
-use Rattle.jcr_session.specs.declared.turn.Turn.TheVariants as turn
-use Rattle.jcr_session.specs.Nearing.{ComesNearer, DrawsNoOther, EndsSooner, HasNeared}
-use Rattle.jcr_session.specs.Nearing.{WorksSooner, turns_left}
-use Rattle.jcr_session.specs.Standing.{HasLooked, IsTurned, Stands, is_saving, may_read}
+use Rattle.jcr_run.specs.declared.run.SessionRun.{SessionRun}
+use Rattle.jcr_run.specs.declared.turn.Turn.{Turn}
+use Rattle.jcr_run.specs.declared.turn.Turn.TheVariants as turn
+use Rattle.jcr_run.specs.Nearing.{ComesNearer, DrawsNoOther, EndsSooner, HasNeared}
+use Rattle.jcr_run.specs.Nearing.{WorksSooner, turns_left}
+use Rattle.jcr_run.specs.Standing.{HasLooked, IsTurned, Stands, is_saving, may_read}
 use Rattle.jr_script.specs.Bounds.{IsWithin}
 use Rattle.jr_script.specs.declared.script.Entry.{Entry}
 use Rattle.jr_script.specs.declared.script.Entry.TheVariants as entry

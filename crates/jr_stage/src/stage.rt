@@ -1,5 +1,5 @@
 // The world of a script with its sessions, and the turns that an entry of a schedule asks for.
-ghost use Rattle.std.specs.Prelude.{◌≡◌, ◌<◌, ◌≤◌, ℕ, All, IfOk, OnOk, List, IsTrue, IsFalse, is_some, length, map, slice_get, ◌∷◌};
+ghost use Rattle.std.specs.Prelude.{◌≡◌, ◌<◌, ◌≤◌, All, IfOk, OnOk, List, IsTrue, IsFalse, is_some, length, map, slice_get};
 ghost use Rattle.std.specs.Borrow.{GName};
 ghost use Rattle.std.specs.BTreeMap.{insert_entry};
 ghost use Rattle.std.specs.Map.{values_of};
@@ -11,7 +11,7 @@ ghost use Rattle.oak_machine.specs.Runs.{AreNodes};
 ghost use Rattle.oak_machine.specs.Sessions.{is_drawing};
 ghost use Rattle.oak_world.specs.Seen.{shown_at};
 ghost use Rattle.oak_world.specs.Worlds.{start_world};
-ghost use Rattle.jcr_session.specs.Standing.{IsNew, Stands};
+ghost use Rattle.jcr_run.specs.Standing.{IsNew, Stands};
 ghost use Rattle.jr_stage.specs.Awaited.{AreInTurn, IsAlone, IsNextToReply, IsStill, LeavesOthers};
 ghost use Rattle.jr_stage.specs.Places.{flying_sessions, is_over};
 ghost use Rattle.jr_stage.specs.Parts.{by_entry, to_end, to_reply};
@@ -21,8 +21,9 @@ ghost use Rattle.jr_stage.specs.Seats.{AreNew, IsNewSeat};
 
 use crate::flight::Flight;
 use core_obeys::the_product_obeys;
+use jcr_fetch::read;
 use jcr_law::JcrLaw;
-use jcr_session::{SessionRun, Turn};
+use jcr_run::{SessionRun, Turn};
 use jcr_trans::{Command, SessionScript};
 use jr_path::{DeepCopy, List};
 use jr_rev::Revision;
@@ -373,5 +374,5 @@ fn read_one(world: &mut World<JcrLaw>, run: &mut SessionRun, s: u32) -> Result<b
     ensures { OnOk result ((name : GName) × HasRead name s world.old world.new run.old run.new) }
 {
     let mut port = SoloPort::new(world, s);
-    run.read(&mut port)
+    read(run, &mut port)
 }

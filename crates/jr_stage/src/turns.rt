@@ -2,14 +2,15 @@
 ghost use Rattle.std.specs.Prelude.{◌≡◌, ◌<◌, ◌&&◌, IfOk, IsTrue, IsFalse, is_some, length, not, slice_get};
 ghost use Rattle.std.specs.Borrow.{GName};
 ghost use Rattle.oak_world.specs.Seen.{shown_at};
-ghost use Rattle.jcr_session.specs.Standing.{Stands};
+ghost use Rattle.jcr_run.specs.Standing.{Stands};
 ghost use Rattle.jr_stage.specs.Nearing.{ReadsNearer, ReadsThrough, reads_at, unread_at, works_at};
 ghost use Rattle.jr_stage.specs.Stages.{HasCome, HasTurnedIn, IsNearerOrCome, IsStage, IsThrough, ReadsOrComes, StepsUntil, comes_to, flight_behind, flight_by};
 
 use crate::flight::{Flight, flight_after};
 use crate::stage::Stage;
 use jcr_law::JcrLaw;
-use jcr_session::{SessionRun, Turn};
+use jcr_run::{SessionRun, Turn};
+use jcr_session::turn;
 use jr_script::Entry;
 use oak_machine::StepKind;
 use oak_world::{SoloPort, World};
@@ -152,7 +153,7 @@ fn turn_once(world: &mut World<JcrLaw>, run: &mut SessionRun, s: u32) -> Turn
     ensures { HasTurnedIn s world.old world.new run.old run.new result }
 {
     let mut port = SoloPort::new(world, s);
-    run.turn(&mut port)
+    turn(run, &mut port)
 }
 
 // What is kept of a commit behind a turn: a step may change it.

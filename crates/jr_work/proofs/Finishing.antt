@@ -18,7 +18,6 @@ use Rattle.jr_shared.specs.Meanings.{Owned, frame_of, owned_of}
 use Rattle.seat_lock.specs.Views.{OwnsPart}
 use Rattle.jr_stage.specs.Places.{is_over}
 use Rattle.jr_stage.specs.Runs.{AreApart}
-use Rattle.jr_stage.specs.Stages.{law_of}
 use Rattle.jr_work.specs.Workers.{HasAll, HasRunByWorkers, frame_for}
 use Rattle.jr_stage.proofs.Flying.{some_is_some}
 use Rattle.jr_work.proofs.Gathering.{history_back, law_back, over_back}

@@ -1,11 +1,10 @@
 -- The first pass of the world of a script, and what a worker's pass knows when it is handed out.
-use Rattle.std.proofs.Common.{◌≡◌, ◌≢◌, ℕ, zero, suc, ◌+◌, ◌-◌, ◌<◌, ◌≤◌, ◌%◌, Bool, true, false, cond, ◌&&◌, not, Some, None, Option, List, [], ◌∷◌, length, map, nat_lt, reverse, refl, sym, ap, ◌∙◌, subst, arith}
+use Rattle.std.proofs.Common.{◌≡◌, ℕ, zero, suc, ◌+◌, ◌-◌, ◌<◌, ◌≤◌, ◌%◌, true, false, cond, ◌&&◌, Some, None, Option, List, [], ◌∷◌, length, map, nat_lt, reverse, refl, sym, ap, ◌∙◌, subst, arith}
 use Rattle.std.specs.Prelude.{◌==◌, slice_get}
 use Rattle.std.specs.Option.{option_map_or}
 use Rattle.std.proofs.lemmas.Bool.Decides.{nat_tests}
 use Rattle.std.proofs.lemmas.List.{length-map}
 use Rattle.oak_machine.specs.declared.event.Event.{Event}
-use Rattle.oak_machine.specs.History.{History}
 use Rattle.oak_machine.specs.Laws.{Says, Starts}
 use Rattle.oak_machine.specs.Runs.{IsRun}
 use Rattle.oak_world.specs.Worlds.{ActorState, WorldOf, idle, start_world}
@@ -15,7 +14,6 @@ use Rattle.jcr_trans.specs.declared.command.SessionScript.{SessionScript}
 use Rattle.jr_script.specs.declared.script.Script.{Script}
 use Rattle.jr_shared.specs.declared.locked.WorldFrame.{WorldFrame}
 use Rattle.jr_shared.specs.Holds.{IsTold, Known, first_known, owned_by}
-use Rattle.jr_shared.specs.Meanings.{Owned, owned_of}
 use Rattle.jr_shared.specs.Seen.{history_by}
 use Rattle.jr_shared.proofs.Handing.{first_owns, first_told}
 use Rattle.seat_lock.specs.Views.{handed, is_one_of, kept_back}

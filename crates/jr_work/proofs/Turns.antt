@@ -1,5 +1,5 @@
 -- Turns of a session to its end, at a port; and what its pass then knows.
-use Rattle.std.proofs.Common.{◌≡◌, ◌≢◌, ℕ, ◌<◌, ◌≤◌, true, false, ◌&&◌, cond, Some, None, Option, Result, Ok, Err, List, [], ◌∷◌, ◌++◌, length, map, is_some, refl, sym, ap, ◌∙◌, subst, arith}
+use Rattle.std.proofs.Common.{◌≡◌, ◌≢◌, ℕ, ◌<◌, true, false, ◌&&◌, Some, None, Option, Result, Ok, Err, List, [], ◌++◌, length, map, is_some, refl, sym, ap, ◌∙◌, subst}
 use mathlib.Core.Bool.{false≢true}
 use Rattle.std.specs.Prelude.{◌==◌, IfOk, IfSome, IsTrue, reverse, slice_get}
 use Rattle.std.specs.Borrow.{GName}
@@ -21,11 +21,11 @@ use Rattle.jr_types.specs.Rules.{TypesOk}
 use Rattle.jr_types.specs.declared.TypeDef.{TypeDef}
 use Rattle.jcr_law.specs.declared.law.JcrLaw.{JcrLaw}
 use Rattle.jcr_law.specs.Lasting.{says_of, starts_of}
-use Rattle.jcr_session.specs.declared.run.SessionRun.{SessionRun}
-use Rattle.jcr_session.specs.declared.turn.Turn.{Turn}
-use Rattle.jcr_session.specs.declared.turn.Turn.TheVariants as turn
-use Rattle.jcr_session.specs.Standing.{HasLooked, HasTurned, IsNew, IsTurned, Stands}
-use Rattle.jcr_session.proofs.Staying.{new_stands}
+use Rattle.jcr_run.specs.declared.run.SessionRun.{SessionRun}
+use Rattle.jcr_run.specs.declared.turn.Turn.{Turn}
+use Rattle.jcr_run.specs.declared.turn.Turn.TheVariants as turn
+use Rattle.jcr_run.specs.Standing.{HasLooked, HasTurned, IsNew, IsTurned, Stands}
+use Rattle.jcr_run.proofs.Staying.{new_stands}
 use Rattle.jcr_trans.specs.declared.command.Command.{Command}
 use Rattle.jcr_trans.specs.declared.command.SessionScript.{SessionScript}
 use Rattle.jr_script.specs.Bounds.{IsWithin}

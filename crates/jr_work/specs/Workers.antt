@@ -1,5 +1,5 @@
 -- What passes of the world of a script know while workers run it.
-use Rattle.std.specs.Prelude.{◌≡◌, ◌≢◌, ◌<◌, ◌≤◌, ◌+◌, ◌%◌, ℕ, List, [], length, map, slice_get, Option, Some, IfOk, IsTrue, Result}
+use Rattle.std.specs.Prelude.{◌≡◌, ◌≢◌, ◌<◌, ◌≤◌, ◌+◌, ◌%◌, ℕ, List, [], length, map, slice_get, Some, IfOk, IsTrue, Result}
 use Rattle.std.specs.declared.alloc.AllocError.{AllocError}
 use Rattle.oak_machine.specs.declared.event.Event.{Event}
 use Rattle.oak_machine.specs.Runs.{IsRun}
@@ -8,8 +8,8 @@ use Rattle.oak_port.specs.Ports.{Shown}
 use Rattle.oak_world.specs.Worlds.{WorldOf, idle, live}
 use Rattle.jcr_law.specs.declared.law.JcrLaw.{JcrLaw}
 use Rattle.jcr_law.specs.Lasting.{says_of, starts_of}
-use Rattle.jcr_session.specs.declared.run.SessionRun.{SessionRun}
-use Rattle.jcr_session.specs.Standing.{Stands}
+use Rattle.jcr_run.specs.declared.run.SessionRun.{SessionRun}
+use Rattle.jcr_run.specs.Standing.{Stands}
 use Rattle.jr_script.specs.Bounds.{IsWithin}
 use Rattle.jr_script.specs.declared.script.Script.{Script}
 use Rattle.jr_types.specs.declared.TypeDef.{TypeDef}

@@ -1,7 +1,7 @@
 // A worker: it runs its sessions one after another, each to its end, by a pass that has them.
 ghost use Rattle.std.specs.Prelude.{◌≡◌, ◌≤◌, ◌<◌, ◌+◌, ◌%◌, IfOk, IsTrue, OnOk, length};
 ghost use Rattle.std.specs.Borrow.{GName};
-ghost use Rattle.jcr_session.specs.Standing.{Stands};
+ghost use Rattle.jcr_run.specs.Standing.{Stands};
 ghost use Rattle.jr_shared.specs.Holds.{has_seat};
 ghost use Rattle.jr_shared.specs.Seen.{shown_through};
 ghost use Rattle.jr_work.specs.Hands.{IsInHand};
@@ -15,7 +15,8 @@ use crate::hands::Hand;
 use crate::port::{GatedPort, ScriptPort, TakenBy, Took};
 use core_obeys::the_product_obeys;
 use jcr_law::JcrLaw;
-use jcr_session::{SessionRun, Turn};
+use jcr_run::{SessionRun, Turn};
+use jcr_session::turn;
 use jcr_trans::Command;
 use jr_path::List;
 use jr_script::Script;
@@ -194,7 +195,7 @@ fn to_end<R: Wait, P: Port<L = JcrLaw>>(
         run.old run.new) }
 {
     'turns: for _ in rt.forever() {
-        match run.turn(port) {
+        match turn(run, port) {
             Turn::Read => {}
             Turn::Stepped(_) => {}
             Turn::Said(_) => {}

@@ -1,0 +1,5 @@
+pub mod Changing
+pub mod Fetching
+pub mod Loads
+pub mod Looking
+pub mod Nearing

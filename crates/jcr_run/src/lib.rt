@@ -1,0 +1,16 @@
+//! A session of a script: where it stands (`SessionRun`), what is to be done for its next command
+//! (`Due`), and what it answers. What it reads before that is `jcr_fetch`'s, and its turns are
+//! `jcr_session`'s.
+#![tactic(auto)]
+
+mod limits;
+mod next;
+mod run;
+mod say;
+mod turn;
+
+pub use limits::MOST_COMMANDS;
+pub use next::Due;
+pub use run::{Fetch, Phase, Pledge, SessionRun};
+pub use say::MEMORY_REPLY;
+pub use turn::Turn;

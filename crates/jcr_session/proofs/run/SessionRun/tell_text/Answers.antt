@@ -1,6 +1,0 @@
-use Rattle.jcr_session.proofs.Lawful.{settle_answers}
-use Rattle.jcr_session.proofs.run.SessionRun.tell_text.Goals as goal
-
-pub say_kept-requires-clause-answer : goal.say_kept-requires-clause-answer
-say_kept-requires-clause-answer g c = settle_answers (g.P.Port.law c.args.port.now) (g.P.Port.shown c.args.port.now) c.args.self.now
-    c.settle.new.self c.args.text.now c.requires.settles c.settle.ensures
