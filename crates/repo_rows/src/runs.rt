@@ -37,7 +37,19 @@ fn fails(text: &str, out: &mut Out) -> Vec<u64> {
 // WORD READ WRITE INPUT: the status, whether a world is left, and what is written.
 pub(crate) fn add_status(rest: &str, out: &mut Out) {
     let (words, input) = cut_words(rest);
-    add_call(words, input.as_bytes(), out);
+    add_call(words, input.as_bytes(), 1000, out);
+}
+
+// READ WRITE INPUT: the same of the words `steps --documents`.
+pub(crate) fn add_documents(rest: &str, out: &mut Out) {
+    let (read, rest) = cut(rest);
+    let (write, input) = cut(rest);
+    add_call(
+        ("steps --documents", read, write),
+        input.as_bytes(),
+        4000,
+        out,
+    );
 }
 
 // WORD READ WRITE BYTES: the same of an input whose bytes are these, each by two hexadecimal
@@ -45,12 +57,12 @@ pub(crate) fn add_status(rest: &str, out: &mut Out) {
 pub(crate) fn add_octets(rest: &str, out: &mut Out) {
     let (words, input) = cut_words(rest);
     let bytes = bytes_of(input, out);
-    add_call(words, bytes.as_slice(), out);
+    add_call(words, bytes.as_slice(), 1000, out);
 }
 
 // WORDS: the same of words that read nothing; a read would fail.
 pub(crate) fn add_unread(words: &str, out: &mut Out) {
-    add_call((words, "0", "-"), &[], out);
+    add_call((words, "0", "-"), &[], 1000, out);
 }
 
 // The first three words of a text, and the text behind them.
@@ -75,11 +87,12 @@ fn byte(word: &str) -> u8 {
     u8::from_str_radix(word, 16).unwrap_or(0)
 }
 
-fn add_call(words: (&str, &str, &str), input: &[u8], out: &mut Out) {
+// The words, and which calls fail to read and to write; the input; and how many bytes may be written.
+fn add_call(words: (&str, &str, &str), input: &[u8], room: usize, out: &mut Out) {
     let (word, read, write) = words;
     let fails_to_read = fails(read, out);
     let mut source = source(input, 7, fails_to_read, out);
-    match MemSink::new(out.alloc, 1000, 64, fails(write, out)) {
+    match MemSink::new(out.alloc, room, 64, fails(write, out)) {
         Ok(sink) => run(word, &mut source, sink, out),
         Err(_) => out.is_broken = true,
     }

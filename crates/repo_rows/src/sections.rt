@@ -1,7 +1,7 @@
 // What comes of each line.
 use crate::loads::{add_loads, add_same};
 use crate::plays::add_play;
-use crate::runs::{add_meaning, add_octets, add_option, add_status, add_unread};
+use crate::runs::{add_documents, add_meaning, add_octets, add_option, add_status, add_unread};
 use crate::{cases, scripts, workers};
 use rows::{Out, cut};
 use std::sync::Wait;
@@ -48,6 +48,7 @@ fn add_answer(word: &str, text: &str, out: &mut Out) {
         "loads" => add_loads(text, out),
         "same" => add_same(text, out),
         "status" => add_status(text, out),
+        "documents" => add_documents(text, out),
         "octets" => add_octets(text, out),
         "unread" => add_unread(text, out),
         "words" => add_meaning(text, out),

@@ -1,14 +1,17 @@
 -- How a call ends, from what was done for its meaning.
-use Rattle.std.proofs.Common.{◌≡◌, ◌⊎◌, ℕ, ◌<◌, ◌≤◌, Bool, true, false, Option, Some, None, IfSome, IsNone, List, length, inl, inr, refl, sym, ◌∙◌, ap, subst, arith}
+use Rattle.std.proofs.Common.{◌≡◌, ◌⊎◌, ℕ, ◌<◌, ◌≤◌, Bool, true, false, Option, Some, None, Result, Ok, Err, IfSome, IfOk, IfErr, IsNone, List, length, inl, inr, refl, sym, ◌∙◌, ap, subst, arith}
 use Rattle.repo_top.specs.declared.status.Status.{Status}
 use Rattle.repo_top.specs.declared.status.Status.TheVariants as status
 use Rattle.jr_io.specs.Causes.{Rose}
 use Rattle.jr_script.specs.declared.script.Script.{Script}
 use Rattle.oak_world.specs.Worlds.{WorldOf}
 use Rattle.jcr_law.specs.declared.law.JcrLaw.{JcrLaw}
-use Rattle.repo_top.specs.Ends.{AsksFor, Call, IsTaken, Does, Effect, Ends, EndsWith, Faults, HasFault, HasLine, HasPrinted, HasRunAll, HasRunFor, Input, IsAsked, IsCalm, IsCause, IsDelivered, IsExpected, IsFault, IsScriptFor, IsMissing, IsPart, IsPartOf, IsReadWhole, TellsAll, IsRefused, IsTextFor, IsUnread, SourceKind, Output, Prints, Spells, Tells, WritesText, call, effect, source_kind, longest, told_of}
+use Rattle.repo_top.specs.Ends.{AsksFor, Call, IsTaken, Does, Effect, Ends, EndsWith, Faults, HasFault, HasLine, HasPrinted, HasRunAll, HasRunFor, Input, IsAsked, IsCalm, IsCause, IsDelivered, IsExpected, IsFault, IsScriptFor, IsMissing, IsPart, IsPartOf, IsReadAs, IsReadWhole, TellsAll, IsRefused, IsTextFor, IsUnread, SourceKind, Output, Prints, Spells, Tells, WritesText, call, effect, source_kind, longest, told_of}
 use Rattle.repo_top.specs.Ends.SourceKind.{a_script, a_type_text}
 use Rattle.jr_gen.specs.Scripts.{script_text}
+use Rattle.jr_work.specs.Runs.{HasRun}
+use Rattle.jr_work.specs.Workers.{HasRunByWorkers}
+use Rattle.repo_top.specs.Headline.{printed_of}
 use Rattle.repo_top.specs.Statuses.{fault_line, status_of}
 use Rattle.repo_top.specs.Typed.{IsCanonical}
 use Rattle.repo_top.specs.declared.status.Unrun.{Unrun}
@@ -34,10 +37,10 @@ one_asked c a b p q = one_meaning c.words a b p.meant q.meant
 -- ---- what words ask for
 
 -- words have one meaning, and a call that may run no threads takes all but `run`
-pub taken_alone : (meaning : Words) → ((workers : ℕ) → meaning ≡ Run workers → ⊥) → IsTaken false meaning
-taken_alone Steps other = tt
+pub taken_alone : (meaning : Words) → ((workers : ℕ) (documents : Bool) → meaning ≡ Run workers documents → ⊥) → IsTaken false meaning
+taken_alone (Steps documents) other = tt
 taken_alone Types other = tt
-taken_alone (Run workers) other = other workers refl
+taken_alone (Run workers documents) other = other workers documents refl
 taken_alone (Gen seed sessions runs) other = tt
 
 pub asks_all : (words : List (List ℕ)) (e : Effect) (meaning : Words) → Means words meaning → AsksFor (call true words e) meaning
@@ -46,8 +49,8 @@ asks_all words e meaning meant = record { meant = meant; taken = tt }
 pub asks_alone : (words : List (List ℕ)) (e : Effect) (meaning : Words) → Means words meaning → IsTaken false meaning → AsksFor (call false words e) meaning
 asks_alone words e meaning meant taken = record { meant = meant; taken = taken }
 
-pub no_threads : (words : List (List ℕ)) (e : Effect) (meaning : Words) (workers : ℕ) → Means words meaning → meaning ≡ Run workers → (other : Words) → ¬ AsksFor (call false words e) other
-no_threads words e meaning workers meant is other asked =
+pub no_threads : (words : List (List ℕ)) (e : Effect) (meaning : Words) (workers : ℕ) (documents : Bool) → Means words meaning → meaning ≡ Run workers documents → (other : Words) → ¬ AsksFor (call false words e) other
+no_threads words e meaning workers documents meant is other asked =
     subst (λ (m : Words). IsTaken false m) (one_meaning words other meaning asked.meant meant ∙ is) asked.taken
 
 pub meaningless : (words : List (List ℕ)) (threads : Bool) (e : Effect) → ((meaning : Words) → ¬ Means words meaning) → (meaning : Words) → ¬ AsksFor (call threads words e) meaning
@@ -64,6 +67,43 @@ printed_made source sink sink_now left seed sessions true result off none writes
 printed_made source sink sink_now left seed sessions false result off none (inl told) =
     inr (inr (record { text = script_text seed sessions; made = (refl, refl); none = none; tells = told }))
 printed_made source sink sink_now left seed sessions false result off none (inr refused) = refused_made source sink sink_now left seed sessions false result none refused
+
+-- ---- a script that is read is run
+
+module _ (documents : Bool) (e : Effect) (result : Status) where
+  -- a run that has ended is told of
+  told_ok : (meaning : Words) (world : WorldOf JcrLaw) (script : Script) → IsScriptFor meaning e script → HasRunFor meaning script world → told_of meaning script world ≡ printed_of documents world → e.left ≡ Some world → WritesText e.sink e.sink_now (printed_of documents world) result → Does meaning e result
+  told_ok meaning world script given ran is left writes =
+      inr (inl (record {
+        script = script;
+        given = given;
+        ran = subst (λ (o : Option (WorldOf JcrLaw)). IfSome o (HasRunFor meaning script)) (sym left) ran;
+        prints = subst (λ (o : Option (WorldOf JcrLaw)). Prints (told_of meaning script) o e.sink e.sink_now result) (sym left) (subst (λ (t : List ℕ). WritesText e.sink e.sink_now t result) (sym is) writes);
+      }))
+
+  -- the line says why no script is run
+  told_err : (meaning : Words) (why : Unrun) → source_kind meaning ≡ Some a_script → IsUnread a_script e.source e.source_now why → IsNone e.left → Faults e.sink e.sink_now why result → Does meaning e result
+  told_err meaning why kind unread none faults =
+      inl (record {
+        why = why;
+        missing = subst (λ (k : Option SourceKind). IsMissing k e.source e.source_now why) (sym kind) unread;
+        none = none_left e.left none;
+        faults = faults;
+      })
+
+  -- what is told of a run, or of a source that isn't run
+  abbrev IsTold : Result (WorldOf JcrLaw) Unrun → Type 0
+  IsTold ran =
+      IfOk ran (λ world. (e.left ≡ Some world) × WritesText e.sink e.sink_now (printed_of documents world) result)
+      × IfErr ran (λ why. IsNone e.left × Faults e.sink e.sink_now why result)
+
+  pub steps_does : (ran : Result (WorldOf JcrLaw) Unrun) → IfOk ran (λ world. (script : Script) × IsReadAs e.source e.source_now script × HasRun script world) → IfErr ran (IsUnread a_script e.source e.source_now) → IsTold ran → Does (Steps documents) e result
+  steps_does (Ok world) ran unread told = told_ok (Steps documents) world ran.0 ran.1 ran.2 refl told.0.0 told.0.1
+  steps_does (Err why) ran unread told = told_err (Steps documents) why refl unread told.1.0 told.1.1
+
+  pub run_does : (workers : ℕ) (ran : Result (WorldOf JcrLaw) Unrun) → IfOk ran (λ world. (script : Script) × IsReadAs e.source e.source_now script × HasRunByWorkers script world) → IfErr ran (IsUnread a_script e.source e.source_now) → IsTold ran → Does (Run workers documents) e result
+  run_does workers (Ok world) ran unread told = told_ok (Run workers documents) world ran.0 ran.1 ran.2 refl told.0.0 told.0.1
+  run_does workers (Err why) ran unread told = told_err (Run workers documents) why refl unread told.1.0 told.1.1
 
 -- ---- no world is left
 
@@ -146,15 +186,15 @@ missing_apart None before now unrun.ReadFault none missing = absurd missing
 missing_apart None before now unrun.TooLong none missing = absurd missing
 
 given_apart : (meaning : Words) (e : Effect) (script : Script) → source_kind meaning ≡ None → IsScriptFor meaning e script → e.source_now ≡ e.source
-given_apart Steps e script none given = absurd (cc none)
+given_apart (Steps documents) e script none given = absurd (cc none)
 given_apart Types e script none given = absurd (cc none)
-given_apart (Run workers) e script none given = absurd (cc none)
+given_apart (Run workers documents) e script none given = absurd (cc none)
 given_apart (Gen seed sessions runs) e script none given = given.0
 
 text_apart : (meaning : Words) (e : Effect) (text : List ℕ) → source_kind meaning ≡ None → IsTextFor meaning e text → e.source_now ≡ e.source
-text_apart Steps e text none made = absurd (cc none)
+text_apart (Steps documents) e text none made = absurd (cc none)
 text_apart Types e text none made = absurd (cc none)
-text_apart (Run workers) e text none made = absurd (cc none)
+text_apart (Run workers documents) e text none made = absurd (cc none)
 text_apart (Gen seed sessions true) e text none made = absurd made
 text_apart (Gen seed sessions false) e text none made = made.0
 
@@ -189,10 +229,10 @@ module _ (e : Effect) (kind : SourceKind) (bytes : List ℕ) (calm : TellsAll e.
 
 -- the bytes of a script that was run are what is asked for
 run_asked : (meaning : Words) (kind : SourceKind) (e : Effect) (script : Script) (world : WorldOf JcrLaw) (bytes : List ℕ) → source_kind meaning ≡ Some kind → TellsAll e.source e.source_now bytes → IsScriptFor meaning e script → HasRunFor meaning script world → IsAsked kind bytes
-run_asked Steps kind e script world bytes is calm given ran =
+run_asked (Steps documents) kind e script world bytes is calm given ran =
     let k : a_script ≡ kind = cc in
     subst (λ (k : SourceKind). IsAsked k bytes) k (script, subst (λ (b : List ℕ). Spells b script) (all_bytes e.source e.source_now bytes given.0 calm given.1) given.2)
-run_asked (Run workers) kind e script world bytes is calm given ran =
+run_asked (Run workers documents) kind e script world bytes is calm given ran =
     let k : a_script ≡ kind = cc in
     subst (λ (k : SourceKind). IsAsked k bytes) k (script, subst (λ (b : List ℕ). Spells b script) (all_bytes e.source e.source_now bytes given.0 calm given.1) given.2)
 run_asked Types kind e script world bytes is calm given ran = absurd ran
@@ -204,8 +244,8 @@ text_asked Types kind e text bytes is calm made =
     let k : a_type_text ≡ kind = cc in
     let whole = subst (λ (b : List ℕ). IsCanonical b text) (all_bytes e.source e.source_now bytes made.0 calm made.1) made.2 in
     subst (λ (k : SourceKind). IsAsked k bytes) k (whole.0, whole.1)
-text_asked Steps kind e text bytes is calm made = absurd made
-text_asked (Run workers) kind e text bytes is calm made = absurd made
+text_asked (Steps documents) kind e text bytes is calm made = absurd made
+text_asked (Run workers documents) kind e text bytes is calm made = absurd made
 text_asked (Gen seed sessions runs) kind e text bytes is calm made = absurd (cc is)
 
 -- a cause with a line, where bytes are read
@@ -283,5 +323,6 @@ does_ends c result meaning asked did =
       apart = λ m asks none. done_apart meaning c.does result (ap source_kind (one_asked c meaning m asked asks) ∙ none) did;
     }
 
-pub does_run : (c : Call) (result : Status) (meaning : Words) (workers : ℕ) → meaning ≡ Run workers → AsksFor c meaning → Does (Run workers) c.does result → Ends c result
-does_run c result meaning workers is asked did = does_ends c result (Run workers) (subst (λ (m : Words). AsksFor c m) is asked) did
+pub does_run : (c : Call) (result : Status) (meaning : Words) (workers : ℕ) (documents : Bool) → meaning ≡ Run workers documents → AsksFor c meaning → Does (Run workers documents) c.does result → Ends c result
+does_run c result meaning workers documents is asked did =
+    does_ends c result (Run workers documents) (subst (λ (m : Words). AsksFor c m) is asked) did

@@ -1,12 +1,12 @@
 -- Words are read in one way.
-use Rattle.std.proofs.Common.{codes, eq-eqb, is_some, ◌==◌, ◌≡◌, ◌<◌, ◌≤◌, ◌-◌, ℕ, zero, suc, Bool, true, false, cond, List, [], ◌∷◌, ◌++◌, Option, Some, None, IsTrue, IsSome, ◌↔◌, length, map, take, drop, get_or, option_map, bytes_eq, refl, sym, ap, subst, ◌∙◌, ◌⊎◌, inl, inr, arith}
+use Rattle.std.proofs.Common.{codes, eq-eqb, is_some, ◌==◌, ◌≡◌, ◌<◌, ◌≤◌, ◌-◌, ℕ, zero, suc, Bool, true, false, cond, List, [], ◌∷◌, ◌++◌, append-nil, Option, Some, None, IsTrue, IsSome, ◌↔◌, length, map, take, drop, get_or, option_map, bytes_eq, refl, sym, ap, subst, ◌∙◌, ◌⊎◌, inl, inr, arith}
 use Rattle.std.specs.List.{AllByRecursion, IsDistinct, find}
 use Rattle.std.proofs.lemmas.Bool.{eqb-true, false≢true}
 use Rattle.std.proofs.lemmas.Slice.Eq.{bytes_eq-Decides}
 use Rattle.std.proofs.lemmas.Grind.{common_steps}
 use Rattle.std.specs.Map.{keys_of, lookup}
 use Rattle.std.specs.Str.Parse.{digits_value}
-use Rattle.repo_top.specs.Words.{AreGenWords, AreGiven, AreRunWords, AreSpelled, IsGenOption, Begins, Fits, Gives, GivesNumber, IsInRange, IsNumber, IsNumberOption, IsOption, IsPlain, IsRequiredNumber, IsRow, MakesMeaning, TableRow, Means, RowOption, AreOptions, gen_row, run_option, run_row, steps_row, types_row, verb_row, rows, seed_option, sessions_option, table_row, row_option, option_word, workers_option}
+use Rattle.repo_top.specs.Words.{AreGenWords, AreGiven, AreBoth, AreRunWords, AreSpelled, IsGenOption, Begins, Fits, Gives, GivesNumber, IsInRange, IsNumber, IsNumberOption, IsOption, IsPlain, IsRequiredNumber, IsRow, MakesMeaning, TableRow, Means, RowOption, AreOptions, documents_option, documents_words, gen_row, is_given, run_option, run_row, steps_row, types_row, verb_row, rows, seed_option, sessions_option, table_row, row_option, option_word, workers_option}
 use Rattle.repo_top.specs.declared.words.Given.{Given}
 use Rattle.repo_top.specs.declared.words.Given.TheVariants as given
 use Rattle.repo_top.specs.declared.words.Row.{Row}
@@ -378,23 +378,25 @@ one_number gs name n m a b = let e : Some (given.Number n) ≡ Some (given.Numbe
 one_made : (verb : Verb) (given : List (List ℕ × Given)) (a b : Words) → MakesMeaning verb given a → MakesMeaning verb given b → a ≡ b
 one_made verb.Steps given a b p q = p ∙ sym q
 one_made verb.Types given a b p q = p ∙ sym q
-one_made verb.Run given (Run n) (Run m) p q = ap Run (one_number given (codes "workers") n m p q)
-one_made verb.Run given (Run n) Steps p q = absurd q
-one_made verb.Run given (Run n) Types p q = absurd q
-one_made verb.Run given (Run n) (Gen x y z) p q = absurd q
-one_made verb.Run given Steps b p q = absurd p
+one_made verb.Run given (Run n d) (Run m e) p q =
+    let a : n ≡ m = one_number given (codes "workers") n m p.0 q.0 in
+    let b : d ≡ e = p.1 ∙ sym q.1 in cc
+one_made verb.Run given (Run n d) (Steps e) p q = absurd q
+one_made verb.Run given (Run n d) Types p q = absurd q
+one_made verb.Run given (Run n d) (Gen x y z) p q = absurd q
+one_made verb.Run given (Steps d) b p q = absurd p
 one_made verb.Run given Types b p q = absurd p
 one_made verb.Run given (Gen x y z) b p q = absurd p
 one_made verb.Gen given (Gen x y z) (Gen u v w) p q =
     let a : x ≡ u = one_number given (codes "seed") x u p.0 q.0 in
     let b : y ≡ v = one_number given (codes "sessions") y v p.1 q.1 in
     let c : z ≡ w = p.2 ∙ sym q.2 in cc
-one_made verb.Gen given (Gen x y z) Steps p q = absurd q
+one_made verb.Gen given (Gen x y z) (Steps d) p q = absurd q
 one_made verb.Gen given (Gen x y z) Types p q = absurd q
-one_made verb.Gen given (Gen x y z) (Run n) p q = absurd q
-one_made verb.Gen given Steps b p q = absurd p
+one_made verb.Gen given (Gen x y z) (Run n d) p q = absurd q
+one_made verb.Gen given (Steps d) b p q = absurd p
 one_made verb.Gen given Types b p q = absurd p
-one_made verb.Gen given (Run n) b p q = absurd p
+one_made verb.Gen given (Run n d) b p q = absurd p
 
 -- words have one meaning at most
 pub one_meaning : (words : List (List ℕ)) (a b : Words) → Means words a → Means words b → a ≡ b
@@ -407,9 +409,9 @@ one_meaning words a b m n =
 made_in_range : (verb : Verb) (row : TableRow) (given : List (List ℕ × Given)) (words : List (List ℕ)) (meaning : Words) → row ≡ verb_row verb → AreGiven row.options given words → MakesMeaning verb given meaning → IsInRange meaning
 made_in_range verb.Steps row given words meaning is are makes = subst IsInRange (sym makes) tt
 made_in_range verb.Types row given words meaning is are makes = subst IsInRange (sym makes) tt
-made_in_range verb.Run row given words (Run n) is are makes =
-    number_in_range run_row.options (codes "workers") workers_option 1 16 refl refl given words (subst (λ (r : TableRow). AreGiven r.options given words) is are) n makes
-made_in_range verb.Run row given words Steps is are makes = absurd makes
+made_in_range verb.Run row given words (Run n d) is are makes =
+    number_in_range run_row.options (codes "workers") workers_option 1 16 refl refl given words (subst (λ (r : TableRow). AreGiven r.options given words) is are) n makes.0
+made_in_range verb.Run row given words (Steps d) is are makes = absurd makes
 made_in_range verb.Run row given words Types is are makes = absurd makes
 made_in_range verb.Run row given words (Gen x y z) is are makes = absurd makes
 made_in_range verb.Gen row given words (Gen seed sessions runs) is are makes =
@@ -417,9 +419,9 @@ made_in_range verb.Gen row given words (Gen seed sessions runs) is are makes =
     let a = number_in_range gen_row.options (codes "seed") seed_option 0 18446744073709551615 refl refl given words all seed makes.0 in
     let b = number_in_range gen_row.options (codes "sessions") sessions_option 1 64 refl refl given words all sessions makes.1 in
     (omega (arith, a.1), b.0, b.1)
-made_in_range verb.Gen row given words Steps is are makes = absurd makes
+made_in_range verb.Gen row given words (Steps d) is are makes = absurd makes
 made_in_range verb.Gen row given words Types is are makes = absurd makes
-made_in_range verb.Gen row given words (Run n) is are makes = absurd makes
+made_in_range verb.Gen row given words (Run n d) is are makes = absurd makes
 
 pub meant_in_range : (words : List (List ℕ)) (meaning : Words) → Means words meaning → IsInRange meaning
 meant_in_range words meaning m = made_in_range m.0.verb m.0 m.1 m.2.rest meaning (row_known m.0 m.1 words m.2) m.2.options.each m.3
@@ -467,22 +469,22 @@ alone row none r given words m is =
 
 -- the command of a meaning
 abbrev verb_of : Words → Verb
-verb_of Steps = verb.Steps
+verb_of (Steps d) = verb.Steps
 verb_of Types = verb.Types
-verb_of (Run n) = verb.Run
+verb_of (Run n d) = verb.Run
 verb_of (Gen x y z) = verb.Gen
 
 made_by : (verb : Verb) (given : List (List ℕ × Given)) (meaning : Words) → MakesMeaning verb given meaning → verb ≡ verb_of meaning
 made_by verb.Steps given meaning makes = ap verb_of (sym makes)
 made_by verb.Types given meaning makes = ap verb_of (sym makes)
-made_by verb.Run given (Run n) makes = refl
-made_by verb.Run given Steps makes = absurd makes
+made_by verb.Run given (Run n d) makes = refl
+made_by verb.Run given (Steps d) makes = absurd makes
 made_by verb.Run given Types makes = absurd makes
 made_by verb.Run given (Gen x y z) makes = absurd makes
 made_by verb.Gen given (Gen x y z) makes = refl
-made_by verb.Gen given Steps makes = absurd makes
+made_by verb.Gen given (Steps d) makes = absurd makes
 made_by verb.Gen given Types makes = absurd makes
-made_by verb.Gen given (Run n) makes = absurd makes
+made_by verb.Gen given (Run n d) makes = absurd makes
 
 -- words of a meaning spell the row of its command
 pub row_meant_by : (words : List (List ℕ)) (meaning : Words) (m : Means words meaning) → m.0 ≡ verb_row (verb_of meaning)
@@ -492,55 +494,19 @@ no_options : (row : TableRow) → row.options ≡ [] → AreOptions row.options 
 unfolding IsDistinct
 no_options row none = subst (λ (os : List RowOption). AreOptions os [] []) (sym none) (record { each = refl; once = tt; needed = tt })
 
-pub steps_alone : (words : List (List ℕ)) → Means words Steps ↔ (words ≡ codes "steps" ∷ [])
-steps_alone words = (
-  λ m. alone steps_row refl m.0 m.1 words m.2 (row_meant_by words Steps m),
-  λ e. (steps_row, [], record { rest = []; command = e; first = refl; options = no_options steps_row refl }, refl),
-)
-
 pub types_alone : (words : List (List ℕ)) → Means words Types ↔ (words ≡ codes "types" ∷ [])
 types_alone words = (
   λ m. alone types_row refl m.0 m.1 words m.2 (row_meant_by words Types m),
   λ e. (types_row, [], record { rest = []; command = e; first = refl; options = no_options types_row refl }, refl),
 )
 
--- ---- `run`
-
--- an option that takes a number is one word or two
-number_words : (name : List ℕ) (n : ℕ) (words rest : List (List ℕ)) → Begins name (given.Number n) words rest → rest ≡ [] → (digits : List ℕ) × IsNumber digits n × IsNumberOption name digits words
-number_words name n words rest (None, behind, is, gives) end =
-    let e : behind ≡ gives.0 ∷ rest = gives.2 in (gives.0, gives.1, inl (is ∙ ap (λ (b : List (List ℕ)). option_word name None ∷ b) (e ∙ ap (λ (r : List (List ℕ)). gives.0 ∷ r) end)))
-number_words name n words rest (Some value, behind, is, gives) end =
-    let e : behind ≡ rest = gives.1 in (value, gives.0, inr (is ∙ ap (λ (b : List (List ℕ)). option_word name (Some value) ∷ b) (e ∙ end)))
-
--- the one option has the name that is found
-only_name : (o option : RowOption) (name : List ℕ) → find (λ (p : RowOption). bytes_eq p.name name) (o ∷ []) ≡ Some option → o.name ≡ name
-only_name o option name e = at (bytes_eq o.name name) refl e
-  where
-    at : (b : Bool) → bytes_eq o.name name ≡ b → cond b (Some o) None ≡ Some option → o.name ≡ name
-    at true is e = bytes_eq-true o.name name is
-    at false is e = absurd (cc e)
+-- ---- the words of options
 
 bytes_eq-same : (xs ys : List ℕ) → xs ≡ ys → bytes_eq xs ys ≡ true
 bytes_eq-same xs ys e = (bytes_eq-Decides xs ys).1 e
 
--- the words of `run` give the number of workers, and nothing else
-workers_given : (gs : List (List ℕ × Given)) (rest : List (List ℕ)) (n : ℕ) → AreOptions run_row.options gs rest → GivesNumber gs (codes "workers") n → (digits : List ℕ) × IsNumber digits n × IsNumberOption (codes "workers") digits rest
-unfolding IsDistinct
-workers_given [] rest n are gives = absurd (cc gives)
-workers_given (g ∷ []) rest n are gives =
-    let name : codes "workers" ≡ g.0 = only_name workers_option are.each.1.option g.0 are.each.1.named in
-    let e : Some g.1 ≡ Some (given.Number n) = ap (λ b. cond b (Some g.1) None) (sym (bytes_eq-same (codes "workers") g.0 name)) ∙ gives in
-    let number : g.1 ≡ given.Number n = cc in
-    number_words (codes "workers") n rest are.each.0 (subst (λ (m : List ℕ). Begins m (given.Number n) rest are.each.0) (sym name) (subst (λ (h : Given). Begins g.0 h rest are.each.0) number are.each.2)) are.each.3
-workers_given (g ∷ (h ∷ more)) rest n are gives =
-    let a : codes "workers" ≡ g.0 = only_name workers_option are.each.1.option g.0 are.each.1.named in
-    let b : codes "workers" ≡ h.0 = only_name workers_option are.each.3.1.option h.0 are.each.3.1.named in
-    let apart : bytes_eq g.0 h.0 ≡ false = are.once.0.0 in
-    absurd (false≢true (sym apart ∙ bytes_eq-same g.0 h.0 (sym a ∙ b)))
-
 -- a name that is no word with a value
-abbrev has_no_equals : List ℕ → Bool
+abbrev pub has_no_equals : List ℕ → Bool
 has_no_equals [] = true
 has_no_equals (x ∷ a) = cond (x == 61) false (has_no_equals a)
 
@@ -554,36 +520,281 @@ plain_name (x ∷ a) h (suc k) l e = at (λ t. plain_name a t k (omega (arith, l
     at later true h = false≢true h
     at later false h = later h
 
--- an option with a number, and no words behind it
-number_begins : (name digits : List ℕ) (n : ℕ) (words : List (List ℕ)) → IsNumber digits n → IsNumberOption name digits words → Begins name (given.Number n) words []
-number_begins name digits n words number (inl e) = (None, digits ∷ [], e, (digits, number, refl))
-number_begins name digits n words number (inr e) = (Some digits, [], e, (number, refl))
+-- an option that takes a number is one word or two, in front of the others
+number_words : (name : List ℕ) (n : ℕ) (words rest : List (List ℕ)) → Begins name (given.Number n) words rest → (digits : List ℕ) × IsNumber digits n × (option : List (List ℕ)) × IsNumberOption name digits option × (words ≡ option ++ rest)
+number_words name n words rest (None, behind, is, gives) =
+    (gives.0, gives.1, option_word name None ∷ (gives.0 ∷ []), inl refl, is ∙ ap (λ (b : List (List ℕ)). option_word name None ∷ b) gives.2)
+number_words name n words rest (Some value, behind, is, gives) =
+    (value, gives.0, option_word name (Some value) ∷ [], inr refl, is ∙ ap (λ (b : List (List ℕ)). option_word name (Some value) ∷ b) gives.1)
 
-workers_spelled : (digits : List ℕ) (n : ℕ) (rest : List (List ℕ)) → 1 ≤ n → n ≤ 16 → IsNumber digits n → IsNumberOption (codes "workers") digits rest → AreOptions run_row.options ((codes "workers", given.Number n) ∷ []) rest
+-- words begin with the words of an option that takes a number
+number_begins : (name digits : List ℕ) (n : ℕ) (words option rest : List (List ℕ)) → IsNumber digits n → IsNumberOption name digits option → words ≡ option ++ rest → Begins name (given.Number n) words rest
+number_begins name digits n words option rest number (inl e) is =
+    (None, digits ∷ rest, is ∙ ap (λ (o : List (List ℕ)). o ++ rest) e, (digits, number, refl))
+number_begins name digits n words option rest number (inr e) is =
+    (Some digits, rest, is ∙ ap (λ (o : List (List ℕ)). o ++ rest) e, (number, refl))
+
+-- a flag is one word, in front of the others
+flag_words : (name : List ℕ) (words rest : List (List ℕ)) → Begins name given.Flag words rest → words ≡ option_word name None ∷ rest
+flag_words name words rest (None, behind, is, gives) =
+    is ∙ ap (λ (b : List (List ℕ)). option_word name None ∷ b) gives
+flag_words name words rest (Some value, behind, is, gives) = absurd gives
+
+-- ---- `steps`
+
+same_value : (m n : ℕ) → (let a : Option Given = Some (given.Number m) in let b : Option Given = Some (given.Number n) in a ≡ b) → m ≡ n
+same_value m n e = let f : Some (given.Number m) ≡ Some (given.Number n) = e in cc
+
+-- the name under which `steps` and `run` take what is given, with it
+abbrev under_name : Given → List ℕ × Given
+under_name given.Flag = (codes "documents", given.Flag)
+under_name (given.Number n) = (codes "workers", given.Number n)
+
+abbrev under_names : List (List ℕ × Given) → List (List ℕ × Given)
+under_names gs = map under_name (map (λ (g : List ℕ × Given). g.1) gs)
+
+named_so : (name is : List ℕ) (g : Given) → is ≡ name → let a : List ℕ × Given = (name, g) in let b : List ℕ × Given = (is, g) in a ≡ b
+named_so name is g e = ap (λ (n : List ℕ). let p : List ℕ × Given = (n, g) in p) (sym e)
+
+documents_named : (name : List ℕ) (g : Given) → codes "documents" ≡ name → Fits documents_option.takes g → let a : List ℕ × Given = (name, g) in a ≡ under_name g
+documents_named name given.Flag e fits = named_so name (codes "documents") given.Flag e
+documents_named name (given.Number n) e fits = absurd fits
+
+workers_named : (name : List ℕ) (g : Given) → codes "workers" ≡ name → Fits workers_option.takes g → let a : List ℕ × Given = (name, g) in a ≡ under_name g
+workers_named name given.Flag e fits = absurd fits
+workers_named name (given.Number n) e fits = named_so name (codes "workers") (given.Number n) e
+
+-- the one option is found
+one_option : (a : Bool) (o : RowOption) → cond a (Some documents_option) None ≡ Some o → (o ≡ documents_option) × (a ≡ true)
+one_option true o e = let h : documents_option ≡ o = cc in (sym h, refl)
+one_option false o e = absurd (cc e)
+
+steps_named : (gs : List (List ℕ × Given)) (words : List (List ℕ)) → AreGiven steps_row.options gs words → gs ≡ under_names gs
+steps_named [] words are = refl
+steps_named (g ∷ more) words are =
+    let e = one_option (bytes_eq (codes "documents") g.0) are.1.option are.1.named in
+    let named : g ≡ under_name g.1 = documents_named g.0 g.1 (bytes_eq-true (codes "documents") g.0 e.1) (subst (λ (o : RowOption). Fits o.takes g.1) e.0 are.1.fits) in
+    ap (λ (h : List ℕ × Given). h ∷ more) named ∙ ap (λ (hs : List (List ℕ × Given)). under_name g.1 ∷ hs) (steps_named more are.0 are.3)
+
+-- the words behind `steps` are the flag, or none
+steps_given : (gs : List Given) (rest : List (List ℕ)) → AreOptions steps_row.options (map under_name gs) rest → rest ≡ documents_words (is_given (map under_name gs) (codes "documents"))
 unfolding IsDistinct
-workers_spelled digits n rest some few number option = record {
-  each = ([], record { option = workers_option; named = refl; plain = plain_name (codes "workers") refl; fits = (some, few) }, number_begins (codes "workers") digits n rest number option, refl);
-  once = (tt, tt);
-  needed = ((λ _. refl), tt);
-}
+steps_given [] rest are = are.each
+steps_given (given.Number n ∷ more) rest are = absurd (cc are.each.1.named)
+steps_given (given.Flag ∷ []) rest are =
+    flag_words (codes "documents") rest are.each.0 are.each.2 ∙ ap (λ (r : List (List ℕ)). option_word (codes "documents") None ∷ r) are.each.3
+steps_given (given.Flag ∷ (given.Number n ∷ more)) rest are = absurd (cc are.each.3.1.named)
+steps_given (given.Flag ∷ (given.Flag ∷ more)) rest are = absurd (false≢true (sym are.once.0.0))
 
-pub run_words : (words : List (List ℕ)) (workers : ℕ) → Means words (Run workers) ↔ AreRunWords words workers
-run_words words workers = (
-  λ m. let row = row_meant_by words (Run workers) m in
-      let range = meant_in_range words (Run workers) m in
+steps_meant : (words : List (List ℕ)) (documents : Bool) → words ≡ codes "steps" ∷ documents_words documents → Means words (Steps documents)
+unfolding IsDistinct
+steps_meant words false e = (
+  steps_row,
+  [],
+  record { rest = []; command = e; first = refl; options = record { each = refl; once = tt; needed = (λ h. absurd (false≢true h), tt) } },
+  refl,
+)
+steps_meant words true e = (
+  steps_row,
+  (codes "documents", given.Flag) ∷ [],
+  record {
+    rest = documents_words true;
+    command = e;
+    first = refl;
+    options = record {
+      each = ([], record { option = documents_option; named = refl; plain = plain_name (codes "documents") refl; fits = tt }, (None, [], refl, refl), refl);
+      once = (tt, tt);
+      needed = (λ h. absurd (false≢true h), tt);
+    };
+  },
+  refl,
+)
+
+pub steps_words : (words : List (List ℕ)) (documents : Bool) → Means words (Steps documents) ↔ (words ≡ codes "steps" ∷ documents_words documents)
+steps_words words documents = (
+  λ m. let row = row_meant_by words (Steps documents) m in
+      let options : AreOptions steps_row.options m.1 m.2.rest = subst (λ (r : TableRow). AreOptions r.options m.1 m.2.rest) row m.2.options in
+      let makes : Steps documents ≡ Steps (is_given m.1 (codes "documents")) = subst (λ (r : TableRow). MakesMeaning r.verb m.1 (Steps documents)) row m.3 in
+      let same : is_given m.1 (codes "documents") ≡ documents = cc in
+      let named = steps_named m.1 m.2.rest options.each in
+      let rest : m.2.rest ≡ documents_words (is_given (under_names m.1) (codes "documents")) = steps_given (map (λ (g : List ℕ × Given). g.1) m.1) m.2.rest (subst (λ (gs : List (List ℕ × Given)). AreOptions steps_row.options gs m.2.rest) named options) in
+      m.2.command ∙ ap (λ (r : TableRow). r.command ∷ m.2.rest) row
+      ∙ ap (λ (ws : List (List ℕ)). codes "steps" ∷ ws) (rest ∙ ap (λ (gs : List (List ℕ × Given)). documents_words (is_given gs (codes "documents"))) (sym named) ∙ ap documents_words same),
+  λ e. steps_meant words documents e,
+)
+
+-- ---- `run`
+
+-- one of two options is found
+two_options : (a b : Bool) (o : RowOption) → cond a (Some workers_option) (cond b (Some documents_option) None) ≡ Some o → (o ≡ workers_option) × (a ≡ true) ⊎ ((o ≡ documents_option) × (b ≡ true))
+two_options true b o e = let h : workers_option ≡ o = cc in inl (sym h, refl)
+two_options false true o e = let h : documents_option ≡ o = cc in inr (sym h, refl)
+two_options false false o e = absurd (cc e)
+
+run_option_named : (name : List ℕ) (g : Given) → IsOption run_row.options name g → let a : List ℕ × Given = (name, g) in a ≡ under_name g
+run_option_named name g is =
+    elim (two_options (bytes_eq (codes "workers") name) (bytes_eq (codes "documents") name) is.option is.named) [
+      | inl e ↦ workers_named name g (bytes_eq-true (codes "workers") name e.1) (subst (λ (o : RowOption). Fits o.takes g) e.0 is.fits)
+      | inr e ↦ documents_named name g (bytes_eq-true (codes "documents") name e.1) (subst (λ (o : RowOption). Fits o.takes g) e.0 is.fits)
+    ]
+
+run_named : (gs : List (List ℕ × Given)) (words : List (List ℕ)) → AreGiven run_row.options gs words → gs ≡ under_names gs
+run_named [] words are = refl
+run_named (g ∷ more) words are =
+    let named : g ≡ under_name g.1 = run_option_named g.0 g.1 are.1 in
+    ap (λ (h : List ℕ × Given). h ∷ more) named ∙ ap (λ (hs : List (List ℕ × Given)). under_name g.1 ∷ hs) (run_named more are.0 are.3)
+
+-- what the words behind `run` are
+record RunGiven (gs : List (List ℕ × Given)) (rest : List (List ℕ)) (workers : ℕ) : Type 0 where
+  digits : List ℕ
+  number : IsNumber digits workers
+  option : List (List ℕ)
+  workers_are : IsNumberOption (codes "workers") digits option
+  both : AreBoth option (documents_words (is_given gs (codes "documents"))) rest
+
+-- the number of workers and no flag
+only_workers : (m n : ℕ) (rest behind : List (List ℕ)) → m ≡ n → Begins (codes "workers") (given.Number m) rest behind → behind ≡ [] → RunGiven (under_name (given.Number m) ∷ []) rest n
+only_workers m n rest behind is begins end =
+    let w = number_words (codes "workers") m rest behind begins in
+    record {
+      digits = w.0;
+      number = subst (λ (k : ℕ). IsNumber w.0 k) is w.1;
+      option = w.2;
+      workers_are = w.3;
+      both = inl (w.4 ∙ ap (λ (b : List (List ℕ)). w.2 ++ b) end);
+    }
+
+-- the number of workers, and then the flag
+flag_behind : (m n : ℕ) (rest behind end : List (List ℕ)) → m ≡ n → Begins (codes "workers") (given.Number m) rest behind → Begins (codes "documents") given.Flag behind end → end ≡ [] → RunGiven (under_name (given.Number m) ∷ (under_name given.Flag ∷ [])) rest n
+flag_behind m n rest behind end is begins flag none =
+    let w = number_words (codes "workers") m rest behind begins in
+    record {
+      digits = w.0;
+      number = subst (λ (k : ℕ). IsNumber w.0 k) is w.1;
+      option = w.2;
+      workers_are = w.3;
+      both = inl (w.4 ∙ ap (λ (b : List (List ℕ)). w.2 ++ b) (flag_words (codes "documents") behind end flag ∙ ap (λ (b : List (List ℕ)). option_word (codes "documents") None ∷ b) none));
+    }
+
+-- the flag, and then the number of workers
+flag_first : (m n : ℕ) (rest behind end : List (List ℕ)) → m ≡ n → Begins (codes "documents") given.Flag rest behind → Begins (codes "workers") (given.Number m) behind end → end ≡ [] → RunGiven (under_name given.Flag ∷ (under_name (given.Number m) ∷ [])) rest n
+flag_first m n rest behind end is flag begins none =
+    let w = number_words (codes "workers") m behind end begins in
+    record {
+      digits = w.0;
+      number = subst (λ (k : ℕ). IsNumber w.0 k) is w.1;
+      option = w.2;
+      workers_are = w.3;
+      both = inr (flag_words (codes "documents") rest behind flag ∙ ap (λ (b : List (List ℕ)). option_word (codes "documents") None ∷ b) (w.4 ∙ (ap (λ (b : List (List ℕ)). w.2 ++ b) none ∙ append-nil w.2)));
+    }
+
+workers_given : (gs : List Given) (rest : List (List ℕ)) (n : ℕ) → AreOptions run_row.options (map under_name gs) rest → GivesNumber (map under_name gs) (codes "workers") n → RunGiven (map under_name gs) rest n
+unfolding IsDistinct
+workers_given [] rest n are gives = absurd (cc gives)
+workers_given (given.Flag ∷ []) rest n are gives = absurd (cc gives)
+workers_given (given.Number m ∷ []) rest n are gives =
+    let is : m ≡ n = same_value m n gives in only_workers m n rest are.each.0 is are.each.2 are.each.3
+workers_given (given.Flag ∷ (given.Flag ∷ more)) rest n are gives = absurd (false≢true (sym are.once.0.0))
+workers_given (given.Number m ∷ (given.Number k ∷ more)) rest n are gives = absurd (false≢true (sym are.once.0.0))
+workers_given (given.Number m ∷ (given.Flag ∷ [])) rest n are gives =
+    flag_behind m n rest are.each.0 are.each.3.0 (same_value m n gives) are.each.2 are.each.3.2 are.each.3.3
+workers_given (given.Flag ∷ (given.Number m ∷ [])) rest n are gives =
+    flag_first m n rest are.each.0 are.each.3.0 (same_value m n gives) are.each.2 are.each.3.2 are.each.3.3
+workers_given (given.Number m ∷ (given.Flag ∷ (given.Number k ∷ more))) rest n are gives = absurd (false≢true (sym are.once.0.1.0))
+workers_given (given.Number m ∷ (given.Flag ∷ (given.Flag ∷ more))) rest n are gives = absurd (false≢true (sym are.once.1.0.0))
+workers_given (given.Flag ∷ (given.Number m ∷ (given.Flag ∷ more))) rest n are gives = absurd (false≢true (sym are.once.0.1.0))
+workers_given (given.Flag ∷ (given.Number m ∷ (given.Number k ∷ more))) rest n are gives = absurd (false≢true (sym are.once.1.0.0))
+
+-- the options that say how many workers there are, and that the documents are asked for
+workers_is : (n : ℕ) → 1 ≤ n → n ≤ 16 → IsOption run_row.options (codes "workers") (given.Number n)
+workers_is n some few = record { option = workers_option; named = refl; plain = plain_name (codes "workers") refl; fits = (some, few) }
+
+documents_is : IsOption run_row.options (codes "documents") given.Flag
+documents_is = record { option = documents_option; named = refl; plain = plain_name (codes "documents") refl; fits = tt }
+
+run_meant : (words : List (List ℕ)) (workers : ℕ) (documents : Bool) → (a : AreRunWords words workers documents) → AreBoth a.option (documents_words documents) a.options → Means words (Run workers documents)
+unfolding IsDistinct
+run_meant words workers false a (inl e) = (
+  run_row,
+  under_name (given.Number workers) ∷ [],
+  record {
+    rest = a.options;
+    command = a.words_are;
+    first = refl;
+    options = record {
+      each = ([], workers_is workers a.some a.few, number_begins (codes "workers") a.digits workers a.options a.option [] a.number a.workers_are e, refl);
+      once = (tt, tt);
+      needed = (λ _. refl, (λ h. absurd (false≢true h), tt));
+    };
+  },
+  (refl, refl),
+)
+run_meant words workers false a (inr e) = (
+  run_row,
+  under_name (given.Number workers) ∷ [],
+  record {
+    rest = a.options;
+    command = a.words_are;
+    first = refl;
+    options = record {
+      each = ([], workers_is workers a.some a.few, number_begins (codes "workers") a.digits workers a.options a.option [] a.number a.workers_are (e ∙ sym (append-nil a.option)), refl);
+      once = (tt, tt);
+      needed = (λ _. refl, (λ h. absurd (false≢true h), tt));
+    };
+  },
+  (refl, refl),
+)
+run_meant words workers true a (inl e) = (
+  run_row,
+  under_name (given.Number workers) ∷ (under_name given.Flag ∷ []),
+  record {
+    rest = a.options;
+    command = a.words_are;
+    first = refl;
+    options = record {
+      each = (documents_words true, workers_is workers a.some a.few, number_begins (codes "workers") a.digits workers a.options a.option (documents_words true) a.number a.workers_are e, ([], documents_is, (None, [], refl, refl), refl));
+      once = ((refl, tt), (tt, tt));
+      needed = (λ _. refl, (λ h. absurd (false≢true h), tt));
+    };
+  },
+  (refl, refl),
+)
+run_meant words workers true a (inr e) = (
+  run_row,
+  under_name given.Flag ∷ (under_name (given.Number workers) ∷ []),
+  record {
+    rest = a.options;
+    command = a.words_are;
+    first = refl;
+    options = record {
+      each = (a.option, documents_is, (None, a.option, e, refl), ([], workers_is workers a.some a.few, number_begins (codes "workers") a.digits workers a.option a.option [] a.number a.workers_are (sym (append-nil a.option)), refl));
+      once = ((refl, tt), (tt, tt));
+      needed = (λ _. refl, (λ h. absurd (false≢true h), tt));
+    };
+  },
+  (refl, refl),
+)
+
+pub run_words : (words : List (List ℕ)) (workers : ℕ) (documents : Bool) → Means words (Run workers documents) ↔ AreRunWords words workers documents
+run_words words workers documents = (
+  λ m. let row = row_meant_by words (Run workers documents) m in
+      let range = meant_in_range words (Run workers documents) m in
       let options : AreOptions run_row.options m.1 m.2.rest = subst (λ (r : TableRow). AreOptions r.options m.1 m.2.rest) row m.2.options in
-      let gives : GivesNumber m.1 (codes "workers") workers = subst (λ (r : TableRow). MakesMeaning r.verb m.1 (Run workers)) row m.3 in
-      let g = workers_given m.1 m.2.rest workers options gives in
+      let makes : GivesNumber m.1 (codes "workers") workers × (documents ≡ is_given m.1 (codes "documents")) = subst (λ (r : TableRow). MakesMeaning r.verb m.1 (Run workers documents)) row m.3 in
+      let named = run_named m.1 m.2.rest options.each in
+      let g : RunGiven m.1 m.2.rest workers = subst (λ (gs : List (List ℕ × Given)). RunGiven gs m.2.rest workers) (sym named) (workers_given (map (λ (g : List ℕ × Given). g.1) m.1) m.2.rest workers (subst (λ (gs : List (List ℕ × Given)). AreOptions run_row.options gs m.2.rest) named options) (subst (λ (gs : List (List ℕ × Given)). GivesNumber gs (codes "workers") workers) named makes.0)) in
       record {
         some = range.0;
         few = range.1;
-        digits = g.0;
-        number = g.1;
+        digits = g.digits;
+        number = g.number;
+        option = g.option;
+        workers_are = g.workers_are;
         options = m.2.rest;
-        option = g.2;
+        both = subst (λ (d : Bool). AreBoth g.option (documents_words d) m.2.rest) (sym makes.1) g.both;
         words_are = m.2.command ∙ ap (λ (r : TableRow). r.command ∷ m.2.rest) row;
       },
-  λ a. (run_row, (codes "workers", given.Number workers) ∷ [], record { rest = a.options; command = a.words_are; first = refl; options = workers_spelled a.digits workers a.options a.some a.few a.number a.option }, refl),
+  λ a. run_meant words workers documents a a.both,
 )
 
 -- ---- `gen`

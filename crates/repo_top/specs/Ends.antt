@@ -16,7 +16,7 @@ use Rattle.oak_world.specs.Worlds.{WorldOf, live}
 use Rattle.jr_gen.specs.Scripts.{script_text}
 use Rattle.jr_work.specs.Runs.{HasRun}
 use Rattle.jr_work.specs.Workers.{HasRunByWorkers}
-use Rattle.repo_top.specs.Headline.{replies_of}
+use Rattle.repo_top.specs.Headline.{printed_of}
 use Rattle.repo_top.specs.Statuses.{fault_line, script_line, status_of, types_line}
 use Rattle.repo_top.specs.Summary.{summary_text}
 use Rattle.repo_top.specs.Typed.{Defines, FaultsAt, IsCanonical}
@@ -98,7 +98,7 @@ call threads words does = record { threads = threads; words = words; does = does
 
 -- a call that may run no threads takes all that words may mean but `run`
 abbrev pub IsTaken : Bool → Words → Type 0
-IsTaken false (Run workers) = ⊥
+IsTaken false (Run workers documents) = ⊥
 IsTaken threads meaning = ⊤
 
 -- the words of a call ask for what they mean, which the call takes
@@ -115,9 +115,9 @@ pub data SourceKind : Type 0 where
 
 -- what is read from the source; nothing where a script is made
 abbrev pub source_kind : Words → Option SourceKind
-source_kind Steps = Some a_script
+source_kind (Steps documents) = Some a_script
 source_kind Types = Some a_type_text
-source_kind (Run workers) = Some a_script
+source_kind (Run workers documents) = Some a_script
 source_kind (Gen seed sessions runs) = None
 
 -- a source was read to its end, and these are all of its bytes
@@ -126,6 +126,10 @@ pub record IsReadWhole (before now : Input) (bytes : List ℕ) : Type 0 where
   pub end : IsDrained before.left now.left
   pub count : RoseExactly (length bytes) before.given now.given
   pub short : length bytes ≤ longest
+
+-- a source was read to its end, and its bytes are this script
+abbrev pub IsReadAs : Input → Input → Script → Type 0
+IsReadAs before now script = (bytes : List ℕ) × IsReadWhole before now bytes × Spells bytes script
 
 -- the bytes have the fault: they break a rule of scripts, or are no text of node types
 abbrev pub HasFault : SourceKind → List ℕ → Unrun → Type 0
@@ -161,8 +165,7 @@ IsMissing None before now why = ⊥
 abbrev pub IsScriptFor : Words → Effect → Script → Type 0
 IsScriptFor (Gen seed sessions runs) e script =
     (e.source_now ≡ e.source) × Spells (script_text seed sessions) script
-IsScriptFor meaning e script =
-    (bytes : List ℕ) × IsReadWhole e.source e.source_now bytes × Spells bytes script
+IsScriptFor meaning e script = IsReadAs e.source e.source_now script
 
 -- the text that is printed without a run: the canonical text of node types, of which the source was
 -- read whole; or the text of a script that is made, and the source is as it was
@@ -177,15 +180,22 @@ IsTextFor _ e text = ⊥
 
 -- the script was run to its end as is meant: by its schedule, or by workers
 abbrev pub HasRunFor : Words → Script → WorldOf JcrLaw → Type 0
-HasRunFor Steps script world = HasRun script world
-HasRunFor (Run workers) script world = HasRunByWorkers script world
+HasRunFor (Steps documents) script world = HasRun script world
+HasRunFor (Run workers documents) script world = HasRunByWorkers script world
 HasRunFor (Gen seed sessions true) script world = HasRun script world
 HasRunFor _ script world = ⊥
 
--- what is written of a run: the replies of its history; or the one line that counts them
+-- the documents are asked for
+abbrev pub has_documents : Words → Bool
+has_documents (Steps documents) = documents
+has_documents (Run workers documents) = documents
+has_documents _ = false
+
+-- what is written of a run: the replies of its history, and behind them the documents that it left
+-- where these are asked for; or the one line that counts the replies
 abbrev pub told_of : Words → Script → WorldOf JcrLaw → List ℕ
 told_of (Gen seed sessions runs) script world = summary_text sessions script (live world.history)
-told_of meaning script world = replies_of (live world.history)
+told_of meaning script world = printed_of (has_documents meaning) world
 
 -- ---- writing
 

@@ -94,9 +94,17 @@ pub record IsRow (table : List TableRow) (row : TableRow) (given : List (List �
 
 -- ---- the table
 
--- the row of `steps`, which has no options
+-- the documents are printed behind the replies
+abbrev pub documents_option : RowOption
+documents_option = record { name = codes "documents"; takes = takes.Nothing; required = false }
+
+-- the row of `steps`
 abbrev pub steps_row : TableRow
-steps_row = record { command = codes "steps"; verb = verb.Steps; options = [] }
+steps_row = record {
+  command = codes "steps";
+  verb = verb.Steps;
+  options = documents_option ∷ [];
+}
 
 -- the row of `types`, which has no options
 abbrev pub types_row : TableRow
@@ -108,7 +116,11 @@ workers_option = record { name = codes "workers"; takes = takes.Number 1 16; req
 
 -- the row of `run`
 abbrev pub run_row : TableRow
-run_row = record { command = codes "run"; verb = verb.Run; options = workers_option ∷ [] }
+run_row = record {
+  command = codes "run";
+  verb = verb.Run;
+  options = workers_option ∷ documents_option ∷ [];
+}
 
 -- the seed of a script that is made: any number below 2 ^ 64
 abbrev pub seed_option : RowOption
@@ -157,9 +169,10 @@ is_given all name = is_some (lookup (bytes_eq name) all)
 
 -- what a command means with its options as they are given
 abbrev pub MakesMeaning : Verb → List (List ℕ × Given) → Words → Type 0
-MakesMeaning verb.Steps all meaning = meaning ≡ Steps
+MakesMeaning verb.Steps all meaning = meaning ≡ Steps (is_given all (codes "documents"))
 MakesMeaning verb.Types all meaning = meaning ≡ Types
-MakesMeaning verb.Run all (Run workers) = GivesNumber all (codes "workers") workers
+MakesMeaning verb.Run all (Run workers documents) =
+    GivesNumber all (codes "workers") workers × (documents ≡ is_given all (codes "documents"))
 MakesMeaning verb.Run all _ = ⊥
 MakesMeaning verb.Gen all (Gen seed sessions runs) =
     GivesNumber all (codes "seed") seed
@@ -177,7 +190,7 @@ HasMeaning words = (meaning : Words) × Means words meaning
 
 -- the numbers in a meaning are in their ranges
 abbrev pub IsInRange : Words → Type 0
-IsInRange (Run workers) = (1 ≤ workers) × (workers ≤ 16)
+IsInRange (Run workers documents) = (1 ≤ workers) × (workers ≤ 16)
 IsInRange (Gen seed sessions runs) = (seed < 2 ^ 64) × (1 ≤ sessions) × (sessions ≤ 64)
 IsInRange _ = ⊤
 
@@ -201,14 +214,26 @@ IsNumberOption name digits words =
     (words ≡ option_word name None ∷ (digits ∷ []))
     ⊎ (words ≡ option_word name (Some digits) ∷ [])
 
--- the words of `run`: a number of workers, 1 to 16
-pub record AreRunWords (words : List (List ℕ)) (workers : ℕ) : Type 0 where
+-- the word `--documents` where the documents are asked for, and else no word
+abbrev pub documents_words : Bool → List (List ℕ)
+documents_words false = []
+documents_words true = option_word (codes "documents") None ∷ []
+
+-- words are some and others, in either order
+abbrev pub AreBoth : List (List ℕ) → List (List ℕ) → List (List ℕ) → Type 0
+AreBoth some others words = (words ≡ some ++ others) ⊎ (words ≡ others ++ some)
+
+-- the words of `run`: a number of workers, 1 to 16, and the word `--documents` where the documents
+-- are asked for
+pub record AreRunWords (words : List (List ℕ)) (workers : ℕ) (documents : Bool) : Type 0 where
   pub some : 1 ≤ workers
   pub few : workers ≤ 16
   pub digits : List ℕ
   pub number : IsNumber digits workers
+  pub option : List (List ℕ)
+  pub workers_are : IsNumberOption (codes "workers") digits option
   pub options : List (List ℕ)
-  pub option : IsNumberOption (codes "workers") digits options
+  pub both : AreBoth option (documents_words documents) options
   pub words_are : words ≡ codes "run" ∷ options
 
 -- words spell options as they are given, one after the other

@@ -1,13 +1,13 @@
 // The top calls.
-ghost use Rattle.std.specs.Prelude.{◌≡◌, ℕ, List, None, Some, IfOk, IfErr, IfSome, IsNone, false, map, string_bytes, true};
-ghost use Rattle.repo_top.specs.Ends.{Does, Ends, Faults, HasRunFor, IsReadWhole, IsTaken, IsUnread, Prints, Spells, Tells, WritesText, call, effect, input_of, output_of, told_of};
+ghost use Rattle.std.specs.Prelude.{◌≡◌, ◌≤◌, None, Some, IfOk, IfErr, IsNone, false, map, string_bytes, true};
+ghost use Rattle.jr_work.specs.Runs.{HasRun};
+ghost use Rattle.jr_work.specs.Workers.{HasRunByWorkers};
+ghost use Rattle.repo_top.specs.Ends.{Does, Ends, Faults, IsReadAs, IsTaken, IsUnread, Tells, WritesText, call, effect, input_of, output_of};
 ghost use Rattle.repo_top.specs.Ends.SourceKind.{a_script};
-ghost use Rattle.repo_top.specs.Headline.{replies_of};
+ghost use Rattle.repo_top.specs.Headline.{printed_of};
 ghost use Rattle.repo_top.specs.Words.{IsInRange};
-ghost use Rattle.jr_script.specs.Bounds.{IsWithin};
-ghost use Rattle.oak_world.specs.Worlds.{live};
 ghost use Rattle.repo_top.specs.declared.status.Unrun.TheVariants as unrun;
-ghost use Rattle.repo_top.specs.declared.words.Words.TheVariants.{Run, Steps, Types};
+ghost use Rattle.repo_top.specs.declared.words.Words.TheVariants.{Types};
 
 use crate::made::made;
 use crate::status::{Status, Unrun, script_line, types_line};
@@ -16,7 +16,7 @@ use crate::words::{Words, words_meant};
 use jcr_law::JcrLaw;
 use jr_io::{Failed, Sink, Source, deliver, read_all};
 use jr_path::Text;
-use jr_print::lines;
+use jr_print::{lines, put_documents};
 use jr_script::{Script, read_script, scripts_are_within};
 use jr_work::{Gate, run_steps, run_workers};
 use oak_world::World;
@@ -49,7 +49,10 @@ pub fn repo_main<R: Threads + Wait + Sync, S: Source, K: Sink, G: Gate + Sync>(
         return unrun(alloc, sink, &Unrun::Words);
     };
     match meaning {
-        Words::Run { workers } => run(rt, alloc, workers, source, sink, gate, left),
+        Words::Run { workers, documents } => {
+            let ran = run(rt, alloc, workers, source, gate);
+            told(alloc, ran, documents, sink, left)
+        }
         _ => alone(alloc, meaning, source, sink, left),
     }
 }
@@ -92,7 +95,10 @@ fn alone<S: Source, K: Sink>(
         (output_of K.Sink sink.old) (output_of K.Sink sink.new) left.new) result }
 {
     match meaning {
-        Words::Steps => steps(alloc, source, sink, left),
+        Words::Steps { documents } => {
+            let ran = steps(alloc, source);
+            told(alloc, ran, documents, sink, left)
+        }
         Words::Types => types(alloc, source, sink),
         Words::Run { .. } => unreachable!(),
         Words::Gen {
@@ -103,50 +109,38 @@ fn alone<S: Source, K: Sink>(
     }
 }
 
-// Runs the script that a source gives by its schedule, and writes its replies.
-fn steps<S: Source, K: Sink>(
-    alloc: Global,
-    source: &mut S,
-    sink: &mut K,
-    left: &mut Option<World<JcrLaw>>,
-) -> Status
-    requires none { IsNone left.old }
-    ensures does { Does Steps
-        (effect (input_of S.Source source.old) (input_of S.Source source.new)
-        (output_of K.Sink sink.old) (output_of K.Sink sink.new) left.new) result }
+// Runs the script that a source gives by its schedule.
+fn steps<S: Source>(alloc: Global, source: &mut S) -> Result<World<JcrLaw>, Unrun>
+    ensures ran { IfOk result (λ world. (script : Script)
+        × IsReadAs (input_of S.Source source.old) (input_of S.Source source.new) script
+        × HasRun script world) }
+    ensures unread { IfErr result
+        (IsUnread a_script (input_of S.Source source.old) (input_of S.Source source.new)) }
 {
-    match script_of(alloc, source) {
-        Ok(script) => {
-            scripts_are_within();
-            run_script(alloc, script, sink, left)
-        }
-        Err(why) => unrun(alloc, sink, &why),
-    }
+    let script = script_of(alloc, source)?;
+    scripts_are_within();
+    Ok(run_steps(alloc, script)?)
 }
 
-// Runs the script that a source gives by worker threads, and writes its replies.
-fn run<R: Threads + Wait + Sync, S: Source, K: Sink, G: Gate + Sync>(
+// Runs the script that a source gives by so many worker threads.
+fn run<R: Threads + Wait + Sync, S: Source, G: Gate + Sync>(
     rt: &R,
     alloc: Global,
     workers: u32,
     source: &mut S,
-    sink: &mut K,
     gate: &G,
-    left: &mut Option<World<JcrLaw>>,
-) -> Status
-    requires range { IsInRange (Run workers) }
-    requires none { IsNone left.old }
-    ensures does { Does (Run workers)
-        (effect (input_of S.Source source.old) (input_of S.Source source.new)
-        (output_of K.Sink sink.old) (output_of K.Sink sink.new) left.new) result }
+) -> Result<World<JcrLaw>, Unrun>
+    requires some { 1 ≤ workers }
+    requires few { workers ≤ 16 }
+    ensures ran { IfOk result (λ world. (script : Script)
+        × IsReadAs (input_of S.Source source.old) (input_of S.Source source.new) script
+        × HasRunByWorkers script world) }
+    ensures unread { IfErr result
+        (IsUnread a_script (input_of S.Source source.old) (input_of S.Source source.new)) }
 {
-    match script_of(alloc, source) {
-        Ok(script) => {
-            scripts_are_within();
-            run_by(rt, alloc, script, workers, sink, gate, left)
-        }
-        Err(why) => unrun(alloc, sink, &why),
-    }
+    let script = script_of(alloc, source)?;
+    scripts_are_within();
+    Ok(run_workers(rt, alloc, script, workers, gate)?)
 }
 
 // Writes the canonical text of the node types that a source gives.
@@ -163,9 +157,8 @@ fn types<S: Source, K: Sink>(alloc: Global, source: &mut S, sink: &mut K) -> Sta
 
 // The script that a source gives.
 fn script_of<S: Source>(alloc: Global, source: &mut S) -> Result<Script, Unrun>
-    ensures read { IfOk result (λ script. (bytes : List ℕ)
-        × IsReadWhole (input_of S.Source source.old) (input_of S.Source source.new) bytes
-        × Spells bytes script) }
+    ensures read { IfOk result
+        (IsReadAs (input_of S.Source source.old) (input_of S.Source source.new)) }
     ensures unread { IfErr result
         (IsUnread a_script (input_of S.Source source.old) (input_of S.Source source.new)) }
 {
@@ -173,65 +166,59 @@ fn script_of<S: Source>(alloc: Global, source: &mut S) -> Result<Script, Unrun>
     Ok(read_script(alloc, bytes.as_slice())?)
 }
 
-// Runs a script by its schedule, and writes its replies.
-fn run_script<K: Sink>(
+// Leaves the world with which a run ended, and writes what is printed of it; or writes the line that
+// says why no script is run.
+fn told<K: Sink>(
     alloc: Global,
-    script: Script,
+    ran: Result<World<JcrLaw>, Unrun>,
+    documents: bool,
     sink: &mut K,
     left: &mut Option<World<JcrLaw>>,
 ) -> Status
-    requires within { IsWithin script }
     requires none { IsNone left.old }
-    ensures ran { IfSome left.new (HasRunFor Steps script) }
-    ensures prints { Prints (told_of Steps script) left.new
-        (output_of K.Sink sink.old) (output_of K.Sink sink.new) result }
+    ensures ok { IfOk ran (λ world. (left.new ≡ Some world)
+        × WritesText (output_of K.Sink sink.old) (output_of K.Sink sink.new)
+        (printed_of documents world) result) }
+    ensures err { IfErr ran (λ why. IsNone left.new
+        × Faults (output_of K.Sink sink.old) (output_of K.Sink sink.new) why result) }
 {
-    match run_steps(alloc, script) {
-        Ok(world) => replied(alloc, world, sink, left),
-        Err(AllocError) => Status::Memory,
+    match ran {
+        Ok(world) => printed(alloc, world, documents, sink, left),
+        Err(why) => unrun(alloc, sink, &why),
     }
 }
 
-// Runs a script by so many worker threads, and writes its replies.
-fn run_by<R: Threads + Wait + Sync, K: Sink, G: Gate + Sync>(
-    rt: &R,
-    alloc: Global,
-    script: Script,
-    workers: u32,
-    sink: &mut K,
-    gate: &G,
-    left: &mut Option<World<JcrLaw>>,
-) -> Status
-    requires within { IsWithin script }
-    requires range { IsInRange (Run workers) }
-    requires none { IsNone left.old }
-    ensures ran { IfSome left.new (HasRunFor (Run workers) script) }
-    ensures prints { Prints (told_of (Run workers) script) left.new
-        (output_of K.Sink sink.old) (output_of K.Sink sink.new) result }
-{
-    match run_workers(rt, alloc, script, workers, gate) {
-        Ok(world) => replied(alloc, world, sink, left),
-        Err(AllocError) => Status::Memory,
-    }
-}
-
-// Leaves the world with which a run ended, and writes its replies.
-fn replied<K: Sink>(
+// Leaves the world with which a run ended, and writes what is printed of it.
+fn printed<K: Sink>(
     alloc: Global,
     world: World<JcrLaw>,
+    documents: bool,
     sink: &mut K,
     left: &mut Option<World<JcrLaw>>,
 ) -> Status
     ensures left { left.new ≡ Some world }
     ensures writes { WritesText (output_of K.Sink sink.old) (output_of K.Sink sink.new)
-        (replies_of (live world.history)) result }
+        (printed_of documents world) result }
 {
-    let text = lines(alloc, world.journal());
+    let text = text_of(alloc, &world, documents);
     leave(world, left);
     match text {
         Ok(text) => written(sink, text.as_slice(), Status::Done),
         Err(AllocError) => Status::Memory,
     }
+}
+
+// What is printed of a run that left this world: its replies, and behind them the documents where
+// these are asked for. All of it is made before the first byte is written, so that nothing is
+// written where memory is refused.
+fn text_of(alloc: Global, world: &World<JcrLaw>, documents: bool) -> Result<Vec<u8>, AllocError>
+    ensures { IfOk result (λ text. text.items ≡ printed_of documents world.now) }
+{
+    let mut text = lines(alloc, world.journal())?;
+    if documents {
+        put_documents(alloc, &mut text, world.documents())?;
+    }
+    Ok(text)
 }
 
 // No world is left.

@@ -2,21 +2,25 @@
 ghost use Rattle.std.specs.Prelude.{IsSome, Option, option_copied, ◌≡◌, ◌≢◌, ◌++◌, ◌∷◌, ◌≤◌, ◌↔◌, ℕ, Bool, List, MatchOption, IsTrue, map, string_bytes, bytes_eq, codes, [], option_map};
 ghost use Rattle.std.specs.List.{find, IsDistinct};
 ghost use Rattle.std.specs.Map.{lookup, keys_of};
-ghost use Rattle.repo_top.specs.Words.{TableRow, table_row, row_option, AreGiven, AreGenWords, AreRunWords, Begins, GivesNumber, IsNumber, IsOption, IsPlain, IsRequiredNumber, IsRow, SpellOptions, MakesMeaning, Means, AreOptions, option_word, verb_row, Gives, Fits};
+ghost use Rattle.repo_top.specs.Words.{TableRow, table_row, row_option, AreGiven, AreGenWords, AreRunWords, Begins, GivesNumber, IsNumber, IsOption, IsPlain, IsRequiredNumber, IsRow, SpellOptions, MakesMeaning, Means, AreOptions, documents_words, option_word, verb_row, Gives, Fits};
 ghost use Rattle.repo_top.specs.declared.words.Given.{Given};
 ghost use Rattle.repo_top.specs.declared.words.Words.TheVariants.{Gen, Run, Steps, Types};
 
 /// What a list of words means.
 #[derive(Clone, Copy, PartialEq, Eq)]
 pub enum Words {
-    /// `steps`: reads a script from the source, runs it on one thread, prints the replies.
-    Steps,
+    /// `steps`: reads a script from the source, runs it on one thread, prints the replies, and behind
+    /// them the documents where these are asked for.
+    Steps {
+        documents: bool,
+    },
     /// `types`: reads a text of node types from the source, prints its canonical form.
     Types,
     /// `run`: reads a script from the source, runs it by so many worker threads, 1 to 16, prints the
-    /// replies.
+    /// replies, and behind them the documents where these are asked for.
     Run {
         workers: u32,
+        documents: bool,
     },
     /// `gen`: makes a script from a seed for so many sessions, 1 to 64, and prints it; or runs it on
     /// one thread and prints one line that counts what came of it. The source isn't read.
@@ -80,7 +84,11 @@ const ROWS: [Row; 4] = [
     Row {
         command: "steps",
         verb: Verb::Steps,
-        options: &[],
+        options: &[WordOption {
+            name: "documents",
+            takes: Takes::Nothing,
+            required: false,
+        }],
     },
     Row {
         command: "types",
@@ -90,11 +98,18 @@ const ROWS: [Row; 4] = [
     Row {
         command: "run",
         verb: Verb::Run,
-        options: &[WordOption {
-            name: "workers",
-            takes: Takes::Number { least: 1, most: 16 },
-            required: true,
-        }],
+        options: &[
+            WordOption {
+                name: "workers",
+                takes: Takes::Number { least: 1, most: 16 },
+                required: true,
+            },
+            WordOption {
+                name: "documents",
+                takes: Takes::Nothing,
+                required: false,
+            },
+        ],
     },
     Row {
         command: "gen",
@@ -141,10 +156,13 @@ fn meaning_of(row: &Row, words: &[String]) -> Words
         → MakesMeaning row.now.verb given result }
 {
     match row.verb {
-        Verb::Steps => Words::Steps,
+        Verb::Steps => Words::Steps {
+            documents: option_given(row.options, words, "documents").is_some(),
+        },
         Verb::Types => Words::Types,
         Verb::Run => Words::Run {
             workers: number_given(row.options, words, "workers") as u32,
+            documents: option_given(row.options, words, "documents").is_some(),
         },
         Verb::Gen => Words::Gen {
             seed: number_given(row.options, words, "seed"),
@@ -169,9 +187,11 @@ fn number_given(options: &[WordOption], words: &[String], name: &str) -> u64
     }
 }
 
-/// The word `steps` alone means to run a script.
+/// The words that mean to run a script by its schedule are `steps`, and `--documents` where the
+/// documents are asked for.
 pub fn meaning_of_steps()
-    ensures { (words : List (List ℕ)) → Means words Steps ↔ (words ≡ codes "steps" ∷ []) }
+    ensures { (words : List (List ℕ)) (documents : Bool) →
+        Means words (Steps documents) ↔ (words ≡ codes "steps" ∷ documents_words documents) }
 {}
 
 /// The word `types` alone means to print node types.
@@ -180,10 +200,10 @@ pub fn meaning_of_types()
 {}
 
 /// The words that mean to run a script by workers are `run` and their number, 1 to 16, as one word
-/// or two.
+/// or two, and `--documents` before it or behind it where the documents are asked for.
 pub fn meaning_of_run()
-    ensures { (words : List (List ℕ)) (workers : ℕ) →
-        Means words (Run workers) ↔ AreRunWords words workers }
+    ensures { (words : List (List ℕ)) (workers : ℕ) (documents : Bool) →
+        Means words (Run workers documents) ↔ AreRunWords words workers documents }
 {}
 
 /// The words that mean to make a script are `gen`, the seed, any number below 2^64, and the number

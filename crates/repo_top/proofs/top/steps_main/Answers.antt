@@ -21,7 +21,7 @@ returns-in_default g c =
 pub returns-in-Run : goal.returns-in-Run
 returns-in-Run g c =
     let e = effect (input_of g.S.Source c.args.source.now) (input_of g.S.Source c.args.source.now) (output_of g.K.Sink c.args.sink.now) (output_of g.K.Sink c.unrun-in-Run.new.sink) c.leave_none.new.left in
-    record { ends = wordless (call false (map string_bytes c.args.words.now) e) c.unrun-in-Run.result (none_left _ c.leave_none.ensures) (no_threads _ e c.in-Some.meaning c.in-Run.workers c.in-Some.ensures c.in-Run.is) c.unrun-in-Run.ensures }
+    record { ends = wordless (call false (map string_bytes c.args.words.now) e) c.unrun-in-Run.result (none_left _ c.leave_none.ensures) (no_threads _ e c.in-Some.meaning c.in-Run.workers c.in-Run.documents c.in-Some.ensures c.in-Run.is) c.unrun-in-Run.ensures }
 
 pub returns-in_default-meaning : goal.returns-in_default-meaning
 returns-in_default-meaning g c =

@@ -1,5 +1,5 @@
-use Rattle.repo_top.proofs.Options.{steps_alone}
+use Rattle.repo_top.proofs.Options.{steps_words}
 use Rattle.repo_top.proofs.words.meaning_of_steps.Goals as goal
 
 pub returns : goal.returns
-returns c = steps_alone
+returns c = steps_words
