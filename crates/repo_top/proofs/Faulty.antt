@@ -6,7 +6,7 @@ use Rattle.jr_io.specs.Causes.{Rose}
 use Rattle.jr_script.specs.declared.script.Script.{Script}
 use Rattle.oak_world.specs.Worlds.{WorldOf}
 use Rattle.jcr_law.specs.declared.law.JcrLaw.{JcrLaw}
-use Rattle.repo_top.specs.Ends.{AsksFor, Call, IsTaken, Does, Effect, Ends, EndsWith, Faults, HasFault, HasLine, HasPrinted, HasRunAll, HasRunFor, Input, IsAsked, IsCalm, IsCause, IsDelivered, IsExpected, IsFault, IsScriptFor, IsMissing, IsPart, IsPartOf, IsReadAs, IsReadWhole, TellsAll, IsRefused, IsTextFor, IsUnread, SourceKind, Output, Prints, Spells, Tells, WritesText, call, effect, source_kind, longest, told_of}
+use Rattle.repo_top.specs.Ends.{AsksFor, Call, IsTaken, Does, Effect, Ends, EndsWith, Faults, HasFault, HasLine, HasNotFailed, HasPrinted, HasRunAll, HasRunFor, Input, IsAsked, IsCalm, IsCause, IsDelivered, IsExpected, IsFault, IsScriptFor, IsMissing, IsPart, IsPartOf, IsReadAs, IsReadWhole, TellsAll, IsRefused, IsTextFor, IsUnread, SourceKind, Output, Prints, Spells, Tells, WritesText, call, effect, source_kind, longest, told_of}
 use Rattle.repo_top.specs.Ends.SourceKind.{a_script, a_type_text}
 use Rattle.jr_gen.specs.Scripts.{script_text}
 use Rattle.jr_work.specs.Runs.{HasRun}
@@ -105,6 +105,26 @@ module _ (documents : Bool) (e : Effect) (result : Status) where
   run_does workers (Ok world) ran unread told = told_ok (Run workers documents) world ran.0 ran.1 ran.2 refl told.0.0 told.0.1
   run_does workers (Err why) ran unread told = told_err (Run workers documents) why refl unread told.1.0 told.1.1
 
+-- ---- where memory was refused the source didn't fail
+
+broken_unfailed : (kind : Option SourceKind) (before now : Input) (rule : ℕ) (pointer : List ℕ) (offset : Option ℕ) → IsMissing kind before now (unrun.Script rule pointer offset) → HasNotFailed before now
+broken_unfailed None before now rule pointer offset missing = absurd missing
+broken_unfailed (Some kind) before now rule pointer offset missing = missing.1.sound
+
+untyped_unfailed : (kind : Option SourceKind) (before now : Input) (offset : ℕ) → IsMissing kind before now (unrun.Types offset) → HasNotFailed before now
+untyped_unfailed None before now offset missing = absurd missing
+untyped_unfailed (Some kind) before now offset missing = missing.1.sound
+
+refused_unfailed : (kind : Option SourceKind) (before now : Input) → IsMissing kind before now unrun.Memory → HasNotFailed before now
+refused_unfailed None before now missing = ap (λ (i : Input). i.faults) missing
+refused_unfailed (Some kind) before now missing = missing
+
+given_unfailed : (meaning : Words) (e : Effect) (script : Script) → IsScriptFor meaning e script → HasNotFailed e.source e.source_now
+given_unfailed (Steps documents) e script given = given.1.sound
+given_unfailed Types e script given = given.1.sound
+given_unfailed (Run workers documents) e script given = given.1.sound
+given_unfailed (Gen seed sessions runs) e script given = ap (λ (i : Input). i.faults) given.0
+
 -- ---- no world is left
 
 module _ (c : Call) (none : c.does.left ≡ None) where
@@ -121,19 +141,19 @@ module _ (c : Call) (none : c.does.left ≡ None) where
       told (fault_line why) (status_of why) result (inr (why, line, cause, refl)) (λ whole. make (record { why = why; status = refl; unrun = none; cause = cause; line = whole })) tells
 
   -- memory was refused
-  refused : (result : Status) → (meaning : Words) → AsksFor c meaning → IsRefused c.does.sink c.does.sink_now result → EndsWith c result
-  refused result meaning asked tells =
-      subst (λ (r : Status). EndsWith c r) (sym tells.0) (record { asked = (meaning, asked); ran = subst (λ (o : Option (WorldOf JcrLaw)). IfSome o (HasRunAll c)) (sym none) tt; nothing = tells.1 })
+  refused : (result : Status) → (meaning : Words) → AsksFor c meaning → HasNotFailed c.does.source c.does.source_now → IsRefused c.does.sink c.does.sink_now result → EndsWith c result
+  refused result meaning asked sound tells =
+      subst (λ (r : Status). EndsWith c r) (sym tells.0) (record { asked = (meaning, asked); ran = subst (λ (o : Option (WorldOf JcrLaw)). IfSome o (HasRunAll c)) (sym none) tt; nothing = tells.1; sound = sound })
 
   unrun_ends : (why : Unrun) (result : Status) → IsCause c why → Faults c.does.sink c.does.sink_now why result → EndsWith c result
   unrun_ends unrun.Words result cause tells = lined unrun.Words result tt cause (λ f. f) tells
   unrun_ends (unrun.Script rule pointer offset) result cause (inl tells) = lined (unrun.Script rule pointer offset) result tt cause (λ f. f) tells
-  unrun_ends (unrun.Script rule pointer offset) result cause (inr tells) = refused result cause.0 cause.1 tells
+  unrun_ends (unrun.Script rule pointer offset) result cause (inr tells) = refused result cause.0 cause.1 (broken_unfailed (source_kind cause.0) c.does.source c.does.source_now rule pointer offset cause.2) tells
   unrun_ends (unrun.Types offset) result cause (inl tells) = lined (unrun.Types offset) result tt cause (λ f. f) tells
-  unrun_ends (unrun.Types offset) result cause (inr tells) = refused result cause.0 cause.1 tells
+  unrun_ends (unrun.Types offset) result cause (inr tells) = refused result cause.0 cause.1 (untyped_unfailed (source_kind cause.0) c.does.source c.does.source_now offset cause.2) tells
   unrun_ends unrun.ReadFault result cause tells = lined unrun.ReadFault result tt cause (λ f. f) tells
   unrun_ends unrun.TooLong result cause tells = lined unrun.TooLong result tt cause (λ f. f) tells
-  unrun_ends unrun.Memory result cause tells = refused result cause.0 cause.1 tells
+  unrun_ends unrun.Memory result cause tells = refused result cause.0 cause.1 (refused_unfailed (source_kind cause.0) c.does.source c.does.source_now cause.2) tells
 
 -- what is meant didn't come to be
 no_words : (kind : Option SourceKind) (before now : Input) → IsMissing kind before now unrun.Words → ⊥
@@ -157,7 +177,7 @@ module _ (c : Call) (meaning : Words) (asked : AsksFor c meaning) (script : Scri
 
   run_ends : (o : Option (WorldOf JcrLaw)) (result : Status) → c.does.left ≡ o → IfSome o (HasRunFor meaning script) → Prints (told_of meaning script) o c.does.sink c.does.sink_now result → EndsWith c result
   run_ends None result is ran prints =
-      subst (λ (r : Status). EndsWith c r) (sym prints.0) (record { asked = (meaning, asked); ran = subst (λ (o : Option (WorldOf JcrLaw)). IfSome o (HasRunAll c)) (sym is) tt; nothing = prints.1 })
+      subst (λ (r : Status). EndsWith c r) (sym prints.0) (record { asked = (meaning, asked); ran = subst (λ (o : Option (WorldOf JcrLaw)). IfSome o (HasRunAll c)) (sym is) tt; nothing = prints.1; sound = given_unfailed meaning c.does script given })
   run_ends (Some world) result is ran (inl (inl t)) =
       subst (λ (r : Status). EndsWith c r) (sym t.0) (inl (record { world = world; left = is; ran = run_all world ran; told = t.1 }))
   run_ends (Some world) result is ran (inl (inr t)) =
@@ -165,7 +185,7 @@ module _ (c : Call) (meaning : Words) (asked : AsksFor c meaning) (script : Scri
       (record { fault = t.1; part = subst (λ (o : Option (WorldOf JcrLaw)). IsPart c o) (sym is) (run_all world ran, t.2) })
   run_ends (Some world) result is ran (inr m) =
       subst (λ (r : Status). EndsWith c r) (sym m.0)
-      (record { asked = (meaning, asked); ran = subst (λ (o : Option (WorldOf JcrLaw)). IfSome o (HasRunAll c)) (sym is) (run_all world ran); nothing = m.1 })
+      (record { asked = (meaning, asked); ran = subst (λ (o : Option (WorldOf JcrLaw)). IfSome o (HasRunAll c)) (sym is) (run_all world ran); nothing = m.1; sound = given_unfailed meaning c.does script given })
 
 done_ends : (c : Call) (meaning : Words) (result : Status) → AsksFor c meaning → Does meaning c.does result → EndsWith c result
 done_ends c meaning result asked (inl u) = unrun_ends c u.none u.why result (missing_cause c meaning u.why asked u.missing) u.faults

@@ -120,12 +120,17 @@ source_kind Types = Some a_type_text
 source_kind (Run workers documents) = Some a_script
 source_kind (Gen seed sessions runs) = None
 
--- a source was read to its end, and these are all of its bytes
+-- a source didn't fail: its count of faults stands
+abbrev pub HasNotFailed : Input → Input → Type 0
+HasNotFailed before now = now.faults ≡ before.faults
+
+-- a source that didn't fail was read to its end, and these are all of its bytes
 pub record IsReadWhole (before now : Input) (bytes : List ℕ) : Type 0 where
   pub all : IfSome before.left (λ left. bytes ≡ left)
   pub end : IsDrained before.left now.left
   pub count : RoseExactly (length bytes) before.given now.given
   pub short : length bytes ≤ longest
+  pub sound : HasNotFailed before now
 
 -- a source was read to its end, and its bytes are this script
 abbrev pub IsReadAs : Input → Input → Script → Type 0
@@ -143,13 +148,13 @@ IsUntyped bytes unrun.Memory = ⊤
 IsUntyped bytes why = HasFault a_type_text bytes why
 
 -- why what is read didn't come of the source: its count of faults rose, it gave too many bytes,
--- these have a fault, or memory was refused
+-- these have a fault, or memory was refused and it didn't fail
 abbrev pub IsUnread : SourceKind → Input → Input → Unrun → Type 0
 IsUnread kind before now unrun.ReadFault = Rose before.faults now.faults
 IsUnread kind before now unrun.TooLong =
     RoseBy (longest + 1) before.given now.given
     × IfSome before.left (λ left. longest < length left)
-IsUnread kind before now unrun.Memory = ⊤
+IsUnread kind before now unrun.Memory = HasNotFailed before now
 IsUnread kind before now why =
     (bytes : List ℕ) × IsReadWhole before now bytes × HasFault kind bytes why
 
@@ -353,12 +358,13 @@ pub record IsCut (c : Call) : Type 0 where
   pub fault : Rose c.does.sink.faults c.does.sink_now.faults
   pub part : IsPart c c.does.left
 
--- memory was refused, and the sink is as it was; a world that is left is one with which a script was run to
--- its end
+-- memory was refused, the sink is as it was, and the source didn't fail; a world that is left is one
+-- with which a script was run to its end
 pub record IsStopped (c : Call) : Type 0 where
   pub asked : (meaning : Words) × AsksFor c meaning
   pub ran : IfSome c.does.left (HasRunAll c)
   pub nothing : c.does.sink_now ≡ c.does.sink
+  pub sound : HasNotFailed c.does.source c.does.source_now
 
 -- what each status says of a call
 abbrev pub EndsWith : Call → Status → Type 0
