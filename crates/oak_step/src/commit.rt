@@ -24,8 +24,9 @@ use oak_node::NodeMem;
 use oak_store::DocTable;
 use std::alloc::{AllocError, Global};
 
-// The draw of an edit with its marks, at the session's base: the paths of the marked nodes are noted with it, and the journal
-// keeps places for all that the commit appends from then on, but for its marks. Where memory is refused nothing changes.
+// The draw of an edit with its marks, at the session's base: the paths of the marked nodes are
+// noted with it, and the journal keeps places for all that the commit appends from then on, but for
+// its marks. Where memory is refused nothing changes.
 pub(crate) fn begin(
     alloc: Global,
     memory: &mut NodeMem,
@@ -105,7 +106,8 @@ fn prepared(
     }
 }
 
-// The draw of a commit of so many documents, with the paths of its marks and with places for all its events but its marks.
+// The draw of a commit of so many documents, with the paths of its marks and with places for all
+// its events but its marks.
 fn draw(
     alloc: Global,
     memory: &mut NodeMem,
@@ -145,8 +147,8 @@ fn next_update(committer: &Committer) -> Result<UpdateOp, AllocError>
     }
 }
 
-// The mark that is due: it is made, or the commit is refused since the other is committed. Where memory is refused nothing
-// changes.
+// The mark that is due: it is made, or the commit is refused since the other is committed. Where
+// memory is refused nothing changes.
 #[tactic(auto, using(crate::proofs::Acting::mark_asks, crate::proofs::Acting::mark_there))]
 pub(crate) fn mark(
     table: &mut DocTable,
@@ -235,8 +237,8 @@ fn met(committer: &Committer) -> Result<(Item, Revision), AllocError>
     }
 }
 
-// The write of the document that is next, with a place that is kept for it. Where memory is refused for the write nothing
-// changes.
+// The write of the document that is next, with a place that is kept for it. Where memory is refused
+// for the write nothing changes.
 #[tactic(auto, using(crate::proofs::Acting::write_asks))]
 pub(crate) fn write(
     table: &mut DocTable,
@@ -277,8 +279,8 @@ pub(crate) fn write(
     }
 }
 
-// The last write, with a place that is kept for it: the revision is committed, or it is refused since another has marked it.
-// Where memory is refused nothing changes.
+// The last write, with a place that is kept for it: the revision is committed, or it is refused
+// since another has marked it. Where memory is refused nothing changes.
 #[tactic(auto, using(crate::proofs::Acting::last_asks))]
 pub(crate) fn last(
     table: &mut DocTable,

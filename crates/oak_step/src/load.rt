@@ -16,7 +16,8 @@ use oak_read::{ReadOut, Reader};
 use oak_store::DocTable;
 use std::alloc::AllocError;
 
-// The reader is fed what the documents answer to what is due, and where it is done then it gives what it read.
+// The reader is fed what the documents answer to what is due, and where it is done then it gives
+// what it read.
 pub(crate) fn read(table: &DocTable, reader: Reader) -> (Work, StepOut)
     ensures { ReadsOn table.now reader result.0 result.1 }
 {
@@ -41,8 +42,8 @@ fn read_once(table: &DocTable, reader: &mut Reader) -> Result<(), AllocError>
     reader.feed(reply)
 }
 
-// The reader of changes is fed what the documents answer to what is due, and where it is done then it
-// gives what the commits changed.
+// The reader of changes is fed what the documents answer to what is due, and where it is done then
+// it gives what the commits changed.
 pub(crate) fn read_changes(table: &DocTable, reader: ChangesReader) -> (Work, StepOut)
     ensures { ReadsChangesOn table.now reader result.0 result.1 }
 {
@@ -60,7 +61,8 @@ pub(crate) fn read_changes(table: &DocTable, reader: ChangesReader) -> (Work, St
 // Feeds the reader of changes what the documents answer to what is due.
 fn read_changes_once(table: &DocTable, reader: &mut ChangesReader) -> Result<(), AllocError>
     ensures ok { OnOk result
-        (reader.new ≡ changes.fed reader.old (answer table.now.documents (changes.due reader.old))) }
+        (reader.new
+        ≡ changes.fed reader.old (answer table.now.documents (changes.due reader.old))) }
     ensures err { OnErr result (reader.new ≡ reader.old) }
 {
     let reply = answer(table, reader.next()?)?;
@@ -68,7 +70,7 @@ fn read_changes_once(table: &DocTable, reader: &mut ChangesReader) -> Result<(),
 }
 
 // What the documents answer to an ask.
-fn answer(table: &DocTable, asking: Ask) -> Result<Reply, AllocError>
+pub(crate) fn answer(table: &DocTable, asking: Ask) -> Result<Reply, AllocError>
     ensures { IfOk result (λ reply. reply ≡ answer table.now.documents asking) }
 {
     match asking {

@@ -45,7 +45,7 @@ pub(crate) fn refresh(memory: &mut NodeMem, events: &mut Events, s: u32) -> Resu
     Ok(refresh_kept(memory, events, s))
 }
 
-// The same, with a place that is kept for it. It takes no memory.
+// The base of the session moves to the head, with a place that is kept for it. It takes no memory.
 pub(crate) fn refresh_kept(memory: &mut NodeMem, events: &mut Events, s: u32) -> Pin
     requires pinned { IsSome (pin_of memory.old s) }
     requires place { 0 < events.old.places }

@@ -1,13 +1,14 @@
-// Updates of the documents, which keep them in store order.
-ghost use Rattle.std.specs.Prelude.{◌≡◌, ◌∷◌, ◌++◌, [], OnErr, OnOk};
+// What is asked of the documents; updates keep them in store order.
+ghost use Rattle.std.specs.Prelude.{◌≡◌, ◌∷◌, ◌++◌, [], IfOk, OnErr, OnOk};
 ghost use Rattle.oak_read.specs.Reading.{IsTable};
 ghost use Rattle.oak_store.specs.Tables.{Updates, after_undo};
 ghost use Rattle.core_world.specs.Steps.{after_update};
-ghost use Rattle.oak_step.specs.Parts.{HasNames};
+ghost use Rattle.oak_step.specs.Parts.{HasNames, after_ask, answered, reply_of};
 
+use crate::load::answer;
 use jr_path::DocId;
 use jr_rev::Revision;
-use oak_doc::{Document, OpFault, UpdateOp};
+use oak_doc::{Ask, Document, OpFault, Reply, UpdateOp};
 use oak_machine::{Event, Events};
 use oak_store::DocTable;
 use std::alloc::AllocError;
@@ -22,15 +23,52 @@ pub(crate) fn update(table: &mut DocTable, op: &UpdateOp) -> Result<Option<Docum
     table.update(op)
 }
 
-// An update with its event. An update that is refused for another cause than memory changes nothing,
-// and has its event too.
+// What an automaton asks of the documents is done and answered, with an event. Where memory is
+// refused nothing changes.
+pub(crate) fn ask(
+    table: &mut DocTable,
+    events: &mut Events,
+    asking: Ask,
+    told: Event,
+) -> Result<Reply, AllocError>
+    requires table { IsTable table.old.documents }
+    ensures reply { IfOk result (λ reply. reply ≡ answered table.old asking) }
+    ensures table { OnOk result (table.new ≡ after_ask table.old asking) }
+    ensures list { OnOk result (events.new.list ≡ events.old.list ++ told ∷ []) }
+    ensures kept { OnErr result (table.new ≡ table.old) }
+    ensures err { OnErr result (events.new.list ≡ events.old.list) }
+    ensures places { events.new.places ≡ events.old.places }
+    ensures order { IsTable table.new.documents }
+{
+    match asking {
+        Ask::Update(op) => {
+            let reply = change(table, events, &op, told);
+            drop(op);
+            reply
+        }
+        asking => match answer(table, asking) {
+            Ok(reply) => {
+                events.push(told)?;
+                Ok(reply)
+            }
+            Err(AllocError) => {
+                drop(told);
+                Err(AllocError)
+            }
+        },
+    }
+}
+
+// An update with its event, and what is answered to it. An update that is refused for another cause
+// than memory changes nothing, and has its event too.
 pub(crate) fn change(
     table: &mut DocTable,
     events: &mut Events,
     op: &UpdateOp,
     told: Event,
-) -> Result<(), AllocError>
+) -> Result<Reply, AllocError>
     requires table { IsTable table.old.documents }
+    ensures reply { IfOk result (λ reply. reply ≡ reply_of table.old op.now) }
     ensures table { OnOk result (table.new ≡ after_update table.old op.now) }
     ensures list { OnOk result (events.new.list ≡ events.old.list ++ told ∷ []) }
     ensures kept { OnErr result (table.new ≡ table.old) }
@@ -49,18 +87,16 @@ pub(crate) fn change(
             Err(AllocError)
         }
         Ok(before) => {
-            drop(before);
             events.push_kept(told);
-            Ok(())
+            Ok(Reply::Updated(before))
         }
         Err(OpFault::Absent) => {
             events.push_kept(told);
-            Ok(())
+            Ok(Reply::Absent)
         }
-        Err(OpFault::Unmet(_, kept)) => {
-            drop(kept);
+        Err(OpFault::Unmet(cond, kept)) => {
             events.push_kept(told);
-            Ok(())
+            Ok(Reply::Unmet(cond, kept))
         }
     }
 }
@@ -74,7 +110,7 @@ pub(crate) fn undo(table: &mut DocTable, id: &DocId, r: Revision)
     table.undo(id, r);
 }
 
-// The names of an id's path are names. It does nothing: callers learn the fact.
+// The names of an id's path are names. Nothing is done: callers learn the fact.
 fn in_grammar(id: &DocId)
     ensures { HasNames id.now }
 {
