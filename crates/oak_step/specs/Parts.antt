@@ -58,6 +58,7 @@ use Rattle.oak_sync.specs.declared.stage.Stage.TheVariants as syncing
 use Rattle.oak_store.specs.Tables.{Table, after_undo, found, next_number, with_document}
 use Rattle.core_nodes.specs.Nodes.{cursor_owner, without_session}
 use Rattle.core_world.specs.Steps.{after_update, settings_op}
+pub use Rattle.oak_acts.specs.Acts.{after_ask, answered, base_at, result_of}
 use Rattle.oak_step.specs.declared.upkeep.Upkeep.{Upkeep}
 use Rattle.oak_step.specs.declared.upkeep.Upkeep.TheVariants as upkeep
 use Rattle.oak_step.specs.Upkeeps.{set_checkpoint}
@@ -83,48 +84,13 @@ parts t m es = record { table = t; memory = m; list = es }
 
 -- ---- documents
 
--- the names of the id's path are names
-abbrev pub HasNames : DocId → Type 0
-HasNames x = All IsName (path_of x)
-
--- what an update makes of its document, under the next number
-abbrev pub result_of : Table → UpdateOp → Result Document OpFault
-result_of t op = updated (found t op.id) op (next_number t)
-
 -- the update is made
 pub record IsMade (old new : Table) (op : UpdateOp) : Type 0 where
   pub document : Document
   pub result : result_of old op ≡ Ok document
   pub table : new ≡ with_document old op.id document (next_number old)
 
--- ---- what automata ask of the documents
-
--- the answer to an update of a document that was so before, by what the update comes to
-abbrev pub replied : Option Document → Result Document OpFault → Reply
-replied before (Ok d) = reply.Updated before
-replied before (Err (fault.Unmet cause thing)) = reply.Unmet cause thing
-replied before (Err fault.Absent) = reply.Absent
-replied before (Err fault.Memory) = reply.NoMemory
-
--- what the documents answer to an update
-abbrev pub reply_of : Table → UpdateOp → Reply
-reply_of t op = replied (found t op.id) (result_of t op)
-
--- what the documents answer to an ask
-abbrev pub answered : Table → Ask → Reply
-answered t (ask.Update op) = reply_of t op
-answered t a = answer t.documents a
-
--- the documents once an ask is answered: only an update changes them
-abbrev pub after_ask : Table → Ask → Table
-after_ask t (ask.Update op) = after_update t op
-after_ask t a = t
-
 -- ---- the memory
-
--- the base of session s: that of its pin
-abbrev pub base_at : NodeState → ℕ → RevVec
-base_at m s = option_map_or (λ pin. pin.base) (pin_of m s) m.head
 
 -- the end of r, and the head of cluster node k, where that moved
 abbrev pub end_events : ℕ → NodeState → Revision → List Event

@@ -16,9 +16,9 @@ ghost use Rattle.oak_step.specs.Parts.{IsPublishing, IsReading, KeepsUp, LearnsO
 ghost use Rattle.oak_step.specs.declared.upkeep.Upkeep.TheVariants as upkeep;
 ghost use Rattle.oak_step.specs.declared.work.Work.TheVariants as work;
 
-use crate::store::ask;
 use crate::upkeep::Upkeep;
 use crate::work::Work;
+use oak_acts::ask;
 use oak_doc::{Ask, MemoryAsk, Reply};
 use oak_machine::{Event, Events, StepKind};
 use oak_node::{NodeMem, Pending};

@@ -11,11 +11,10 @@ ghost use Rattle.oak_node.specs.Notes.{with_notes};
 ghost use Rattle.oak_read.specs.Reading.{IsTable};
 ghost use Rattle.oak_step.specs.Parts.{IsDue, IsLast, IsLastFault, IsMarked, IsRefusedBy, IsUndone, IsWritten, base_at, end_events, needed_by, refusal_at};
 
-use crate::session::base_of;
-use crate::store;
 use jr_path::{DeepCopy, Item, List};
 use jr_rev::{RevVec, Revision};
 use jr_tree::Edit;
+use oak_acts::base_of;
 use oak_clash::{MarkAt, marked_paths};
 use oak_commit::Committer;
 use oak_doc::{Ask, Kept, OpFault, Reply, UpdateOp};
@@ -203,7 +202,7 @@ fn mark_by(
     ensures place { events.new.places + 1 ≡ events.old.places }
     ensures order { IsTable table.new.documents }
 {
-    match store::update(table, op) {
+    match oak_acts::update(table, op) {
         Ok(before) => {
             events.push_kept(Event::Went(s, StepKind::Mark));
             // It takes memory for what is found in a document that is written, and this is a mark.
@@ -260,7 +259,7 @@ pub(crate) fn write(
     ensures order { IsTable table.new.documents }
 {
     let op = next_update(committer)?;
-    match store::update(table, &op) {
+    match oak_acts::update(table, &op) {
         Ok(before) => {
             events.push_kept(Event::Went(s, StepKind::Write));
             // Where memory is refused for what is found in the document, the committer turns to
@@ -302,7 +301,7 @@ pub(crate) fn last(
 {
     let op = next_update(committer)?;
     let r = committer.revision();
-    match store::update(table, &op) {
+    match oak_acts::update(table, &op) {
         Ok(before) => {
             events.push_kept(Event::Commit(r));
             // It takes memory for what is found in a document that is written, and all are.
@@ -358,7 +357,7 @@ pub(crate) fn undo(table: &mut DocTable, events: &mut Events, committer: &mut Co
     ensures places { events.new.places + 1 ≡ events.old.places }
     ensures order { IsTable table.new.documents }
 {
-    store::undo(table, committer.undo_id(), committer.revision());
+    oak_acts::undo(table, committer.undo_id(), committer.revision());
     events.push_kept(Event::Went(s, StepKind::Undo));
     // Undoing takes no memory.
     let _ = committer.feed(Reply::Undone);

@@ -5,10 +5,8 @@
 mod back;
 mod commit;
 mod load;
-mod session;
 mod settings;
 mod step;
-mod store;
 mod upkeep;
 mod work;
 

@@ -1,15 +1,13 @@
 // Loads, lists and readings of what commits changed, one document at a time.
-ghost use Rattle.std.specs.Prelude.{◌≡◌, IfOk, OnErr, OnOk};
-ghost use Rattle.std.specs.Option.{option_copied};
+ghost use Rattle.std.specs.Prelude.{◌≡◌, OnErr, OnOk};
 ghost use Rattle.oak_doc.specs.declared.asks.Ask.TheVariants as ask;
 ghost use Rattle.oak_read.specs.Reading.{answer, due, fed};
 ghost use Rattle.oak_changes.specs.Reading as changes;
 ghost use Rattle.oak_step.specs.Parts.{ReadsChangesOn, ReadsOn, end_of_reading};
 
 use crate::work::Work;
-use jr_path::DeepCopy;
+use oak_acts::answer;
 use oak_changes::ChangesReader;
-use oak_doc::{Ask, Document, Reply};
 use oak_machine::StepKind;
 use oak_port::{StepOut, TaskEnd};
 use oak_read::{ReadOut, Reader};
@@ -67,37 +65,6 @@ fn read_changes_once(table: &DocTable, reader: &mut ChangesReader) -> Result<(),
 {
     let reply = answer(table, reader.next()?)?;
     reader.feed(reply)
-}
-
-// What the documents answer to an ask.
-pub(crate) fn answer(table: &DocTable, asking: Ask) -> Result<Reply, AllocError>
-    ensures { IfOk result (λ reply. reply ≡ answer table.now.documents asking) }
-{
-    match asking {
-        Ask::Find(id) => {
-            let found = copied(table.find(&id));
-            drop(id);
-            Ok(Reply::Found(found?))
-        }
-        Ask::NextAfter(id) => {
-            let found = copied(table.next_after(id.as_ref()));
-            drop(id);
-            Ok(Reply::Found(found?))
-        }
-        other => {
-            drop(other);
-            Ok(Reply::Found(None))
-        }
-    }
-}
-
-fn copied(document: Option<&Document>) -> Result<Option<Document>, AllocError>
-    ensures { IfOk result (λ copy. copy ≡ option_copied document.entry) }
-{
-    match document {
-        Some(document) => Ok(Some(document.copy()?)),
-        None => Ok(None),
-    }
 }
 
 // What a reader gives that is done.

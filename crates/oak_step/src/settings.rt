@@ -11,10 +11,10 @@ ghost use Rattle.oak_step.specs.Parts.{KeepsUp, parts};
 ghost use Rattle.oak_step.specs.Upkeeps.{set_checkpoint};
 ghost use Rattle.oak_step.specs.declared.upkeep.Upkeep.TheVariants as upkeep;
 
-use crate::store::change;
 use crate::work::Work;
 use jr_path::{DeepCopy, DocId, Text};
 use jr_rev::Pin;
+use oak_acts::change;
 use oak_doc::Reply;
 use oak_machine::{Event, Events, StepKind};
 use oak_node::NodeMem;

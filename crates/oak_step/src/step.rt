@@ -7,12 +7,12 @@ ghost use Rattle.oak_step.specs.Parts.{CanCommit, CanMove, CanStep, CommitsOn, E
 
 use crate::commit;
 use crate::load::{read, read_changes};
-use crate::session::{leave, login, refresh, refresh_kept};
 use crate::upkeep::keep_up;
 use crate::work::Work;
 use jr_path::List;
 use jr_rev::Revision;
 use jr_tree::Edit;
+use oak_acts::{leave, login, refresh, refresh_kept};
 use oak_clash::MarkAt;
 use oak_commit::{CommitEnd, Committer, Stage};
 use oak_doc::Reply;

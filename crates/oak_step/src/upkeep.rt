@@ -10,11 +10,11 @@ ghost use Rattle.oak_step.specs.Parts.{CanKeepUp, KeepsUp, parts};
 ghost use Rattle.oak_step.specs.declared.upkeep.Upkeep.TheVariants as upkeep;
 ghost use Rattle.oak_step.specs.Upkeeps.{kind_kept, kind_read};
 
-use crate::session::refresh;
 use crate::work::Work;
 use crate::{back, settings};
 use jr_path::Text;
 use jr_rev::Pin;
+use oak_acts::refresh;
 use oak_machine::{Event, Events, StepKind};
 use oak_node::{NodeMem, Pending};
 use oak_port::{StepOut, TaskEnd};

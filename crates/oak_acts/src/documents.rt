@@ -3,9 +3,9 @@ ghost use Rattle.std.specs.Prelude.{◌≡◌, ◌∷◌, ◌++◌, [], IfOk, On
 ghost use Rattle.oak_read.specs.Reading.{IsTable};
 ghost use Rattle.oak_store.specs.Tables.{Updates, after_undo};
 ghost use Rattle.core_world.specs.Steps.{after_update};
-ghost use Rattle.oak_step.specs.Parts.{HasNames, after_ask, answered, reply_of};
+ghost use Rattle.oak_acts.specs.Acts.{HasNames, after_ask, answered, reply_of};
 
-use crate::load::answer;
+use crate::answers::answer;
 use jr_path::DocId;
 use jr_rev::Revision;
 use oak_doc::{Ask, Document, OpFault, Reply, UpdateOp};
@@ -13,8 +13,8 @@ use oak_machine::{Event, Events};
 use oak_store::DocTable;
 use std::alloc::AllocError;
 
-// One update of one document. Answers the document before; a refusal changes nothing.
-pub(crate) fn update(table: &mut DocTable, op: &UpdateOp) -> Result<Option<Document>, OpFault>
+/// One update of one document. Answers the document before; a refusal changes nothing.
+pub fn update(table: &mut DocTable, op: &UpdateOp) -> Result<Option<Document>, OpFault>
     requires { IsTable table.old.documents }
     ensures made { Updates table.old table.new op.now result }
     ensures order { IsTable table.new.documents }
@@ -23,9 +23,9 @@ pub(crate) fn update(table: &mut DocTable, op: &UpdateOp) -> Result<Option<Docum
     table.update(op)
 }
 
-// What an automaton asks of the documents is done and answered, with an event. Where memory is
-// refused nothing changes.
-pub(crate) fn ask(
+/// What an automaton asks of the documents is done and answered, with an event. Where memory is
+/// refused nothing changes.
+pub fn ask(
     table: &mut DocTable,
     events: &mut Events,
     asking: Ask,
@@ -59,9 +59,9 @@ pub(crate) fn ask(
     }
 }
 
-// An update with its event, and what is answered to it. An update that is refused for another cause
-// than memory changes nothing, and has its event too.
-pub(crate) fn change(
+/// An update with its event, and what is answered to it. An update that is refused for another cause
+/// than memory changes nothing, and has its event too.
+pub fn change(
     table: &mut DocTable,
     events: &mut Events,
     op: &UpdateOp,
@@ -101,8 +101,8 @@ pub(crate) fn change(
     }
 }
 
-// Drops the entries of a revision from a document.
-pub(crate) fn undo(table: &mut DocTable, id: &DocId, r: Revision)
+/// Drops the entries of a revision from a document.
+pub fn undo(table: &mut DocTable, id: &DocId, r: Revision)
     requires { IsTable table.old.documents }
     ensures undone { table.new ≡ after_undo table.old id.now r }
     ensures order { IsTable table.new.documents }
