@@ -1,30 +1,25 @@
 -- Each run keeps what documents have to be read by.
-use Rattle.std.proofs.Common.{◌≡◌, ℕ, Bool, true, false, cond, not, ◌&&◌, Some, None, Option, List, [], ◌∷◌, refl, sym, ap, ◌∙◌, subst, is_some}
-use Rattle.std.specs.Ordering.{eq_by_cmp}
+use Rattle.std.proofs.Common.{◌≡◌, ℕ, Bool, true, not, ◌&&◌, Some, None, Option, List, [], ◌∷◌, refl, sym, subst, is_some}
 use mathlib.Core.Bool.{false≢true}
 use Rattle.jr_rev.specs.declared.revision.Revision.{Revision}
 use Rattle.jr_rev.specs.declared.vector.RevVec.{RevVec}
-use Rattle.jr_rev.specs.Revisions.{revision_cmp}
 use Rattle.jr_rev.specs.Vectors.{sees}
-use Rattle.jr_tree.specs.declared.edit.Write.{Write}
 use Rattle.jr_tree.specs.Edits.{IsProper}
 use Rattle.jr_tree.specs.Trees.{Nodes}
-use Rattle.oak_doc.specs.Updates.{of_revision}
 use Rattle.oak_machine.specs.declared.event.Draw.{Draw}
 use Rattle.oak_machine.specs.declared.event.Event.TheVariants as event
 use Rattle.oak_machine.specs.declared.event.Start.{Start}
 use Rattle.oak_machine.specs.History.{Begin, History, Past, begin_at}
-use Rattle.oak_machine.specs.Commits.{committed_edits, draw_of, is_in_base, tree_at}
+use Rattle.oak_machine.specs.Commits.{draw_of, tree_at}
 use Rattle.oak_machine.specs.Laws.{Starts, Says, StartsProper}
 use Rattle.oak_machine.specs.Runs.{AreNodes, IsRunOf, MayCommit}
-use Rattle.core_read.specs.Holds.{start_writes, the_start}
 use Rattle.core_read.specs.Told.{IsInUse}
 use Rattle.core_read.proofs.Marks.{covers_writes}
 use Rattle.core_heads.specs.Sound.{IsInHand, IsNodesRun}
 use Rattle.core_heads.specs.Sound.IsInHand.{base, checkpoint, head}
 use Rattle.core_heads.proofs.Runs.{fresh_run, held_in_use}
 use Rattle.core_heads.proofs.Stays.{hand_held}
-use Rattle.core_begun.specs.Told.{edit_since, start_in, IsInUseSince, IsToldSince}
+use Rattle.core_begun.specs.Told.{start_in, IsInUseSince, IsToldSince}
 use Rattle.core_begun.proofs.Bases.{all_see, head_sees}
 use Rattle.core_begun.proofs.Told.{told_calm, told_commit, told_draw, told_start}
 
@@ -36,13 +31,9 @@ drawn_at (Some d) ended h = (d, refl)
 pub in_use_since : (start : Start) (past : Past) (v : RevVec) → IsInUse past v → ((o : Revision) → sees start.at o ≡ true → sees v o ≡ true) → IsInUseSince start past v
 in_use_since start past v used all = record {
   settled = used.settled;
-  closed = λ o us e. by o us e (eq_by_cmp revision_cmp o the_start) refl;
+  closed = λ o us e. used.closed o;
   begun = all;
 }
-  where
-    by : (o : Revision) (us : List Write) → edit_since past o ≡ Some us → (c : Bool) → eq_by_cmp revision_cmp o the_start ≡ c → sees v o ≡ true → (q : Revision) → is_in_base past o q ≡ true → sees v q ≡ true
-    by o us e true h = used.closed o start_writes (ap (λ (c : Bool). cond c (Some start_writes) (of_revision (committed_edits past) o)) h)
-    by o us e false h = used.closed o us (ap (λ (c : Bool). cond c (Some start_writes) (of_revision (committed_edits past) o)) h ∙ e)
 
 -- the tree that a vector sees is that from the start of the history
 pub tree_in : (clusters : ℕ) (begin : Begin) (past : Past) (v : RevVec) → tree_at (Some (start_in clusters begin)) past v ≡ tree_at begin past v

@@ -31,7 +31,7 @@ use Rattle.core_read.specs.Holds.{has_revision, root_entry, the_start}
 use Rattle.core_read.specs.Start.{start_document, start_documents, system, versions}
 use Rattle.core_read.specs.Told.{IsIn}
 use Rattle.core_read.proofs.Latest.{same_revision}
-use Rattle.core_read.proofs.Start.{holds_start}
+use Rattle.core_read.proofs.Start.{start_whole}
 use Rattle.core_keep.specs.From.{IsFirst}
 use Rattle.core_keep.specs.Standing.{all_at, gone_in, shows_node, shows_value, values_in}
 use Rattle.core_begun.specs.Told.{start_in}
@@ -141,7 +141,7 @@ module _ (s : RevVec) (seen : sees s the_start ≡ true) (v : RevVec) where
   rootless p r false false false = refl
 
   unlisted : (p : Path) (d : Document) → start_documents v (id.Node p) ≡ Some d → (e : PrevEntry) → IsIn e d.prev → ⊥
-  unlisted p d here e i = subst (λ (es : List PrevEntry). IsIn e es) ((holds_start v).whole p d here) i
+  unlisted p d here e i = subst (λ (es : List PrevEntry). IsIn e es) (start_whole v p d here).0 i
 
   pub first_shown : ShowsStart (record { tree = initial_tree; at = s }) (start_documents v)
   first_shown = record {
@@ -152,7 +152,7 @@ module _ (s : RevVec) (seen : sees s the_start ≡ true) (v : RevVec) where
     of_prop = λ p n r h. no_prop p n r (other r h) (eq_by_cmp path_cmp p versions) (eq_by_cmp path_cmp p system) (eq_by_cmp path_cmp p []);
     unsaid = λ p r h. no_status p r (eq_by_cmp path_cmp p versions) (eq_by_cmp path_cmp p system) (eq_by_cmp path_cmp p []);
     no_root = λ p r h. rootless p r (eq_by_cmp path_cmp p versions) (eq_by_cmp path_cmp p system) (eq_by_cmp path_cmp p []);
-    named = (holds_start v).named;
+    named = λ p d here. (start_whole v p d here).1;
     previous = λ p d here e i. absurd (unlisted p d here e i);
     numbers = λ p d here e i. absurd (unlisted p d here e i);
   }

@@ -1,4 +1,4 @@
--- In each run the heads are good, a draw is fresh, and so the past can be read.
+-- In each run the heads are good, a draw is fresh, and what is held is in use.
 use Rattle.std.proofs.Common.{◌≡◌, ℕ, zero, suc, ◌-◌, ◌≤◌, Bool, true, false, cond, not, inl, Some, None, Option, List, [], ◌∷◌, ◌++◌, drop, refl, sym, ap, subst, ◌∙◌, arith, is_some}
 use Rattle.std.specs.Prelude.{◌==◌, slice_get}
 use mathlib.Core.Bool.{false≢true}
@@ -15,10 +15,9 @@ use Rattle.oak_machine.specs.History.{Begin, IsBegun, Past}
 use Rattle.oak_machine.specs.Commits.{draw_of, is_drawn, is_ended, is_in_base, IsSettled, IsClosed}
 use Rattle.oak_machine.specs.Heads.{local, last_in, head_of, last_draw_time, published}
 use Rattle.oak_machine.specs.Sessions.{base_of, is_attached, last_checkpoint, kept_checkpoint, is_text, is_recovered}
-use Rattle.oak_machine.specs.Laws.{Starts, Says, StartsProper}
+use Rattle.oak_machine.specs.Laws.{Starts, Says}
 use Rattle.oak_machine.specs.Runs.{MayFollow, MayDraw, IsRunOf, learned, IsNode, AreNodes}
-use Rattle.core_read.specs.Told.{IsTold, IsInUse, IsFreshDraw}
-use Rattle.core_read.proofs.Machine.{told_run}
+use Rattle.core_read.specs.Told.{IsInUse, IsFreshDraw}
 use Rattle.core_read.proofs.Vectors.{time_before}
 use Rattle.core_read.proofs.Latest.{same_revision}
 use Rattle.core_heads.specs.Sound.{IsAhead, IsGood, Public, IsSoundDraw, IsSoundIn, IsHeld, IsSound}
@@ -45,7 +44,7 @@ some_is x y h = ap (λ o. Rattle.std.specs.Option.unwrap_or o x) h
 pub held_in_use : (begin : Begin) (past : Past) (v : RevVec) → IsHeld begin past v → IsInUse past v
 held_in_use begin past v h = record {
   settled = λ o f. unseen o (sees v o) refl (inl f);
-  closed = λ o us e s x b. close o x s (draw_of past o) refl b;
+  closed = λ o s x b. close o x s (draw_of past o) refl b;
   begun = h.begun;
 }
   where
@@ -271,7 +270,7 @@ module _ (clusters : ℕ) (sessions : List ℕ) (nodes : AreNodes clusters sessi
           draws o e true t h = subst (λ (r : Revision). IsSoundDraw clusters begin (event.Draw d ∷ past) r e) (sym (same_revision o d.revision t)) (subst (λ (f : Draw). IsSoundDraw clusters begin (event.Draw d ∷ past) d.revision f) (some_is d e h) draw_new)
           draws o e false t h = draw_kept clusters begin past (event.Draw d ∷ past) draw_later o e (sound.draws o e h)
 
-      -- what the reading theorem asks of a draw
+      -- what reading asks of a draw
       pub fresh_draw : IsFreshDraw past d
       fresh_draw = record {
         fresh = unfound (draw_of past d.revision) refl;
@@ -357,8 +356,3 @@ module _ (clusters : ℕ) (sessions : List ℕ) (nodes : AreNodes clusters sessi
       where
         mine : sees m o ≡ true → ⊥
         mine h = (head_run past run.1 k is_node).good.behind o a (below_seen m (head_of clusters begin past k) o (run.0.heads k is_node.0 is_node.1 kept) h)
-
-module _ (clusters : ℕ) (sessions : List ℕ) (nodes : AreNodes clusters sessions) (starts : Starts) (says : Says) where
-  -- the past of a run from before any commit, by a law that starts proper edits, can be read
-  pub told_past : StartsProper starts → (past : Past) → IsRunOf starts says clusters sessions None past → IsTold past
-  told_past proper past run = told_run starts says clusters sessions proper (fresh_run clusters sessions nodes None starts says) past run

@@ -10,14 +10,10 @@ pub mod Moved
 pub mod Courses
 pub mod Marks
 pub mod Journal
-pub mod World
-pub mod Events
-pub mod Start
 pub mod Garbage
 pub mod Holding
 pub mod Readers
 pub mod Going
-pub mod Collecting
 pub mod Splits
 pub mod Rows
 pub mod Unseen

@@ -81,14 +81,6 @@ only g h same (Some x) (Some y) l m =
     let one : l.0 ≡ m.0 = at_most_both l.0 m.0 (m.2 l.0 (ap is_some (sym (same l.0) ∙ l.1))) (l.2 m.0 (ap is_some (same m.0 ∙ m.1))) in
     sym l.1 ∙ (same l.0 ∙ (ap h one ∙ m.1))
 
-map_some : {X Y : Type 0} (f : X → Y) (o : Option X) → is_some (option_map f o) ≡ true → is_some o ≡ true
-map_some f None h = h
-map_some f (Some x) h = refl
-
-pub last-map : {X Y : Type 0} (f : X → Y) (g : Revision → Option X) (o : Option X) → IsLast g o → IsLast (λ r. option_map f (g r)) (option_map f o)
-last-map f g None l = λ r. ap (option_map f) (l r)
-last-map f g (Some x) l = (l.0, ap (option_map f) l.1, λ q h. l.2 q (map_some f (g q) h))
-
 pub last_moved : {X : Type 0} (g h : Revision → Option X) → ((r : Revision) → h r ≡ g r) → (o : Option X) → IsLast g o → IsLast h o
 last_moved g h same None l = λ r. same r ∙ l r
 last_moved g h same (Some x) l = (l.0, same l.0 ∙ l.1, λ q k. l.2 q (ap is_some (sym (same q)) ∙ k))
@@ -112,15 +104,6 @@ only_entry g h same (Some x) (Some y) l m =
     let one : x.0 ≡ y.0 = at_most_both x.0 y.0 (m.1 x.0 (ap is_some (sym (same x.0) ∙ l.0))) (l.1 y.0 (ap is_some (same y.0 ∙ m.0))) in
     let value : x.1 ≡ y.1 = ap (λ o. unwrap_or o x.1) (sym l.0 ∙ (same x.0 ∙ (ap h one ∙ m.0))) in
     λ i. Some (one i, value i)
-
-pub last_entry-map : {X Y : Type 0} (f : X → Y) (g : Revision → Option X) (o : Option (Revision × X)) → IsLastEntry g o → IsLastEntry (λ r. option_map f (g r)) (option_map (λ (e : Revision × X). (e.0, f e.1)) o)
-last_entry-map f g None l = λ r. ap (option_map f) (l r)
-last_entry-map f g (Some x) l = (ap (option_map f) l.0, λ q h. l.1 q (map_some f (g q) h))
-
--- the revision of an entry, whatever is made of its value
-pub revision_map : {X Y : Type 0} (f : X → Y) (o : Option (Revision × X)) → option_map (λ (e : Revision × X). e.0) o ≡ option_map (λ (e : Revision × Y). e.0) (option_map (λ (e : Revision × X). (e.0, f e.1)) o)
-revision_map f None = refl
-revision_map f (Some e) = refl
 
 -- equal functions have the same last entry
 pub moved : {X : Type 0} (g h : Revision → Option X) → ((r : Revision) → h r ≡ g r) → (o : Option (Revision × X)) → IsLastEntry g o → IsLastEntry h o
@@ -176,10 +159,6 @@ module _ {X : Type 0} (test : Revision → Bool) where
         | true ↦ λ h. later_entry e es h _ rest
         | false ↦ λ h. moved (passing es) (passing (e ∷ es)) (hidden e es h) _ rest
       ]) refl
-
-  -- what counts among the entries of one document
-  pub latest_last : (es : List (Revision × X)) → IsLast (passing es) (option_map (λ e. e.1) (latest (filter (λ e. test e.0) es ++ [])))
-  latest_last es = entry_value (passing es) _ (latest_entry es)
 
 -- ---- over commits
 

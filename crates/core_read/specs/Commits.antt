@@ -1,5 +1,5 @@
 -- Commits in descending order: the tree that a reader sees, and what it sees at an item.
-use Rattle.std.specs.Prelude.{◌≡◌, Bool, cond, List, [], ◌∷◌, Option, None, Some, is_some, IsTrue, IsFalse}
+use Rattle.std.specs.Prelude.{◌≡◌, Bool, cond, List, [], ◌∷◌, Option, None, Some, is_some, IsTrue}
 use Rattle.std.specs.Option.{option_map, option_or}
 use Rattle.jr_path.specs.declared.name.Name.{Name}
 use Rattle.jr_path.specs.declared.path.Path.{Path}
@@ -7,7 +7,7 @@ use Rattle.jr_rev.specs.declared.revision.Revision.{Revision}
 use Rattle.jr_rev.specs.Revisions.{is_before}
 use Rattle.jr_tree.specs.declared.edit.Write.{Write}
 use Rattle.jr_tree.specs.Trees.{Nodes}
-use Rattle.jr_tree.specs.Edits.{applied, IsProper}
+use Rattle.jr_tree.specs.Edits.{applied}
 use Rattle.jr_tree.specs.Items.{here_of, put_of, written}
 
 -- edits by revision, the greatest revision first
@@ -18,7 +18,8 @@ Commits = List (Revision × List Write)
 abbrev pub Sight : Type 0
 Sight = Revision → Bool
 
--- the tree that is seen: the edits that are seen, applied to nothing in ascending order, each with its revision
+-- the tree that is seen: the edits that are seen, applied to nothing in ascending order, each with
+-- its revision
 abbrev pub tree_of : Sight → Commits → Nodes
 tree_of s [] = []
 tree_of s (e ∷ es) = cond (s e.0) (applied (Some e.0) (tree_of s es) e.1) (tree_of s es)
@@ -31,7 +32,8 @@ last f s (e ∷ es) = option_or (cond (s e.0) (written f e.1) None) (last f s es
 -- what the last write of an item writes, over the edits that are seen, with that edit's revision
 abbrev pub last_entry : {X : Type 0} → (Write → Option X) → Sight → Commits → Option (Revision × X)
 last_entry f s [] = None
-last_entry f s (e ∷ es) = option_or (option_map (λ x. (e.0, x)) (cond (s e.0) (written f e.1) None)) (last_entry f s es)
+last_entry f s (e ∷ es) = option_or (option_map (λ x. (e.0, x)) (cond (s e.0) (written f e.1) None))
+    (last_entry f s es)
 
 -- the revision of the last edit that writes the node at p
 abbrev pub last_by : Path → Sight → Commits → Option Revision
@@ -45,23 +47,16 @@ Each P (x ∷ xs) = P x × Each P xs
 -- with a revision that is seen, all that its base sees is seen
 abbrev pub Closed : (Revision → Sight) → Sight → Commits → Type 0
 Closed base s [] = Unit {0}
-Closed base s (e ∷ es) = (IsTrue (s e.0) → Each (λ o. IsTrue (base e.0 o.0) → IsTrue (s o.0)) es) × Closed base s es
+Closed base s (e ∷ es) = (IsTrue (s e.0) → Each (λ o. IsTrue (base e.0 o.0) → IsTrue (s o.0)) es)
+    × Closed base s es
 
--- where one edit writes a node the other writes no property of it, and where one writes a property the other doesn't write its node
+-- where one edit writes a node the other writes no property of it, and where one writes a property
+-- the other doesn't write its node
 pub record Apart (ws os : List Write) : Type 0 where
-  pub below : (p : Path) (n : Name) → IsTrue (is_some (written (here_of p) ws)) → written (put_of p n) os ≡ None
-  pub prop : (p : Path) (n : Name) → IsTrue (is_some (written (put_of p n) ws)) → written (here_of p) os ≡ None
-
--- an edit is proper on the tree of its base, which is closed, and it is apart from each earlier one that its base doesn't see
-pub record IsSound (base : Revision → Sight) (e : Revision × List Write) (es : Commits) : Type 0 where
-  pub proper : IsProper (tree_of (base e.0) es) e.1
-  pub closed : Closed base (base e.0) es
-  pub apart : Each (λ o. IsFalse (base e.0 o.0) → Apart e.1 o.1) es
-
--- each edit is sound over the earlier ones
-abbrev pub AreSound : (Revision → Sight) → Commits → Type 0
-AreSound base [] = Unit {0}
-AreSound base (e ∷ es) = IsSound base e es × AreSound base es
+  pub below : (p : Path) (n : Name) → IsTrue (is_some (written (here_of p) ws))
+      → written (put_of p n) os ≡ None
+  pub prop : (p : Path) (n : Name) → IsTrue (is_some (written (put_of p n) ws))
+      → written (here_of p) os ≡ None
 
 -- the revisions fall
 abbrev pub Fall : Commits → Type 0

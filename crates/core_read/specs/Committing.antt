@@ -43,17 +43,20 @@ is_marking (change.SweepRev q) = true
 is_marking _ = false
 
 -- the update by which a committer writes the document of the node at p
-pub record IsWriteOp (op : UpdateOp) (r : Revision) (ws : List Write) (root p : Path) (marks : List Change) : Type 0 where
+pub record IsWriteOp (op : UpdateOp) (r : Revision) (ws : List Write) (root p : Path)
+    (marks : List Change) : Type 0 where
   pub at : op.id ≡ id.Node p
   pub changes : op.changes ≡ entries_at r p ws ++ (rooting r p root ++ marks)
   pub marking : IsTrue (list_all is_marking marks)
   pub below : take (length root) p ≡ root
 
 -- all that the edit writes at p stands there, with the commit root
-pub record IsWrittenAt (o : Option Document) (r : Revision) (ws : List Write) (root p : Path) : Type 0 where
+pub record IsWrittenAt (o : Option Document) (r : Revision) (ws : List Write)
+    (root p : Path) : Type 0 where
   pub node : here_entry o r ≡ written (here_of p) ws
   pub prop : (n : Name) → prop_entry o n r ≡ written (put_of p n) ws
-  pub rooted : IsTrue (list_any (is_at_path p) ws) → option_map (λ d. commit_root_of d r) o ≡ Some (id.Node root)
+  pub rooted : IsTrue (list_any (is_at_path p) ws)
+      → option_map (λ d. commit_root_of d r) o ≡ Some (id.Node root)
 
 -- nothing of r stands there
 pub record IsUnwritten (o : Option Document) (r : Revision) : Type 0 where
@@ -62,6 +65,7 @@ pub record IsUnwritten (o : Option Document) (r : Revision) : Type 0 where
   pub root : root_entry o r ≡ None
 
 -- of an edit, just the paths that pass have been written
-pub record IsPartly (ds : Documents) (r : Revision) (ws : List Write) (root : Path) (done : Path → Bool) : Type 0 where
+pub record IsPartly (ds : Documents) (r : Revision) (ws : List Write) (root : Path)
+    (done : Path → Bool) : Type 0 where
   pub written_ : (p : Path) → IsTrue (done p) → IsWrittenAt (ds (id.Node p)) r ws root p
   pub left : (p : Path) → IsFalse (done p) → IsUnwritten (ds (id.Node p)) r

@@ -22,7 +22,7 @@ use Rattle.oak_read.specs.Meaning.{Documents, documents_in, latest}
 use Rattle.oak_store.specs.Tables.{by_id}
 use Rattle.core_read.specs.Holds.{has_revision, root_entry}
 use Rattle.core_read.specs.Start.{start_document as core_document, start_documents as core_documents, system, versions}
-use Rattle.core_read.proofs.Start.{holds_start}
+use Rattle.core_read.proofs.Start.{start_whole}
 use Rattle.oak_doc.specs.Updates.{of_revision}
 use Rattle.core_clash.proofs.Basics.{same_path, same_revision}
 use Rattle.core_clash.specs.Steps.{IsStart}
@@ -153,7 +153,7 @@ module _ (c n : ℕ) where
   lists_none p d h = (alike p).whole d h
 
   core_lists_none : (p : Path) (d : Document) → core_documents (start c) (id.Node p) ≡ Some d → d.prev ≡ []
-  core_lists_none p d h = (holds_start (start c)).whole p d h
+  core_lists_none p d h = (start_whole (start c) p d h).0
 
   same_gone : (p : Path) → gone_in (all_at (mine c n) p) ≡ gone_in (all_at (core_documents (start c)) p)
   same_gone p = ap gone_in (all_alone (mine c n) p (lists_none p)) ∙ ((alike p).gone ∙ sym (ap gone_in (all_alone (core_documents (start c)) p (core_lists_none p))))

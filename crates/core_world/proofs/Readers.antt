@@ -21,7 +21,6 @@ use Rattle.core_heads.specs.Sound.{IsHeld}
 use Rattle.core_heads.proofs.Later.{held_kept}
 use Rattle.core_heads.proofs.Runs.{later_run, sound_run}
 use Rattle.core_read.specs.World.{Progress}
-use Rattle.core_read.specs.Holds.{IsSwept}
 use Rattle.core_nodes.specs.Nodes.{IsPair}
 use Rattle.jr_rev.specs.declared.vector.Pin.{Pin}
 use Rattle.jr_rev.specs.Vectors.{sees}

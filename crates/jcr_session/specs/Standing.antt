@@ -1,9 +1,11 @@
 -- Where a session stands between its turns, and what a turn makes of that.
 use Rattle.std.specs.Prelude.{◌≡◌, ◌⊎◌, ◌≤◌, ◌+◌, ℕ, Bool, true, false, cond, ◌&&◌, ◌||◌, not, ⊤}
-use Rattle.std.specs.Prelude.{List, [], ◌∷◌, length, slice_get, reverse, Option, None, Some}
+use Rattle.std.specs.Prelude.{List, [], ◌∷◌, length, max, slice_get, reverse, Option, None, Some}
 use Rattle.std.specs.Prelude.{is_none, is_some, option_map, IfSome, IsTrue, IsFalse, string_bytes}
 use Rattle.std.specs.List.{list_any}
 use Rattle.std.specs.Option.{option_map_or}
+use Rattle.std.specs.declared.alloc.Global.{Global}
+use Rattle.std.specs.declared.string.String.{String}
 use Rattle.jr_path.specs.Lists.{Text}
 use Rattle.jr_rev.specs.declared.revision.Revision.{Revision}
 use Rattle.jr_rev.specs.declared.vector.RevVec.{RevVec}
@@ -341,6 +343,12 @@ HasCommitted law p c commit.Memory =
 pub record IsPlace (room : Option ℕ) (accepted : Accepted) : Type 0 where
   pub told : HasRoom room COMMIT_REPLY_BYTES
   pub text : IfSome accepted.text (λ text. HasRoom room (length (string_bytes text)))
+
+-- the bytes of the place of the reply to a commit, of which this text is kept or none: just what the
+-- longer needs of that and of a revision's
+abbrev pub commit_bytes : Option (String Global) → ℕ
+commit_bytes (Some text) = max (length (string_bytes text)) COMMIT_REPLY_BYTES
+commit_bytes None = COMMIT_REPLY_BYTES
 
 -- what the session drew for its next command has this edit, on the base that is held
 abbrev pub HasDrawnFor : Shown → SessionRun → Edit → Type 0

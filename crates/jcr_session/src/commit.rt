@@ -5,7 +5,7 @@ ghost use Rattle.jcr_steps.specs.Answered.{IsCommitAnswer, kind_of_end};
 ghost use Rattle.jcr_session.specs.Phases.{ended_phase, phase_by, turn_by};
 ghost use Rattle.jcr_session.specs.Asked.{ComesNext, MayDrawFor};
 ghost use Rattle.jcr_session.specs.Nearing.{DrawsNoOther, StaysBehindStep, StepsOn, WorksSooner, turns_left};
-ghost use Rattle.jcr_session.specs.Standing.{HasCounted, IsGranted, IsPlace, IsPrepared, Stands, due_for, is_committing};
+ghost use Rattle.jcr_session.specs.Standing.{HasCounted, IsGranted, IsPlace, IsPrepared, Stands, commit_bytes, due_for, is_committing};
 ghost use Rattle.jcr_steps.specs.declared.limits.TheConstants.{COMMIT_REPLY_BYTES};
 ghost use Rattle.jcr_session.specs.declared.next.Due.TheVariants as due;
 ghost use Rattle.jcr_session.specs.declared.run.Phase.TheVariants as phase;
@@ -181,10 +181,12 @@ impl SessionRun {
     }
 }
 
-// The bytes of the place that is kept for the reply to a commit.
+// The bytes of the place that is kept for the reply to a commit: just what the longer needs of the
+// text that is kept, where there is one, and of a revision's.
 fn place_for(accepted: &Accepted) -> usize
     ensures told { COMMIT_REPLY_BYTES ≤ result }
     ensures place { IsPlace (Some result) accepted.now }
+    ensures bytes { result ≡ commit_bytes accepted.now.text }
 {
     match &accepted.text {
         Some(text) => text.len().max(COMMIT_REPLY_BYTES),

@@ -2,7 +2,7 @@
 // head, to a checkpoint, or from that to the head.
 ghost use Rattle.std.specs.Prelude.{◌≡◌, IfOk, IsTrue, Some, string_bytes};
 ghost use Rattle.oak_port.specs.Ports.{HasRoom};
-ghost use Rattle.jcr_steps.specs.Kept.{HasPlace};
+ghost use Rattle.jcr_steps.specs.Kept.{HasPlace, place_bytes};
 ghost use Rattle.jcr_steps.specs.declared.limits.TheConstants.{VECTOR_REPLY_BYTES};
 ghost use Rattle.jcr_session.specs.Asked.{IsTargetNext, IsTargetOf, MayStayHalf};
 ghost use Rattle.jcr_session.specs.Nearing.{IsReply, StepsOn, turns_left};
@@ -276,9 +276,11 @@ fn target_of(alloc: Global, id: &Text) -> Result<Target, AllocError>
     })
 }
 
-// The bytes of the place that is kept for the reply to an attach.
+// The bytes of the place that is kept for the reply to an attach: just what the longer needs of the
+// text that is kept and of a vector.
 fn room_for(target: &Target) -> usize
-    ensures { HasPlace (Some result) (string_bytes target.now.missing) }
+    ensures place { HasPlace (Some result) (string_bytes target.now.missing) }
+    ensures bytes { result ≡ place_bytes (string_bytes target.now.missing) }
 {
     target.missing.len().max(VECTOR_REPLY_BYTES)
 }

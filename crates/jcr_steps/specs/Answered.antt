@@ -25,7 +25,7 @@ use Rattle.jcr_steps.specs.declared.answers.Loaded.TheVariants as loaded
 
 -- ---- a login, a refresh or the end of a detach
 
--- such a task ends with a pin, or memory is refused
+-- a login, a refresh or a detach ends with a pin, or memory is refused
 abbrev pub IsPinAnswer : StepOut → Type 0
 IsPinAnswer (out.Ready (end.Pinned pin)) = ⊤
 IsPinAnswer out.Memory = ⊤

@@ -1,5 +1,5 @@
 -- What is kept of a task for its reply, and what the reply is once the task has ended.
-use Rattle.std.specs.Prelude.{◌≡◌, ℕ, [], length, string_bytes, Option, ⊤}
+use Rattle.std.specs.Prelude.{◌≡◌, ℕ, [], length, max, string_bytes, Option, ⊤}
 use Rattle.jr_path.specs.Lists.{Text}
 use Rattle.oak_port.specs.Ports.{HasRoom}
 use Rattle.jcr_trans.specs.Answers.{Done, ShowsRevision, ShowsVector}
@@ -34,6 +34,10 @@ reply_of (told.Text reply) = string_bytes reply
 pub record HasPlace (room : Option ℕ) (text : Text) : Type 0 where
   pub told : HasRoom room VECTOR_REPLY_BYTES
   pub text_is : HasRoom room (length text)
+
+-- the bytes of a reply's place: just what the longer needs of the text that is kept and of a vector
+abbrev pub place_bytes : Text → ℕ
+place_bytes text = max (length text) VECTOR_REPLY_BYTES
 
 -- a vector that is told has eight entries
 abbrev pub IsEight : Told → Type 0

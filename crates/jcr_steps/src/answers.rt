@@ -1,6 +1,9 @@
 // What a session makes of the answer of a step.
 ghost use Rattle.std.specs.Prelude.{◌≡◌};
-ghost use Rattle.jcr_steps.specs.Answered.{IsAttachAnswer, IsChangesAnswer, IsFirstAnswer, IsLeaveAnswer, IsListAnswer, IsLoadAnswer, IsPinAnswer, attached_by, changed_by, ended_by, has_went, kind_of_end, listed_by, loaded_by, pinned_by};
+ghost use Rattle.jcr_steps.specs.Answered.{IsAttachAnswer, IsChangesAnswer, IsFirstAnswer};
+ghost use Rattle.jcr_steps.specs.Answered.{IsLeaveAnswer, IsListAnswer, IsLoadAnswer, IsPinAnswer};
+ghost use Rattle.jcr_steps.specs.Answered.{attached_by, changed_by, ended_by, has_went};
+ghost use Rattle.jcr_steps.specs.Answered.{kind_of_end, listed_by, loaded_by, pinned_by};
 
 use jr_path::{List, Name};
 use jr_rev::{Pin, Revision};

@@ -1,8 +1,8 @@
-// What is kept of a task of the cluster node, of the settings or of the cursor for its reply, and how
-// it ends.
+// What is kept of a task of the cluster node, of the settings or of the cursor for its reply, and
+// how it ends.
 ghost use Rattle.std.specs.Prelude.{◌≡◌, Some};
 ghost use Rattle.jcr_steps.specs.Answered.{IsErrandAnswer, MayEnd, came_by, kind_told, told_by};
-ghost use Rattle.jcr_steps.specs.Kept.{HasPlace, kept_for};
+ghost use Rattle.jcr_steps.specs.Kept.{HasPlace, kept_for, place_bytes};
 ghost use Rattle.jcr_steps.specs.declared.errand.Came.TheVariants as came;
 
 use crate::limits::VECTOR_REPLY_BYTES;
@@ -32,7 +32,7 @@ pub enum Errand {
 /// How such a task has ended.
 #[derive(Drop)]
 pub enum Told {
-    /// This is published.
+    /// What was local is published, up to this revision.
     Published(Revision),
     /// The head, which has learned, is this.
     Learnt(RevVec),
@@ -56,9 +56,11 @@ pub enum Came {
     Refused,
 }
 
-/// The bytes of the place that is kept for the reply.
+/// The bytes of the place that is kept for the reply: just what the longer needs of the text that
+/// is kept and of a vector.
 pub fn place_of(errand: &Errand) -> usize
-    ensures { HasPlace (Some result) (kept_for errand.now) }
+    ensures place { HasPlace (Some result) (kept_for errand.now) }
+    ensures bytes { result ≡ place_bytes (kept_for errand.now) }
 {
     match errand {
         Errand::Checkpoint(text) => text.len().max(VECTOR_REPLY_BYTES),

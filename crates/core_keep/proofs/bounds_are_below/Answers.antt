@@ -1,4 +1,4 @@
-use Rattle.core_keep.proofs.Holding.{bound_below, told_bounds, kept_bounds, bound_used}
+use Rattle.core_keep.proofs.Holding.{bound_below, told_bounds, kept_bounds}
 use Rattle.core_keep.proofs.bounds_are_below.Goals as goal
 
 pub returns-clause-later : goal.returns-clause-later
@@ -9,6 +9,3 @@ returns-clause-told c = told_bounds
 
 pub returns-clause-kept : goal.returns-clause-kept
 returns-clause-kept c = kept_bounds
-
-pub returns-clause-used : goal.returns-clause-used
-returns-clause-used c = bound_used

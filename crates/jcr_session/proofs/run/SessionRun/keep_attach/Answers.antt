@@ -22,7 +22,7 @@ begin_attach-requires-clause-stands g c =
 
 pub begin_attach-requires-clause-place : goal.begin_attach-requires-clause-place
 begin_attach-requires-clause-place g c =
-    subst (λ (room : Option ℕ). HasPlace room (string_bytes c.args.target.missing)) (sym c.in-Ok.ensures.ok.room_is) c.room_for-bytes.ensures
+    subst (λ (room : Option ℕ). HasPlace room (string_bytes c.args.target.missing)) (sym c.in-Ok.ensures.ok.room_is) c.room_for-bytes.ensures.place
 
 pub returns-in-Ok-clause-turned : goal.returns-in-Ok-clause-turned
 returns-in-Ok-clause-turned g c =

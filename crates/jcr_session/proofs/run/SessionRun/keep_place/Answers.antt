@@ -23,7 +23,7 @@ begin_errand-requires g c =
           (sets_out law old c.args.self.now c.requires.stands c.requires.between c.requires.next unread mid c.args.task c.args.errand
           c.requires.starts (by_waits law old mid old.work (Some c.place_of-bytes.result) waits)
           (waits.work_is ∙ idle_by law old c.args.self.now c.requires.stands c.requires.between unread)
-          (subst (λ (room : Option ℕ). HasPlace room (kept_for c.args.errand)) (sym waits.room_is) c.place_of-bytes.ensures));
+          (subst (λ (room : Option ℕ). HasPlace room (kept_for c.args.errand)) (sym waits.room_is) c.place_of-bytes.ensures.place));
     }
 
 pub returns-in-Ok-clause-turned : goal.returns-in-Ok-clause-turned
