@@ -1,5 +1,5 @@
 -- What background writes and reads ask of the documents, and are answered.
-use Rattle.std.proofs.Common.{◌≡◌, ◌≢◌, [], ◌∷◌, Option, Some, None, Result, Ok, Err, true, false, refl, sym, ap, ◌∙◌}
+use Rattle.std.proofs.Common.{◌≡◌, ◌≢◌, [], ◌∷◌, Option, Some, None, refl, ap, ◌∙◌}
 use Rattle.std.specs.declared.alloc.Global.{Global}
 use Rattle.jr_path.specs.declared.path.DocId.TheVariants as id
 use Rattle.jr_path.specs.declared.path.Path.{Path}
@@ -12,7 +12,6 @@ use Rattle.oak_sync.specs.Learning as learning
 use Rattle.oak_sync.specs.Publishing.{IsBegun, back_op, due, fed, stage_of, went_on}
 use Rattle.oak_sync.specs.declared.back_read.BackRead.{BackRead}
 use Rattle.oak_sync.specs.declared.back_write.BackWrite.{BackWrite}
-use Rattle.oak_sync.specs.declared.stage.Stage.{Stage}
 use Rattle.oak_sync.specs.declared.stage.Stage.TheVariants as stage
 use Rattle.oak_sync.proofs.Standing.{IsPathDue, begun_due, finds_root, path_due, reads_root}
 use Rattle.oak_step.specs.Parts.{IsPublishing, after_ask, answered, learned_on, published_on, replied}

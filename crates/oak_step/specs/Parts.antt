@@ -1,14 +1,10 @@
 -- One step of a session: on the documents, on the memory of its cluster node, and on the events.
-use Rattle.std.specs.Prelude.{◌≡◌, ◌≢◌, ◌⊎◌, ◌<◌, ◌≤◌, ◌+◌, ◌-◌, ◌*◌, ◌^◌, ℕ, All, cond, drop, false, List, [], ◌∷◌, ◌++◌, length, Option, Some, None, Result, Ok, Err, IsSome, IsTrue, is_some}
-use Rattle.std.specs.Option.{option_map_or}
+use Rattle.std.specs.Prelude.{◌≡◌, ◌≢◌, ◌⊎◌, ◌<◌, ◌≤◌, ◌+◌, ◌-◌, ◌*◌, ◌^◌, ℕ, cond, drop, false, List, [], ◌∷◌, ◌++◌, length, Option, Some, None, Ok, Err, IsSome, IsTrue, is_some}
 use Rattle.std.specs.declared.alloc.Global.{Global}
-use Rattle.jr_path.specs.Grammar.{IsName}
-use Rattle.jr_path.specs.declared.path.DocId.{DocId}
 use Rattle.jr_path.specs.declared.path.DocId.TheVariants as id
 use Rattle.jr_path.specs.declared.path.Path.{Path}
 use Rattle.jr_path.specs.declared.path.Item.{Item}
 use Rattle.jr_rev.specs.declared.revision.Revision.{Revision}
-use Rattle.jr_rev.specs.declared.vector.RevVec.{RevVec}
 use Rattle.jr_rev.specs.Revisions.{is_before}
 use Rattle.jr_rev.specs.Vectors.{sees}
 use Rattle.oak_changes.specs.declared.changes.ChangesReader.{ChangesReader}
@@ -24,9 +20,7 @@ use Rattle.oak_commit.specs.declared.outcome.CommitEnd.TheVariants as end
 use Rattle.oak_commit.specs.declared.stage.Stage.{Stage}
 use Rattle.oak_commit.specs.declared.stage.Stage.TheVariants as stage
 use Rattle.oak_doc.specs.declared.document.Document.{Document}
-use Rattle.oak_doc.specs.declared.asks.Ask.{Ask}
 use Rattle.oak_doc.specs.declared.asks.Ask.TheVariants as ask
-use Rattle.oak_doc.specs.declared.asks.Reply.{Reply}
 use Rattle.oak_doc.specs.declared.asks.Reply.TheVariants as reply
 use Rattle.oak_doc.specs.declared.update.Cond.{Cond}
 use Rattle.oak_doc.specs.declared.update.Kept.{Kept}
@@ -34,7 +28,6 @@ use Rattle.oak_doc.specs.declared.update.Kept.TheVariants as kept
 use Rattle.oak_doc.specs.declared.update.OpFault.{OpFault}
 use Rattle.oak_doc.specs.declared.update.OpFault.TheVariants as fault
 use Rattle.oak_doc.specs.declared.update.UpdateOp.{UpdateOp}
-use Rattle.oak_doc.specs.Updates.{updated}
 use Rattle.oak_machine.specs.declared.event.Event.{Event}
 use Rattle.oak_machine.specs.declared.event.Event.TheVariants as event
 use Rattle.oak_machine.specs.declared.event.StepKind.{StepKind}
@@ -47,7 +40,6 @@ use Rattle.oak_read.specs.declared.reader.Reader.{Reader}
 use Rattle.oak_read.specs.declared.reader.ReadOut.TheVariants as out
 use Rattle.oak_read.specs.declared.reader.Step.{Step}
 use Rattle.oak_read.specs.declared.reader.Step.TheVariants as step
-use Rattle.oak_read.specs.Meaning.{path_of}
 use Rattle.oak_read.specs.Reading.{answer, due, fed as fed_reader}
 use Rattle.oak_sync.specs.Learning as learning
 use Rattle.oak_sync.specs.Publishing as publishing

@@ -147,12 +147,7 @@ pub(crate) fn read(
 }
 
 // The root's document is read.
-fn read_root(
-    table: &mut DocTable,
-    events: &mut Events,
-    s: u32,
-    read: BackRead,
-) -> (Work, StepOut)
+fn read_root(table: &mut DocTable, events: &mut Events, s: u32, read: BackRead) -> (Work, StepOut)
     requires table { IsTable table.old.documents }
     requires due { learning.stage_of read ≡ stage.Read }
     ensures made { (k : ℕ) (m : NodeState) → LearnsOn s k (parts table.old m events.old.list) read

@@ -1,5 +1,5 @@
 -- What is due of background writes and reads, by the stages in which they stand.
-use Rattle.std.proofs.Common.{◌≡◌, ◌≢◌, ℕ, zero, Bool, true, false, cond, List, [], ◌∷◌, ◌++◌, length, Option, Some, None, refl, sym, ap, ◌∙◌, arith}
+use Rattle.std.proofs.Common.{◌≡◌, ◌≢◌, zero, Bool, true, false, cond, List, [], ◌∷◌, ◌++◌, length, Option, Some, None, refl, sym, ap, ◌∙◌, arith}
 use Rattle.std.specs.Prelude.{◌==◌, slice_get}
 use Rattle.std.specs.Option.{option_map_or}
 use Rattle.std.specs.declared.alloc.Global.{Global}
@@ -19,7 +19,6 @@ use Rattle.oak_sync.specs.declared.back_read.BackRead.{BackRead}
 use Rattle.oak_sync.specs.declared.back_read.Step.{Step}
 use Rattle.oak_sync.specs.declared.back_read.Step.TheVariants as step
 use Rattle.oak_sync.specs.declared.back_write.BackWrite.{BackWrite}
-use Rattle.oak_sync.specs.declared.stage.Stage.{Stage}
 use Rattle.oak_sync.specs.declared.stage.Stage.TheVariants as stage
 use Rattle.oak_sync.proofs.Ending.{root_last}
 

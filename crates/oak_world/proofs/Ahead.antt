@@ -1,5 +1,5 @@
 -- The root is ahead of a background write.
-use Rattle.std.proofs.Common.{◌≡◌, ◌≢◌, ℕ, zero, suc, ◌+◌, ◌<◌, ◌≤◌, Bool, true, false, cond, inl, inr, List, [], ◌∷◌, ◌++◌, length, Some, refl, sym, ap, subst, ◌∙◌, arith}
+use Rattle.std.proofs.Common.{◌≡◌, ◌≢◌, ℕ, zero, suc, ◌+◌, ◌<◌, ◌≤◌, Bool, true, false, cond, inl, inr, List, [], ◌∷◌, ◌++◌, length, refl, sym, ap, ◌∙◌, arith}
 use Rattle.std.specs.Prelude.{◌==◌, nat_lt, slice_get}
 use Rattle.std.specs.Option.{option_map_or}
 use Rattle.std.specs.declared.alloc.Global.{Global}
@@ -48,8 +48,8 @@ goes_ahead b at is = record { front = is.front; paths = is.paths; ahead = by (na
     before = elim (cases_lt b.written (length is.front)) [
       | inl less ↦ less
       | inr past ↦ (let low = is.ahead in
-        let same : b.written ≡ length is.front = omega (arith, past, low) in
-        absurd (apart (sym (at_last is.front) ∙ (ap (stage_at (is.front ++ [] ∷ [])) (sym same) ∙ (ap (λ (ps : List Path). stage_at ps b.written) (sym is.paths) ∙ at)))))
+          let same : b.written ≡ length is.front = omega (arith, past, low) in
+          absurd (apart (sym (at_last is.front) ∙ (ap (stage_at (is.front ++ [] ∷ [])) (sym same) ∙ (ap (λ (ps : List Path). stage_at ps b.written) (sym is.paths) ∙ at)))))
     ]
 
     by : (c : Bool) → cond c (b.written + 1) b.written ≤ length is.front

@@ -199,17 +199,22 @@ module _ {L : Type 0} (w : WorldOf L) (s : ℕ) (there : s < length w.actors) (q
     publishes : (b : BackWrite) (o : StepOut) → PublishesOn s node (parts_at w s) b q v o → Publishes s (state_of w) b now v o
     publishes b (answers.Went kind.Back) h =
         let p = below_due b h.0 in
-        let goes = goes_on w.table b p.0 p.1 in
-        (h.0, p.0, (p.1).asks,
-        sets (work.Upkeep k) (work.Upkeep (upkeep.Publish (published_on w.table b))) here h.2 refl (refl, refl) (event.Went s kind.Back) (after_ask w.table (publishing.due b)) h.1
-        ∙ ap (λ (t : Table). record (state_of w) { past = event.Went s kind.Back ∷ w.history.past; table = t }) (told_table w.table b p.0 p.1),
-        h.2 ∙ ap (λ (c : BackWrite). work.Upkeep (upkeep.Publish c)) goes)
+        let goes = goes_on w.table b p.0 p.1 in (
+          h.0,
+          p.0,
+          (p.1).asks,
+          sets (work.Upkeep k) (work.Upkeep (upkeep.Publish (published_on w.table b))) here h.2 refl (refl, refl) (event.Went s kind.Back) (after_ask w.table (publishing.due b)) h.1
+              ∙ ap (λ (t : Table). record (state_of w) { past = event.Went s kind.Back ∷ w.history.past; table = t }) (told_table w.table b p.0 p.1),
+          h.2 ∙ ap (λ (c : BackWrite). work.Upkeep (upkeep.Publish c)) goes,
+        )
     publishes b (answers.Ready (ends.Published o)) h =
-        let root = root_due b h.0 in
-        (h.0, h.1,
-        sets (work.Upkeep k) work.Rest here h.3 refl (refl, refl) (event.Out node b.upto) (after_ask w.table (publishing.due b)) h.2
-        ∙ ap (λ (t : Table). record (state_of w) { past = event.Out node b.upto ∷ w.history.past; table = t }) (told_table w.table b [] root),
-        h.3)
+        let root = root_due b h.0 in (
+          h.0,
+          h.1,
+          sets (work.Upkeep k) work.Rest here h.3 refl (refl, refl) (event.Out node b.upto) (after_ask w.table (publishing.due b)) h.2
+              ∙ ap (λ (t : Table). record (state_of w) { past = event.Out node b.upto ∷ w.history.past; table = t }) (told_table w.table b [] root),
+          h.3,
+        )
     publishes b answers.Memory h = (nothing answers.Memory refl h.0 h.1, h.1)
     publishes b _ h = absurd h
 
@@ -218,11 +223,12 @@ module _ {L : Type 0} (w : WorldOf L) (s : ℕ) (there : s < length w.actors) (q
     publishes_first n o (inr h) = inr (h.0, h.1, h.2, publishes h.1 o h.3)
 
     learns : (b : BackRead) (o : StepOut) → LearnsOn s node (parts_at w s) b q v o → Learns s (state_of w) b now v o
-    learns b (answers.Went kind.Back) h =
-        (h.0,
-        sets (work.Upkeep k) (work.Upkeep (upkeep.Read (learned_on w.table b))) here h.2 refl (refl, refl) (event.Went s kind.Back) (after_ask w.table (learning.due b)) h.1
-        ∙ ap (λ (t : Table). record (state_of w) { past = event.Went s kind.Back ∷ w.history.past; table = t }) (read_table w.table b h.0),
-        h.2 ∙ ap (λ (c : BackRead). work.Upkeep (upkeep.Read c)) (reads_on w.table b h.0))
+    learns b (answers.Went kind.Back) h = (
+      h.0,
+      sets (work.Upkeep k) (work.Upkeep (upkeep.Read (learned_on w.table b))) here h.2 refl (refl, refl) (event.Went s kind.Back) (after_ask w.table (learning.due b)) h.1
+          ∙ ap (λ (t : Table). record (state_of w) { past = event.Went s kind.Back ∷ w.history.past; table = t }) (read_table w.table b h.0),
+      h.2 ∙ ap (λ (c : BackRead). work.Upkeep (upkeep.Read c)) (reads_on w.table b h.0),
+    )
     learns b (answers.Ready (ends.Learnt u)) h =
         (h.0, h.1, tells (work.Upkeep k) work.Rest here h.3 refl (refl, refl) (event.In node (learned memory b.last b.sweep).head) (learned memory b.last b.sweep) h.2, h.3)
     learns b answers.Memory h = (nothing answers.Memory refl h.0 h.1, h.1)
