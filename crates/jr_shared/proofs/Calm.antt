@@ -1,7 +1,5 @@
 -- A step that adds no event leaves the documents and the memories.
-use Rattle.std.proofs.Common.{◌≡◌, inl, inr, ℕ, Bool, true, false, cond, Some, None, List, ◌∷◌, sym, ap, ◌∙◌}
-use Rattle.jr_path.specs.declared.path.DocId.{DocId}
-use Rattle.jr_rev.specs.declared.revision.Revision.{Revision}
+use Rattle.std.proofs.Common.{◌≡◌, inl, inr, ℕ, Bool, true, false, cond, Some, None, ◌∷◌, sym, ap, ◌∙◌}
 use Rattle.oak_commit.specs.Committing.{Committing}
 use Rattle.oak_commit.specs.declared.outcome.CommitEnd.TheVariants as outcome
 use Rattle.oak_machine.specs.declared.event.Event.{Event}
@@ -11,12 +9,14 @@ use Rattle.oak_port.specs.declared.task.StepOut.{StepOut}
 use Rattle.oak_port.specs.declared.task.StepOut.TheVariants as answers
 use Rattle.oak_port.specs.declared.task.TaskEnd.TheVariants as ends
 use Rattle.core_world.specs.States.{State}
+use Rattle.oak_node.specs.declared.pending.Pending.{Pending}
+use Rattle.oak_sync.specs.declared.back_read.BackRead.{BackRead}
+use Rattle.oak_sync.specs.declared.back_write.BackWrite.{BackWrite}
 use Rattle.oak_step.specs.declared.work.Work.{Work}
 use Rattle.oak_step.specs.declared.work.Work.TheVariants as work
 use Rattle.oak_step.specs.declared.upkeep.Upkeep.{Upkeep}
 use Rattle.oak_step.specs.declared.upkeep.Upkeep.TheVariants as upkeep
-use Rattle.oak_world.specs.Steps.{Makes, MakesCommit, MakesUpdate, MakesUpkeep, Publishes}
-use Rattle.oak_step.specs.Upkeeps.{told_ids}
+use Rattle.oak_world.specs.Steps.{Learns, Makes, MakesCommit, MakesUpdate, MakesUpkeep, Publishes, PublishesFirst}
 use Rattle.jr_shared.proofs.Lists.{never_longer, never_two_longer}
 
 module _ (s : ℕ) (w u : State) (same : u.past ≡ w.past) where
@@ -47,24 +47,29 @@ module _ (s : ℕ) (w u : State) (same : u.past ≡ w.past) where
   still : u ≡ w → IsCalm
   still is = (ap (λ (x : State). x.table) is, ap (λ (x : State). x.memories) is)
 
-  calm_publish : (ids : List DocId) (r : Revision) (v : Work) (o : StepOut) → Publishes s w ids r u v o → IsCalm
-  calm_publish ids r v (answers.Went kind.Back) m = never _ (ap (λ (x : State). x.past) m.3)
-  calm_publish ids r v (answers.Ready (ends.Published o)) m = never _ (ap (λ (x : State). x.past) m.2)
-  calm_publish ids r v answers.Memory m = still m.0
-  calm_publish ids r v _ m = absurd m
+  calm_publish : (b : BackWrite) (v : Work) (o : StepOut) → Publishes s w b u v o → IsCalm
+  calm_publish b v (answers.Went kind.Back) m = never _ (ap (λ (x : State). x.past) m.3)
+  calm_publish b v (answers.Ready (ends.Published o)) m = never _ (ap (λ (x : State). x.past) m.2)
+  calm_publish b v answers.Memory m = still m.0
+  calm_publish b v _ m = absurd m
+
+  calm_begin : (n : Pending) (v : Work) (o : StepOut) → PublishesFirst s w n u v o → IsCalm
+  calm_begin n v o (inl m) = still m.1
+  calm_begin n v o (inr m) = calm_publish m.1 v o m.3
+
+  calm_learn : (b : BackRead) (v : Work) (o : StepOut) → Learns s w b u v o → IsCalm
+  calm_learn b v (answers.Went kind.Back) m = never _ (ap (λ (x : State). x.past) m.1)
+  calm_learn b v (answers.Ready (ends.Learnt x)) m = never _ (ap (λ (y : State). y.past) m.2)
+  calm_learn b v answers.Memory m = still m.0
+  calm_learn b v _ m = absurd m
 
   calm_upkeep : (k : Upkeep) (v : Work) (o : StepOut) → MakesUpkeep s w k u v o → IsCalm
   calm_upkeep upkeep.Write v (answers.Went kind.Back) m = never _ (ap (λ (x : State). x.past) m.2)
   calm_upkeep upkeep.Write v answers.Memory m = still m.0
   calm_upkeep upkeep.Write v _ m = absurd m
-  calm_upkeep (upkeep.Noted n) v o m = calm_publish (told_ids n.paths) n.upto v o m
-  calm_upkeep (upkeep.Publish ids r) v o m = calm_publish ids r v o m
-  calm_upkeep upkeep.Read v (answers.Went kind.Back) m = never _ (ap (λ (x : State). x.past) m.2)
-  calm_upkeep upkeep.Read v answers.Memory m = still m.0
-  calm_upkeep upkeep.Read v _ m = absurd m
-  calm_upkeep (upkeep.Learn last sweep) v (answers.Ready (ends.Learnt x)) m = never _ (ap (λ (y : State). y.past) m.1)
-  calm_upkeep (upkeep.Learn last sweep) v answers.Memory m = still m.0
-  calm_upkeep (upkeep.Learn last sweep) v _ m = absurd m
+  calm_upkeep (upkeep.Noted n) v o m = calm_begin n v o m
+  calm_upkeep (upkeep.Publish b) v o m = calm_publish b v o m
+  calm_upkeep (upkeep.Read b) v o m = calm_learn b v o m
   calm_upkeep (upkeep.Checkpoint i) v (answers.Ready (ends.Set None)) m = never _ (ap (λ (x : State). x.past) m.2)
   calm_upkeep (upkeep.Checkpoint i) v answers.Memory m = still m.0
   calm_upkeep (upkeep.Checkpoint i) v _ m = absurd m

@@ -9,7 +9,10 @@ use Rattle.oak_step.specs.declared.work.Work.{Work}
 use Rattle.oak_step.specs.declared.work.Work.TheVariants as work
 use Rattle.oak_step.specs.declared.upkeep.Upkeep.{Upkeep}
 use Rattle.oak_step.specs.declared.upkeep.Upkeep.TheVariants as upkeep
-use Rattle.oak_step.specs.Upkeeps.{kind_kept}
+use Rattle.oak_step.specs.Upkeeps.{kind_kept, kind_read}
+use Rattle.oak_sync.specs.Learning.{stage_of}
+use Rattle.oak_sync.specs.declared.stage.Stage.{Stage as Syncing}
+use Rattle.oak_sync.specs.declared.stage.Stage.TheVariants as syncing
 use Rattle.oak_world.specs.Seen.{shown_by, shown_work}
 use Rattle.oak_step.specs.Works.{kind_due}
 use Rattle.jr_stage.specs.SoFar.{is_last_due}
@@ -26,13 +29,20 @@ commits r (Some (end.Committed q)) = refl
 commits r (Some (end.Clash item q)) = refl
 commits r (Some end.Memory) = refl
 
+-- a background read makes no last write
+read_commits : (at : Syncing) → is_last_due (Some (kind_read at)) ≡ true → ⊥
+read_commits syncing.Write h = false≢true h
+read_commits syncing.Publish h = false≢true h
+read_commits syncing.Read h = false≢true h
+read_commits syncing.Learn h = false≢true h
+read_commits syncing.Done h = false≢true h
+
 -- background work, and a change of the settings, make no last write
 upkeep_commits : (u : Upkeep) → is_last_due (Some (kind_kept u)) ≡ true → ⊥
 upkeep_commits upkeep.Write h = false≢true h
 upkeep_commits (upkeep.Noted n) h = false≢true h
-upkeep_commits (upkeep.Publish ids r) h = false≢true h
-upkeep_commits upkeep.Read h = false≢true h
-upkeep_commits (upkeep.Learn last sweep) h = false≢true h
+upkeep_commits (upkeep.Publish b) h = false≢true h
+upkeep_commits (upkeep.Read b) h = read_commits (stage_of b) h
 upkeep_commits (upkeep.Checkpoint i) h = false≢true h
 upkeep_commits (upkeep.Release i) h = false≢true h
 upkeep_commits (upkeep.Attach i) h = false≢true h

@@ -64,7 +64,7 @@ due_last c m = ap (due_by c) m.going ∙ (ap (look_due c) m.looked ∙ (ap (mark
 op_is : (c : Committing) (op : UpdateOp) → ask.Update op ≡ due_of c → due_of c ≡ ask.Update (op_due c) → op ≡ op_due c
 op_is c op asked due = let e : ask.Update op ≡ ask.Update (op_due c) = asked ∙ due in cc
 
--- it is an update
+-- what is due is an update
 pub mark_asks : (c : Committing) → stage_of c ≡ stage.Mark → due_of c ≡ ask.Update (op_due c)
 mark_asks c h = due_mark c (mark_stage c h)
 

@@ -1,37 +1,42 @@
 -- Background work, and a change of the settings, keep no places of the journal.
-use Rattle.std.proofs.Common.{◌≡◌, ℕ, List, ap}
+use Rattle.std.proofs.Common.{◌≡◌, ℕ, inl, inr, ap}
 use Rattle.std.specs.Prelude.{None, Some}
-use Rattle.jr_path.specs.declared.path.DocId.{DocId}
-use Rattle.jr_rev.specs.declared.revision.Revision.{Revision}
 use Rattle.oak_machine.specs.declared.event.StepKind.TheVariants as kind
+use Rattle.oak_node.specs.declared.pending.Pending.{Pending}
 use Rattle.oak_port.specs.declared.task.StepOut.{StepOut}
 use Rattle.oak_port.specs.declared.task.StepOut.TheVariants as answers
 use Rattle.oak_port.specs.declared.task.TaskEnd.TheVariants as ends
+use Rattle.oak_sync.specs.declared.back_read.BackRead.{BackRead}
+use Rattle.oak_sync.specs.declared.back_write.BackWrite.{BackWrite}
 use Rattle.oak_step.specs.declared.work.Work.{Work}
 use Rattle.oak_step.specs.declared.upkeep.Upkeep.{Upkeep}
 use Rattle.oak_step.specs.declared.upkeep.Upkeep.TheVariants as upkeep
-use Rattle.oak_step.specs.Parts.{KeepsUp, Parts, PublishesOn, needed}
-use Rattle.oak_step.specs.Upkeeps.{told_ids}
+use Rattle.oak_step.specs.Parts.{KeepsUp, LearnsOn, Parts, PublishesFirst, PublishesOn, needed}
 
 module _ (s k : ℕ) (p q : Parts) (v : Work) where
-  publishes_free : (ids : List DocId) (r : Revision) (o : StepOut) → PublishesOn s k p ids r q v o → needed v ≡ 0
-  publishes_free ids r (answers.Went kind.Back) h = ap needed h.4
-  publishes_free ids r (answers.Ready (ends.Published o)) h = ap needed h.3
-  publishes_free ids r answers.Memory h = ap needed h.1
-  publishes_free ids r _ h = absurd h
+  publishes_free : (b : BackWrite) (o : StepOut) → PublishesOn s k p b q v o → needed v ≡ 0
+  publishes_free b (answers.Went kind.Back) h = ap needed h.2
+  publishes_free b (answers.Ready (ends.Published o)) h = ap needed h.3
+  publishes_free b answers.Memory h = ap needed h.1
+  publishes_free b _ h = absurd h
+
+  begins_free : (n : Pending) (o : StepOut) → PublishesFirst s k p n q v o → needed v ≡ 0
+  begins_free n o (inl h) = ap needed h.2
+  begins_free n o (inr h) = publishes_free h.1 o h.3
+
+  learns_free : (b : BackRead) (o : StepOut) → LearnsOn s k p b q v o → needed v ≡ 0
+  learns_free b (answers.Went kind.Back) h = ap needed h.2
+  learns_free b (answers.Ready (ends.Learnt u)) h = ap needed h.3
+  learns_free b answers.Memory h = ap needed h.1
+  learns_free b _ h = absurd h
 
   pub keeps_free : (u : Upkeep) (o : StepOut) → KeepsUp s k p u q v o → needed v ≡ 0
   keeps_free upkeep.Write (answers.Went kind.Back) h = ap needed h.3
   keeps_free upkeep.Write answers.Memory h = ap needed h.1
   keeps_free upkeep.Write _ h = absurd h
-  keeps_free (upkeep.Noted n) o h = publishes_free (told_ids n.paths) n.upto o h
-  keeps_free (upkeep.Publish ids r) o h = publishes_free ids r o h
-  keeps_free upkeep.Read (answers.Went kind.Back) h = ap needed h.3
-  keeps_free upkeep.Read answers.Memory h = ap needed h.1
-  keeps_free upkeep.Read _ h = absurd h
-  keeps_free (upkeep.Learn last sweep) (answers.Ready (ends.Learnt u)) h = ap needed h.2
-  keeps_free (upkeep.Learn last sweep) answers.Memory h = ap needed h.1
-  keeps_free (upkeep.Learn last sweep) _ h = absurd h
+  keeps_free (upkeep.Noted n) o h = begins_free n o h
+  keeps_free (upkeep.Publish b) o h = publishes_free b o h
+  keeps_free (upkeep.Read b) o h = learns_free b o h
   keeps_free (upkeep.Checkpoint i) (answers.Ready (ends.Set None)) h = ap needed h.3
   keeps_free (upkeep.Checkpoint i) answers.Memory h = ap needed h.1
   keeps_free (upkeep.Checkpoint i) _ h = absurd h

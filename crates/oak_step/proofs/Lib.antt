@@ -5,3 +5,4 @@ pub mod Needs
 pub mod Replies
 pub mod Acting
 pub mod Freeing
+pub mod Backs

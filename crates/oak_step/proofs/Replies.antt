@@ -29,7 +29,7 @@ quiet_at c o k ds ps out looked due left r b h =
     ∙ (ap (λ (x : Option Look). looks_at (at c o x c.writer.due c.writer.left) r) looked
     ∙ (ap (λ (x : List Met). looks_at (at c o k x c.writer.left) r) due ∙ (ap (λ (x : List Path). looks_at (at c o k ds x) r) left ∙ h)))
 
--- it tells of no document that is looked at, where that isn't what was due
+-- a reply tells of no document that is looked at, where that isn't what was due
 unmet_by : (c : Committing) (x : Cond) (y : Kept) (o : Option CommitEnd) (k : Option Look) (ds : List Met) (ps : List Path) → looks_at (at c o k ds ps) (reply.Unmet x y) ≡ false
 unmet_by c x y None None [] [] = refl
 unmet_by c x y None None [] (p ∷ ps) = refl

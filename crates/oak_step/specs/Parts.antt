@@ -1,13 +1,10 @@
 -- One step of a session: on the documents, on the memory of its cluster node, and on the events.
-use Rattle.std.specs.Prelude.{◌≡◌, ◌≢◌, ◌⊎◌, ◌<◌, ◌≤◌, ◌+◌, ◌-◌, ◌*◌, ◌^◌, ℕ, All, cond, drop, false, List, [], ◌∷◌, ◌++◌, length, Option, Some, None, Result, Ok, Err, IsSome, IsTrue, is_some}
-use Rattle.std.specs.Option.{option_map_or}
-use Rattle.jr_path.specs.Grammar.{IsName}
-use Rattle.jr_path.specs.declared.path.DocId.{DocId}
+use Rattle.std.specs.Prelude.{◌≡◌, ◌≢◌, ◌⊎◌, ◌<◌, ◌≤◌, ◌+◌, ◌-◌, ◌*◌, ◌^◌, ℕ, cond, drop, false, List, [], ◌∷◌, ◌++◌, length, Option, Some, None, Ok, Err, IsSome, IsTrue, is_some}
+use Rattle.std.specs.declared.alloc.Global.{Global}
 use Rattle.jr_path.specs.declared.path.DocId.TheVariants as id
 use Rattle.jr_path.specs.declared.path.Path.{Path}
 use Rattle.jr_path.specs.declared.path.Item.{Item}
 use Rattle.jr_rev.specs.declared.revision.Revision.{Revision}
-use Rattle.jr_rev.specs.declared.vector.RevVec.{RevVec}
 use Rattle.jr_rev.specs.Revisions.{is_before}
 use Rattle.jr_rev.specs.Vectors.{sees}
 use Rattle.oak_changes.specs.declared.changes.ChangesReader.{ChangesReader}
@@ -31,7 +28,6 @@ use Rattle.oak_doc.specs.declared.update.Kept.TheVariants as kept
 use Rattle.oak_doc.specs.declared.update.OpFault.{OpFault}
 use Rattle.oak_doc.specs.declared.update.OpFault.TheVariants as fault
 use Rattle.oak_doc.specs.declared.update.UpdateOp.{UpdateOp}
-use Rattle.oak_doc.specs.Updates.{updated}
 use Rattle.oak_machine.specs.declared.event.Event.{Event}
 use Rattle.oak_machine.specs.declared.event.Event.TheVariants as event
 use Rattle.oak_machine.specs.declared.event.StepKind.{StepKind}
@@ -44,17 +40,22 @@ use Rattle.oak_read.specs.declared.reader.Reader.{Reader}
 use Rattle.oak_read.specs.declared.reader.ReadOut.TheVariants as out
 use Rattle.oak_read.specs.declared.reader.Step.{Step}
 use Rattle.oak_read.specs.declared.reader.Step.TheVariants as step
-use Rattle.oak_read.specs.Meaning.{path_of}
 use Rattle.oak_read.specs.Reading.{answer, due, fed as fed_reader}
+use Rattle.oak_sync.specs.Learning as learning
+use Rattle.oak_sync.specs.Publishing as publishing
+use Rattle.oak_sync.specs.declared.back_read.BackRead.{BackRead}
+use Rattle.oak_sync.specs.declared.back_write.BackWrite.{BackWrite}
+use Rattle.oak_sync.specs.declared.stage.Stage.{Stage as Syncing}
+use Rattle.oak_sync.specs.declared.stage.Stage.TheVariants as syncing
 use Rattle.oak_store.specs.Tables.{Table, after_undo, found, next_number, with_document}
 use Rattle.core_nodes.specs.Nodes.{cursor_owner, without_session}
-use Rattle.core_world.specs.Steps.{after_update, back_op, settings_op}
+use Rattle.core_world.specs.Steps.{after_update, settings_op}
+pub use Rattle.oak_acts.specs.Acts.{after_ask, answered, base_at, result_of}
 use Rattle.oak_step.specs.declared.upkeep.Upkeep.{Upkeep}
 use Rattle.oak_step.specs.declared.upkeep.Upkeep.TheVariants as upkeep
-use Rattle.oak_step.specs.Upkeeps.{set_checkpoint, told_ids}
+use Rattle.oak_step.specs.Upkeeps.{set_checkpoint}
 use Rattle.oak_node.specs.declared.pending.Pending.{Pending}
 use Rattle.oak_doc.specs.declared.update.Change.TheVariants as change
-use Rattle.jr_path.specs.Ids.{names_of}
 use Rattle.jr_rev.specs.declared.vector.Pin.{Pin}
 use Rattle.oak_step.specs.declared.work.Work.{Work}
 use Rattle.oak_step.specs.declared.work.Work.TheVariants as work
@@ -75,14 +76,6 @@ parts t m es = record { table = t; memory = m; list = es }
 
 -- ---- documents
 
--- the names of the id's path are names
-abbrev pub HasNames : DocId → Type 0
-HasNames x = All IsName (path_of x)
-
--- what an update makes of its document, under the next number
-abbrev pub result_of : Table → UpdateOp → Result Document OpFault
-result_of t op = updated (found t op.id) op (next_number t)
-
 -- the update is made
 pub record IsMade (old new : Table) (op : UpdateOp) : Type 0 where
   pub document : Document
@@ -90,10 +83,6 @@ pub record IsMade (old new : Table) (op : UpdateOp) : Type 0 where
   pub table : new ≡ with_document old op.id document (next_number old)
 
 -- ---- the memory
-
--- the base of session s: that of its pin
-abbrev pub base_at : NodeState → ℕ → RevVec
-base_at m s = option_map_or (λ pin. pin.base) (pin_of m s) m.head
 
 -- the end of r, and the head of cluster node k, where that moved
 abbrev pub end_events : ℕ → NodeState → Revision → List Event
@@ -114,7 +103,8 @@ end_of_reading _ = None
 abbrev pub read_on : Table → Reader → Reader
 read_on t r = fed_reader r (answer t.documents (due r))
 
--- the reader is fed what the documents answer; where nothing more is due then, the task ends with what it gives
+-- the reader is fed what the documents answer; where nothing more is due then, the task ends with
+-- what it gives
 abbrev pub ReadsOn : Table → Reader → Work → StepOut → Type 0
 ReadsOn t r v (answers.Went kind.Read) =
     (v ≡ work.Read (read_on t r)) × (due (read_on t r) ≢ ask.Done)
@@ -161,10 +151,6 @@ op_due c = by c.writer.due c.writer.left
 abbrev pub IsDue : Committing → Type 0
 IsDue c = due_of c ≡ ask.Update (op_due c)
 
--- the store has the root's document
-abbrev pub HasRoot : Table → Type 0
-HasRoot t = IsSome (found t (id.Node []))
-
 -- the event of a refusal by the mark that is due
 abbrev pub refusal_at : Committing → Event → Type 0
 refusal_at c e = by c.writer.due
@@ -198,7 +184,8 @@ pub record IsMarkRefused (t u : Table) (es fs : List Event) (c d : Committing) :
 abbrev pub IsMarked : ℕ → Table → Table → List Event → List Event → Committing → Committing → Type 0
 IsMarked s t u es fs c d = IsMarkMade s t u es fs c d ⊎ IsMarkRefused t u es fs c d
 
--- the document is written; where memory is refused for what is found in it, the committer turns to undoing
+-- the document is written; where memory is refused for what is found in it, the committer turns to
+-- undoing
 pub record IsWritten (s : ℕ) (t u : Table) (es fs : List Event) (c d : Committing) : Type 0 where
   pub made : IsMade t u (op_due c)
   pub list : fs ≡ es ++ event.Went s kind.Write ∷ []
@@ -210,7 +197,7 @@ IsLastFault fault.Memory = Unit {0}
 IsLastFault (fault.Unmet cause (kept.Entry other item)) = Unit {0}
 IsLastFault _ = ⊥
 
--- it is committed; or it is refused for the collision that is noted there
+-- the last write commits; or the commit is refused for the collision that is noted there
 pub record IsLastMade (t u : Table) (es fs : List Event) (c d : Committing) : Type 0 where
   pub made : IsMade t u (op_due c)
   pub list : fs ≡ es ++ event.Commit c.revision ∷ []
@@ -226,7 +213,7 @@ pub record IsLastRefused (t u : Table) (es fs : List Event) (c d : Committing) :
   pub list : fs ≡ es ++ event.Refuse c.revision item other ∷ []
   pub committer : d ≡ fed c (reply.Unmet cause (kept.Entry other item))
 
--- it is refused by this fault, which tells a collision
+-- a commit is refused by a fault of its last write, which tells a collision
 pub record IsRefusedBy (f : OpFault) (es fs : List Event) (c d : Committing) : Type 0 where
   pub cause : Cond
   pub other : Revision
@@ -279,7 +266,8 @@ pub record IsOver (c : Committing) : Type 0 where
   pub finish : stage_of c ≡ stage.Finish
   pub unended : c.ended ≡ false
 
--- what a session does then whose commit has ended so: of an accepted one the base is to move, and a refused one is over
+-- what a session does then whose commit has ended so: of an accepted one the base is to move, and a
+-- refused one is over
 abbrev pub EndsSo : Committing → Work → StepOut → Type 0
 EndsSo c v (answers.Went kind.Finish) = IsTrue (is_past c.outcome) × (v ≡ work.Move c.revision)
 EndsSo c v (answers.Ready (ends.Commit e)) =
@@ -331,19 +319,53 @@ Moves s m es r n fs v _ = ⊥
 abbrev pub Refused : Parts → Parts → Work → Type 0
 Refused p q v = (q ≡ p) × (v ≡ work.Rest)
 
--- the last of the documents is told that r is published; where none is left, the root is, and the task ends
-abbrev pub PublishesOn : ℕ → ℕ → Parts → List DocId → Revision → Parts → Work → StepOut → Type 0
-PublishesOn s k p ids r q v (answers.Went kind.Back) =
-    (rest : List DocId) × (i : DocId) × (ids ≡ rest ++ i ∷ [])
-    × (q ≡ parts (after_update p.table (back_op (names_of i) r)) p.memory
+-- a background write, once the documents have answered what it asked
+abbrev pub published_on : Table → BackWrite → BackWrite
+published_on t b = publishing.fed b (answered t (publishing.due b))
+
+-- a background write makes the update that is due, and is fed the answer; where that is the root's,
+-- its revision is published, and the task ends
+abbrev pub PublishesOn : ℕ → ℕ → Parts → BackWrite → Parts → Work → StepOut → Type 0
+PublishesOn s k p b q v (answers.Went kind.Back) =
+    (publishing.stage_of b ≡ syncing.Write)
+    × (q ≡ parts (after_ask p.table (publishing.due b)) p.memory
     (p.list ++ event.Went s kind.Back ∷ []))
-    × (v ≡ work.Upkeep (upkeep.Publish rest r))
-PublishesOn s k p ids r q v (answers.Ready (ends.Published o)) =
-    (ids ≡ []) × (o ≡ r)
-    × (q ≡ parts (after_update p.table (back_op [] r)) p.memory (p.list ++ event.Out k r ∷ []))
+    × (v ≡ work.Upkeep (upkeep.Publish (published_on p.table b)))
+PublishesOn s k p b q v (answers.Ready (ends.Published o)) =
+    (publishing.stage_of b ≡ syncing.Publish) × (o ≡ b.upto)
+    × (q ≡ parts (after_ask p.table (publishing.due b)) p.memory
+    (p.list ++ event.Out k b.upto ∷ []))
     × (v ≡ work.Rest)
-PublishesOn s k p ids r q v answers.Memory = Refused p q v
-PublishesOn s k p ids r q v _ = ⊥
+PublishesOn s k p b q v answers.Memory = Refused p q v
+PublishesOn s k p b q v _ = ⊥
+
+-- a background write begins with the notes that it took, and makes its first update, or memory is
+-- refused
+abbrev pub PublishesFirst : ℕ → ℕ → Parts → Pending → Parts → Work → StepOut → Type 0
+PublishesFirst s k p n q v o =
+    ((o ≡ answers.Memory) × Refused p q v)
+    ⊎ ((a : Global) × (b : BackWrite) × publishing.IsBegun a n b × PublishesOn s k p b q v o)
+
+-- a background read, once the documents have answered what it asked
+abbrev pub learned_on : Table → BackRead → BackRead
+learned_on t b = learning.fed b (answered t (learning.due b))
+
+-- a background read is fed the root's document; then the memory learns the two vectors that it
+-- read, and the task ends
+abbrev pub LearnsOn : ℕ → ℕ → Parts → BackRead → Parts → Work → StepOut → Type 0
+LearnsOn s k p b q v (answers.Went kind.Back) =
+    (learning.stage_of b ≡ syncing.Read)
+    × (q ≡ parts (after_ask p.table (learning.due b)) p.memory
+    (p.list ++ event.Went s kind.Back ∷ []))
+    × (v ≡ work.Upkeep (upkeep.Read (learned_on p.table b)))
+LearnsOn s k p b q v (answers.Ready (ends.Learnt u)) =
+    (learning.stage_of b ≡ syncing.Learn)
+    × (u ≡ (learned p.memory b.last b.sweep).head)
+    × (q ≡ parts p.table (learned p.memory b.last b.sweep)
+    (p.list ++ event.In k (learned p.memory b.last b.sweep).head ∷ []))
+    × (v ≡ work.Rest)
+LearnsOn s k p b q v answers.Memory = Refused p q v
+LearnsOn s k p b q v _ = ⊥
 
 -- a step of background work, or on the settings
 abbrev pub KeepsUp : ℕ → ℕ → Parts → Upkeep → Parts → Work → StepOut → Type 0
@@ -353,21 +375,9 @@ KeepsUp s k p upkeep.Write q v (answers.Went kind.Back) =
     × (v ≡ work.Upkeep (upkeep.Noted n))
 KeepsUp s k p upkeep.Write q v answers.Memory = Refused p q v
 KeepsUp s k p upkeep.Write q v _ = ⊥
-KeepsUp s k p (upkeep.Noted n) q v o = PublishesOn s k p (told_ids n.paths) n.upto q v o
-KeepsUp s k p (upkeep.Publish ids r) q v o = PublishesOn s k p ids r q v o
-KeepsUp s k p upkeep.Read q v (answers.Went kind.Back) =
-    (d : Document) × (found p.table (id.Node []) ≡ Some d)
-    × (q ≡ parts p.table p.memory (p.list ++ event.Went s kind.Back ∷ []))
-    × (v ≡ work.Upkeep (upkeep.Learn d.last_rev d.sweep_rev))
-KeepsUp s k p upkeep.Read q v answers.Memory = Refused p q v
-KeepsUp s k p upkeep.Read q v _ = ⊥
-KeepsUp s k p (upkeep.Learn last sweep) q v (answers.Ready (ends.Learnt u)) =
-    (u ≡ (learned p.memory last sweep).head)
-    × (q ≡ parts p.table (learned p.memory last sweep)
-    (p.list ++ event.In k (learned p.memory last sweep).head ∷ []))
-    × (v ≡ work.Rest)
-KeepsUp s k p (upkeep.Learn last sweep) q v answers.Memory = Refused p q v
-KeepsUp s k p (upkeep.Learn last sweep) q v _ = ⊥
+KeepsUp s k p (upkeep.Noted n) q v o = PublishesFirst s k p n q v o
+KeepsUp s k p (upkeep.Publish b) q v o = PublishesOn s k p b q v o
+KeepsUp s k p (upkeep.Read b) q v o = LearnsOn s k p b q v o
 KeepsUp s k p (upkeep.Checkpoint i) q v (answers.Ready (ends.Set None)) =
     (pin : Pin) × (pin_of p.memory s ≡ Some pin)
     × (q ≡ parts (after_update p.table (settings_op (change.Checkpoint i pin))) p.memory
@@ -420,7 +430,8 @@ KeepsUp s k p upkeep.Observe q v (answers.Ready (ends.Pinned pin)) =
 KeepsUp s k p upkeep.Observe q v answers.Memory = Refused p q v
 KeepsUp s k p upkeep.Observe q v _ = ⊥
 
--- how a step of session s of cluster node k goes, by what it does: the parts after it, what the session does then, and the answer
+-- how a step of session s of cluster node k goes, by what it does: the parts after it, what the
+-- session does then, and the answer
 abbrev pub Steps : ℕ → ℕ → Parts → Work → Parts → Work → StepOut → Type 0
 Steps s k p work.Login q v (answers.Ready (ends.Pinned pin)) =
     (pin ≡ pin_now p.memory)
@@ -464,7 +475,8 @@ Steps s k p work.Rest q v o = ⊥
 
 -- ---- places
 
--- for how many events of a commit places are kept: for each write and its undoing, for the last write or a refusal, for the end with the head, and for the move of the base
+-- for how many events of a commit places are kept: for each write and its undoing, for the last
+-- write or a refusal, for the end with the head, and for the move of the base
 abbrev pub needed_for : Writer → Option CommitEnd → ℕ
 needed_for w None = 2 * length w.left + length w.written + 4
 needed_for w (Some (end.Committed r)) = 3
@@ -483,7 +495,8 @@ needed _ = 0
 
 -- ---- what a step takes
 
--- the revision is in flight by the memory, it hasn't ended, no previous document is looked at, and places are kept
+-- the revision is in flight by the memory, it hasn't ended, no previous document is looked at, and
+-- places are kept
 pub record CanCommit (m : NodeState) (places : ℕ) (c : Committing) : Type 0 where
   pub flying : IsInFlight m c.revision
   pub unended : c.ended ≡ false
@@ -496,8 +509,23 @@ pub record CanMove (s : ℕ) (m : NodeState) (places : ℕ) (r : Revision) : Typ
   pub pinned : IsSome (pin_of m s)
   pub place : 1 ≤ places
 
--- a checkpoint is made, a cursor pinned, and a session detached, where the session is pinned
+-- a background write has a document to tell
+abbrev pub IsPublishing : Syncing → Type 0
+IsPublishing syncing.Write = Unit {0}
+IsPublishing syncing.Publish = Unit {0}
+IsPublishing _ = ⊥
+
+-- a background read has the root to read, or the memory has to learn
+abbrev pub IsReading : Syncing → Type 0
+IsReading syncing.Read = Unit {0}
+IsReading syncing.Learn = Unit {0}
+IsReading _ = ⊥
+
+-- background work has something due; a checkpoint is made, a cursor pinned, and a session detached,
+-- where the session is pinned
 abbrev pub CanKeepUp : ℕ → NodeState → Upkeep → Type 0
+CanKeepUp s m (upkeep.Publish b) = IsPublishing (publishing.stage_of b)
+CanKeepUp s m (upkeep.Read b) = IsReading (learning.stage_of b)
 CanKeepUp s m (upkeep.Checkpoint i) = IsSome (pin_of m s)
 CanKeepUp s m upkeep.Detach = IsSome (pin_of m s)
 CanKeepUp s m upkeep.Observe = (s < 64) × IsSome (pin_of m s)

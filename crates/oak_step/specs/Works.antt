@@ -11,6 +11,7 @@ use Rattle.oak_machine.specs.declared.event.StepKind.TheVariants as kind
 use Rattle.oak_port.specs.declared.task.Task.{Task}
 use Rattle.oak_port.specs.declared.task.Task.TheVariants as task
 use Rattle.oak_read.specs.Reading.{children_reader, node_reader}
+use Rattle.oak_sync.specs.Learning.{begun}
 use Rattle.oak_step.specs.declared.upkeep.Upkeep.TheVariants as upkeep
 use Rattle.oak_step.specs.declared.work.Work.{Work}
 use Rattle.oak_step.specs.declared.work.Work.TheVariants as work
@@ -26,10 +27,11 @@ Begins pin (task.Load p) v =
 Begins pin (task.List p) v =
     (a : Global) × (at : Pin) × (pin ≡ Some at) × (v ≡ work.Read (children_reader a at p))
 Begins pin (task.Changes since) v =
-    (a : Global) × (at : Pin) × (pin ≡ Some at) × (v ≡ work.Changes (changes_reader a since at))
+    (a : Global) × (at : Pin) × (pin ≡ Some at)
+    × (v ≡ work.Changes (changes_reader a since at))
 Begins pin (task.Commit edit marks) v = v ≡ work.Plan edit marks
 Begins pin task.BackWrite v = v ≡ work.Upkeep upkeep.Write
-Begins pin task.BackRead v = v ≡ work.Upkeep upkeep.Read
+Begins pin task.BackRead v = (a : Global) × (v ≡ work.Upkeep (upkeep.Read (begun a)))
 Begins pin (task.Checkpoint i) v = v ≡ work.Upkeep (upkeep.Checkpoint i)
 Begins pin (task.Release i) v = v ≡ work.Upkeep (upkeep.Release i)
 Begins pin (task.Attach i) v = v ≡ work.Upkeep (upkeep.Attach i)
@@ -49,7 +51,7 @@ CanBegin pin (task.Stop k) = ⊥
 CanBegin pin (task.Recover k) = ⊥
 CanBegin pin _ = Unit {0}
 
--- the kind of the next step
+-- the kind of the next step of a committer that stands in a stage
 abbrev pub kind_of : Stage → Option StepKind
 kind_of stage.Mark = Some kind.Mark
 kind_of stage.Write = Some kind.Write

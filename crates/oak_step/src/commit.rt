@@ -11,11 +11,10 @@ ghost use Rattle.oak_node.specs.Notes.{with_notes};
 ghost use Rattle.oak_read.specs.Reading.{IsTable};
 ghost use Rattle.oak_step.specs.Parts.{IsDue, IsLast, IsLastFault, IsMarked, IsRefusedBy, IsUndone, IsWritten, base_at, end_events, needed_by, refusal_at};
 
-use crate::session::base_of;
-use crate::store;
 use jr_path::{DeepCopy, Item, List};
 use jr_rev::{RevVec, Revision};
 use jr_tree::Edit;
+use oak_acts::base_of;
 use oak_clash::{MarkAt, marked_paths};
 use oak_commit::Committer;
 use oak_doc::{Ask, Kept, OpFault, Reply, UpdateOp};
@@ -24,8 +23,9 @@ use oak_node::NodeMem;
 use oak_store::DocTable;
 use std::alloc::{AllocError, Global};
 
-// The draw of an edit with its marks, at the session's base: the paths of the marked nodes are noted with it, and the journal
-// keeps places for all that the commit appends from then on, but for its marks. Where memory is refused nothing changes.
+// The draw of an edit with its marks, at the session's base: the paths of the marked nodes are
+// noted with it, and the journal keeps places for all that the commit appends from then on, but for
+// its marks. Where memory is refused nothing changes.
 pub(crate) fn begin(
     alloc: Global,
     memory: &mut NodeMem,
@@ -105,7 +105,8 @@ fn prepared(
     }
 }
 
-// The draw of a commit of so many documents, with the paths of its marks and with places for all its events but its marks.
+// The draw of a commit of so many documents, with the paths of its marks and with places for all
+// its events but its marks.
 fn draw(
     alloc: Global,
     memory: &mut NodeMem,
@@ -145,8 +146,8 @@ fn next_update(committer: &Committer) -> Result<UpdateOp, AllocError>
     }
 }
 
-// The mark that is due: it is made, or the commit is refused since the other is committed. Where memory is refused nothing
-// changes.
+// The mark that is due: it is made, or the commit is refused since the other is committed. Where
+// memory is refused nothing changes.
 #[tactic(auto, using(crate::proofs::Acting::mark_asks, crate::proofs::Acting::mark_there))]
 pub(crate) fn mark(
     table: &mut DocTable,
@@ -201,7 +202,7 @@ fn mark_by(
     ensures place { events.new.places + 1 ≡ events.old.places }
     ensures order { IsTable table.new.documents }
 {
-    match store::update(table, op) {
+    match oak_acts::update(table, op) {
         Ok(before) => {
             events.push_kept(Event::Went(s, StepKind::Mark));
             // It takes memory for what is found in a document that is written, and this is a mark.
@@ -235,8 +236,8 @@ fn met(committer: &Committer) -> Result<(Item, Revision), AllocError>
     }
 }
 
-// The write of the document that is next, with a place that is kept for it. Where memory is refused for the write nothing
-// changes.
+// The write of the document that is next, with a place that is kept for it. Where memory is refused
+// for the write nothing changes.
 #[tactic(auto, using(crate::proofs::Acting::write_asks))]
 pub(crate) fn write(
     table: &mut DocTable,
@@ -258,7 +259,7 @@ pub(crate) fn write(
     ensures order { IsTable table.new.documents }
 {
     let op = next_update(committer)?;
-    match store::update(table, &op) {
+    match oak_acts::update(table, &op) {
         Ok(before) => {
             events.push_kept(Event::Went(s, StepKind::Write));
             // Where memory is refused for what is found in the document, the committer turns to
@@ -277,8 +278,8 @@ pub(crate) fn write(
     }
 }
 
-// The last write, with a place that is kept for it: the revision is committed, or it is refused since another has marked it.
-// Where memory is refused nothing changes.
+// The last write, with a place that is kept for it: the revision is committed, or it is refused
+// since another has marked it. Where memory is refused nothing changes.
 #[tactic(auto, using(crate::proofs::Acting::last_asks))]
 pub(crate) fn last(
     table: &mut DocTable,
@@ -300,7 +301,7 @@ pub(crate) fn last(
 {
     let op = next_update(committer)?;
     let r = committer.revision();
-    match store::update(table, &op) {
+    match oak_acts::update(table, &op) {
         Ok(before) => {
             events.push_kept(Event::Commit(r));
             // It takes memory for what is found in a document that is written, and all are.
@@ -356,7 +357,7 @@ pub(crate) fn undo(table: &mut DocTable, events: &mut Events, committer: &mut Co
     ensures places { events.new.places + 1 ≡ events.old.places }
     ensures order { IsTable table.new.documents }
 {
-    store::undo(table, committer.undo_id(), committer.revision());
+    oak_acts::undo(table, committer.undo_id(), committer.revision());
     events.push_kept(Event::Went(s, StepKind::Undo));
     // Undoing takes no memory.
     let _ = committer.feed(Reply::Undone);

@@ -1,12 +1,12 @@
-//! What a session is doing, and one step of it: on the documents, on the memory of its cluster node, and on the events.
+//! What a session is doing, and one step of it: on the documents, on the memory of its cluster
+//! node, and on the events.
 #![tactic(auto)]
 
+mod back;
 mod commit;
 mod load;
-mod session;
 mod settings;
 mod step;
-mod store;
 mod upkeep;
 mod work;
 

@@ -1,22 +1,21 @@
 // Loads, lists and readings of what commits changed, one document at a time.
-ghost use Rattle.std.specs.Prelude.{◌≡◌, IfOk, OnErr, OnOk};
-ghost use Rattle.std.specs.Option.{option_copied};
+ghost use Rattle.std.specs.Prelude.{◌≡◌, OnErr, OnOk};
 ghost use Rattle.oak_doc.specs.declared.asks.Ask.TheVariants as ask;
 ghost use Rattle.oak_read.specs.Reading.{answer, due, fed};
 ghost use Rattle.oak_changes.specs.Reading as changes;
 ghost use Rattle.oak_step.specs.Parts.{ReadsChangesOn, ReadsOn, end_of_reading};
 
 use crate::work::Work;
-use jr_path::DeepCopy;
+use oak_acts::answer;
 use oak_changes::ChangesReader;
-use oak_doc::{Ask, Document, Reply};
 use oak_machine::StepKind;
 use oak_port::{StepOut, TaskEnd};
 use oak_read::{ReadOut, Reader};
 use oak_store::DocTable;
 use std::alloc::AllocError;
 
-// The reader is fed what the documents answer to what is due, and where it is done then it gives what it read.
+// The reader is fed what the documents answer to what is due, and where it is done then it gives
+// what it read.
 pub(crate) fn read(table: &DocTable, reader: Reader) -> (Work, StepOut)
     ensures { ReadsOn table.now reader result.0 result.1 }
 {
@@ -41,8 +40,8 @@ fn read_once(table: &DocTable, reader: &mut Reader) -> Result<(), AllocError>
     reader.feed(reply)
 }
 
-// The reader of changes is fed what the documents answer to what is due, and where it is done then it
-// gives what the commits changed.
+// The reader of changes is fed what the documents answer to what is due, and where it is done then
+// it gives what the commits changed.
 pub(crate) fn read_changes(table: &DocTable, reader: ChangesReader) -> (Work, StepOut)
     ensures { ReadsChangesOn table.now reader result.0 result.1 }
 {
@@ -60,42 +59,12 @@ pub(crate) fn read_changes(table: &DocTable, reader: ChangesReader) -> (Work, St
 // Feeds the reader of changes what the documents answer to what is due.
 fn read_changes_once(table: &DocTable, reader: &mut ChangesReader) -> Result<(), AllocError>
     ensures ok { OnOk result
-        (reader.new ≡ changes.fed reader.old (answer table.now.documents (changes.due reader.old))) }
+        (reader.new
+        ≡ changes.fed reader.old (answer table.now.documents (changes.due reader.old))) }
     ensures err { OnErr result (reader.new ≡ reader.old) }
 {
     let reply = answer(table, reader.next()?)?;
     reader.feed(reply)
-}
-
-// What the documents answer to an ask.
-fn answer(table: &DocTable, asking: Ask) -> Result<Reply, AllocError>
-    ensures { IfOk result (λ reply. reply ≡ answer table.now.documents asking) }
-{
-    match asking {
-        Ask::Find(id) => {
-            let found = copied(table.find(&id));
-            drop(id);
-            Ok(Reply::Found(found?))
-        }
-        Ask::NextAfter(id) => {
-            let found = copied(table.next_after(id.as_ref()));
-            drop(id);
-            Ok(Reply::Found(found?))
-        }
-        other => {
-            drop(other);
-            Ok(Reply::Found(None))
-        }
-    }
-}
-
-fn copied(document: Option<&Document>) -> Result<Option<Document>, AllocError>
-    ensures { IfOk result (λ copy. copy ≡ option_copied document.entry) }
-{
-    match document {
-        Some(document) => Ok(Some(document.copy()?)),
-        None => Ok(None),
-    }
 }
 
 // What a reader gives that is done.

@@ -11,10 +11,11 @@ ghost use Rattle.oak_step.specs.Parts.{KeepsUp, parts};
 ghost use Rattle.oak_step.specs.Upkeeps.{set_checkpoint};
 ghost use Rattle.oak_step.specs.declared.upkeep.Upkeep.TheVariants as upkeep;
 
-use crate::store::change;
 use crate::work::Work;
 use jr_path::{DeepCopy, DocId, Text};
 use jr_rev::Pin;
+use oak_acts::change;
+use oak_doc::Reply;
 use oak_machine::{Event, Events, StepKind};
 use oak_node::NodeMem;
 use oak_port::{StepOut, TaskEnd};
@@ -40,7 +41,7 @@ pub(crate) fn checkpoint(
 {
     match memory.pin_of(s) {
         Some(pin) => match create(alloc, table, events, name, pin) {
-            Ok(()) => (Work::Rest, StepOut::Ready(TaskEnd::Set(None))),
+            Ok(_) => (Work::Rest, StepOut::Ready(TaskEnd::Set(None))),
             Err(AllocError) => (Work::Rest, StepOut::Memory),
         },
         None => unreachable!(),
@@ -53,7 +54,7 @@ fn create(
     events: &mut Events,
     name: &Text,
     pin: Pin,
-) -> Result<(), AllocError>
+) -> Result<Reply, AllocError>
     requires table { IsTable table.old.documents }
     ensures table { OnOk result (table.new ≡ after_update table.old (create_op name.now pin)) }
     ensures list { OnOk result
@@ -86,11 +87,11 @@ pub(crate) fn release(
 {
     match found(table, name) {
         Some(_) => match drop_checkpoint(alloc, table, events, s, name, true) {
-            Ok(()) => (Work::Rest, StepOut::Ready(TaskEnd::Set(None))),
+            Ok(_) => (Work::Rest, StepOut::Ready(TaskEnd::Set(None))),
             Err(AllocError) => (Work::Rest, StepOut::Memory),
         },
         None => match drop_checkpoint(alloc, table, events, s, name, false) {
-            Ok(()) => (Work::Rest, StepOut::Ready(TaskEnd::NoCheckpoint)),
+            Ok(_) => (Work::Rest, StepOut::Ready(TaskEnd::NoCheckpoint)),
             Err(AllocError) => (Work::Rest, StepOut::Memory),
         },
     }
@@ -103,7 +104,7 @@ fn drop_checkpoint(
     s: u32,
     name: &Text,
     there: bool,
-) -> Result<(), AllocError>
+) -> Result<Reply, AllocError>
     requires table { IsTable table.old.documents }
     ensures table { OnOk result (table.new ≡ after_update table.old (release_op name.now)) }
     ensures list { OnOk result (events.new.list ≡ events.old.list
@@ -147,11 +148,11 @@ pub(crate) fn attach(
 {
     match found(table, name) {
         Some(pin) => match put_reader(alloc, table, events, s, name, true) {
-            Ok(()) => (Work::Rest, StepOut::Ready(TaskEnd::Set(Some(pin)))),
+            Ok(_) => (Work::Rest, StepOut::Ready(TaskEnd::Set(Some(pin)))),
             Err(AllocError) => (Work::Rest, StepOut::Memory),
         },
         None => match put_reader(alloc, table, events, s, name, false) {
-            Ok(()) => (Work::Rest, StepOut::Ready(TaskEnd::NoCheckpoint)),
+            Ok(_) => (Work::Rest, StepOut::Ready(TaskEnd::NoCheckpoint)),
             Err(AllocError) => (Work::Rest, StepOut::Memory),
         },
     }
@@ -164,7 +165,7 @@ fn put_reader(
     s: u32,
     name: &Text,
     there: bool,
-) -> Result<(), AllocError>
+) -> Result<Reply, AllocError>
     requires table { IsTable table.old.documents }
     ensures table { OnOk result (table.new ≡ after_update table.old (attach_op s name.now)) }
     ensures list { OnOk result (events.new.list ≡ events.old.list
@@ -208,7 +209,7 @@ pub(crate) fn detach(
     ensures order { IsTable table.new.documents }
 {
     match drop_reader(alloc, table, events, s) {
-        Ok(()) => (Work::Rest, StepOut::Ready(TaskEnd::Pinned(pin))),
+        Ok(_) => (Work::Rest, StepOut::Ready(TaskEnd::Pinned(pin))),
         Err(AllocError) => (Work::Rest, StepOut::Memory),
     }
 }
@@ -218,7 +219,7 @@ fn drop_reader(
     table: &mut DocTable,
     events: &mut Events,
     s: u32,
-) -> Result<(), AllocError>
+) -> Result<Reply, AllocError>
     requires table { IsTable table.old.documents }
     ensures table { OnOk result (table.new ≡ after_update table.old (detach_op s)) }
     ensures list { OnOk result (events.new.list ≡ events.old.list ++ event.Detach s ∷ []) }

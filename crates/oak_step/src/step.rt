@@ -3,17 +3,14 @@ ghost use Rattle.std.specs.Prelude.{◌≡◌, ◌≤◌, ◌+◌, ◌++◌, IfO
 ghost use Rattle.oak_commit.specs.Stages.{stage_of};
 ghost use Rattle.oak_node.specs.Heads.{finished};
 ghost use Rattle.oak_read.specs.Reading.{IsTable};
-ghost use Rattle.oak_step.specs.Parts.{CanCommit, CanMove, CanStep, CommitsOn, EndsSo, HasRoot, IsOver, IsUpdating, Moves, Steps, Updates, UpdatesOn, end_events, needed, needed_by, parts};
+ghost use Rattle.oak_step.specs.Parts.{CanCommit, CanMove, CanStep, CommitsOn, EndsSo, IsOver, IsUpdating, Moves, Steps, Updates, UpdatesOn, end_events, needed, needed_by, parts};
 
 use crate::commit;
 use crate::load::{read, read_changes};
-use crate::session::{leave, login, refresh, refresh_kept};
 use crate::upkeep::keep_up;
 use crate::work::Work;
-use jr_path::List;
 use jr_rev::Revision;
-use jr_tree::Edit;
-use oak_clash::MarkAt;
+use oak_acts::{leave, login, refresh, refresh_kept};
 use oak_commit::{CommitEnd, Committer, Stage};
 use oak_doc::Reply;
 use oak_machine::{Events, StepKind};
@@ -34,7 +31,6 @@ pub fn step_work(
 ) -> (Work, StepOut)
     requires can { CanStep s memory.old events.old.places work }
     requires table { IsTable table.old.documents }
-    requires root { HasRoot table.old }
     ensures made { Steps s node (parts table.old memory.old events.old.list) work
         (parts table.new memory.new events.new.list) result.0 result.1 }
     ensures places { events.old.places + needed result.0 ≤ events.new.places + needed work }
@@ -92,7 +88,8 @@ fn commit_on(
     }
 }
 
-// The operation on a document that is due. Where memory is refused for it nothing changes, and the commit turns to undoing.
+// The operation on a document that is due. Where memory is refused for it nothing changes, and the
+// commit turns to undoing.
 #[tactic(auto, using(crate::proofs::Feeding::want_is, crate::proofs::Needs::want_needs))]
 fn update_on(
     table: &mut DocTable,
@@ -118,7 +115,8 @@ fn update_on(
     }
 }
 
-// The operation on a document that is due, with its kind. Where memory is refused nothing changes; none is refused for undoing.
+// The operation on a document that is due, with its kind. Where memory is refused nothing changes;
+// none is refused for undoing.
 #[tactic(auto, using(crate::proofs::Acting::mark_going, crate::proofs::Acting::write_going, crate::proofs::Acting::last_going))]
 fn update(
     table: &mut DocTable,

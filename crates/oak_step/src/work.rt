@@ -12,6 +12,7 @@ use oak_commit::{Committer, Stage};
 use oak_machine::StepKind;
 use oak_port::Task;
 use oak_read::Reader;
+use oak_sync::BackRead;
 use std::alloc::{AllocError, Global};
 
 /// What a session does.
@@ -60,7 +61,7 @@ impl Work {
             },
             Task::Commit(edit, marks) => Ok(Work::Plan(edit, marks)),
             Task::BackWrite => Ok(Work::Upkeep(Upkeep::Write)),
-            Task::BackRead => Ok(Work::Upkeep(Upkeep::Read)),
+            Task::BackRead => Ok(Work::Upkeep(Upkeep::Read(BackRead::new(alloc)))),
             Task::Checkpoint(name) => Ok(Work::Upkeep(Upkeep::Checkpoint(name))),
             Task::Release(name) => Ok(Work::Upkeep(Upkeep::Release(name))),
             Task::Attach(name) => Ok(Work::Upkeep(Upkeep::Attach(name))),

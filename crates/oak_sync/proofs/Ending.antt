@@ -36,7 +36,7 @@ use Rattle.oak_sync.proofs.Sets.{contains_cases, contains_none, first_of, behind
 
 -- ---- one list
 
-not_before_itself : (p : Path) → backward_cmp p p ≢ Less
+pub not_before_itself : (p : Path) → backward_cmp p p ≢ Less
 not_before_itself p h = let e : Less ≡ Equal = sym h ∙ tied_itself id_total (id.Node p) in cc
 
 -- of two, one alone is before the other
@@ -275,14 +275,14 @@ publishes a pending b is ds number =
 
 -- ---- background reads
 
-module _ (a : Global) (cluster : ℕ) (root : Document) where
-  read_root : (o : Option Document) → o ≡ Some root → with_root (learning.begun a cluster) o ≡ record (learning.begun a cluster) { step = reading.Learn; last = root.last_rev; sweep = root.sweep_rev }
+module _ (a : Global) (root : Document) where
+  read_root : (o : Option Document) → o ≡ Some root → with_root (learning.begun a) o ≡ record (learning.begun a) { step = reading.Learn; last = root.last_rev; sweep = root.sweep_rev }
   read_root None e = cc
-  read_root (Some d) e = ap (λ (o : Option Document). with_root (learning.begun a cluster) o) e
+  read_root (Some d) e = ap (λ (o : Option Document). with_root (learning.begun a) o) e
 
 pub learns : Learns
-learns a cluster ds root there =
-    let read = read_root a cluster root (ds (id.Node [])) there in record {
+learns a ds root there =
+    let read = read_root a root (ds (id.Node [])) there in record {
       first = refl;
       second = ap learning.due read;
       done = ap (λ (b : BackRead). learning.due (learning.fed b (answer ds (learning.due b)))) read;

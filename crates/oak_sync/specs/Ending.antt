@@ -98,7 +98,8 @@ abbrev pub after_replies : Documents → ℕ → BackRead → BackRead
 after_replies ds zero b = b
 after_replies ds (suc n) b = after_replies ds n (learning.fed b (answer ds (learning.due b)))
 
--- it asks for the root's document, once, then that the memory learns its two vectors, and has these at its end
+-- a background read asks for the root's document, once, then that the memory learns its two vectors,
+-- and has those at its end
 pub record LearnsOf (ds : Documents) (root : Document) (b : BackRead) : Type 0 where
   pub first : learning.due b ≡ ask.Find (id.Node [])
   pub second : learning.due (after_replies ds 1 b) ≡ ask.Memory (memory.Learn root.last_rev root.sweep_rev)
@@ -108,4 +109,5 @@ pub record LearnsOf (ds : Documents) (root : Document) (b : BackRead) : Type 0 w
 
 -- where the root has a document, a background read of documents at rest learns its two vectors
 abbrev pub Learns : Type 0
-Learns = (a : Global) (cluster : ℕ) (ds : Documents) (root : Document) → ds (id.Node []) ≡ Some root → LearnsOf ds root (learning.begun a cluster)
+Learns = (a : Global) (ds : Documents) (root : Document) → ds (id.Node []) ≡ Some root
+    → LearnsOf ds root (learning.begun a)

@@ -1,5 +1,5 @@
 -- A background read: what it asks for, and what it keeps after a reply.
-use Rattle.std.specs.Prelude.{ℕ, [], Option, None, Some}
+use Rattle.std.specs.Prelude.{[], Option, None, Some}
 use Rattle.std.specs.declared.alloc.Global.{Global}
 use Rattle.jr_path.specs.declared.path.DocId.TheVariants as id
 use Rattle.jr_rev.specs.Vectors.{no_entries}
@@ -15,9 +15,9 @@ use Rattle.oak_sync.specs.declared.back_read.Step.TheVariants as step
 use Rattle.oak_sync.specs.declared.stage.Stage.{Stage}
 use Rattle.oak_sync.specs.declared.stage.Stage.TheVariants as stage
 
--- a background read for a cluster node that has read nothing
-abbrev pub begun : Global → ℕ → BackRead
-begun a cluster = record { alloc = a; cluster = cluster; step = step.Root; last = no_entries; sweep = no_entries }
+-- a background read that has read nothing
+abbrev pub begun : Global → BackRead
+begun a = record { alloc = a; step = step.Root; last = no_entries; sweep = no_entries }
 
 -- what is due: the root's document, then that the memory learns both vectors
 abbrev pub due : BackRead → Ask

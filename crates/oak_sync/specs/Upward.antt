@@ -1,5 +1,5 @@
 -- Paths with all that is above them.
-use Rattle.std.specs.Prelude.{Bool, ◌||◌, ◌==◌, List, length, Option, None, Some, Contains, ◌↔◌, IsTrue}
+use Rattle.std.specs.Prelude.{Bool, ◌||◌, ◌==◌, List, length, Contains, ◌↔◌, IsTrue}
 use Rattle.std.specs.List.{filter_map, list_any}
 use Rattle.std.specs.List.Sorted.{IsStrictlySortedBy}
 use Rattle.std.specs.declared.cmp.Ordering.{Ordering}

@@ -16,7 +16,6 @@ use std::alloc::{AllocError, Global};
 /// memory.
 pub struct BackRead {
     alloc: Global,
-    cluster: u32,
     step: Step,
     // The `_lastRev` and the `_sweepRev` that were read; no entries before.
     last: RevVec,
@@ -28,7 +27,6 @@ impl Drop for BackRead {
     fn drop(self) {
         let BackRead {
             alloc: _,
-            cluster: _,
             step: _,
             last: _,
             sweep: _,
@@ -47,24 +45,16 @@ pub(crate) enum Step {
 }
 
 impl BackRead {
-    /// Begins a read for a cluster node.
-    pub fn new(alloc: Global, cluster: u32) -> Result<BackRead, AllocError>
-        ensures { IfOk result (λ read. read ≡ begun alloc cluster) }
+    /// Begins a read. It takes no memory.
+    pub fn new(alloc: Global) -> BackRead
+        ensures { result ≡ begun alloc }
     {
-        Ok(BackRead {
+        BackRead {
             alloc,
-            cluster,
             step: Step::Root,
             last: RevVec::none(),
             sweep: RevVec::none(),
-        })
-    }
-
-    /// The cluster node whose memory learns.
-    pub fn cluster(&self) -> u32
-        ensures { result ≡ self.now.cluster }
-    {
-        self.cluster
+        }
     }
 
     /// The one operation that is due, or Done. It takes no memory.

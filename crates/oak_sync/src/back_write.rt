@@ -50,6 +50,13 @@ impl BackWrite {
         })
     }
 
+    /// The revision that it publishes.
+    pub fn upto(&self) -> Revision
+        ensures { result ≡ self.now.upto }
+    {
+        self.upto
+    }
+
     /// The one operation that is due, or Done.
     pub fn next(&self) -> Result<Ask, AllocError>
         ensures { IfOk result (λ ask. ask ≡ due self.now) }

@@ -160,7 +160,7 @@ module _ (starts : Starts) (says : Says) (proper : StartsProper starts) (writes 
     seats_are : (x : ActorState) → shown_actor b ≡ x → map shown_actor (slice_set actors s b) ≡ slice_set (map shown_actor actors) s x
     seats_are x shown = map_set shown_actor actors s b ∙ ap (slice_set (map shown_actor actors) s) shown
 
-    -- it begins a task
+    -- the session begins a task
     pub begun_is : (v : Work) → shown_actor b ≡ record (shown_actor a) { work = v; began = length j.events.list } → es.list ≡ j.events.list → seated_now ≡ with_work w s v
     begun_is v shown list =
         ap (λ (xs : List Event). record seated_now { history = record w.history { past = reverse xs } }) list

@@ -1,27 +1,24 @@
 -- How many documents a background write tells at most.
-use Rattle.std.proofs.Common.{◌≡◌, ◌⊎◌, inl, inr, ℕ, zero, suc, ◌+◌, ◌<◌, ◌≤◌, Bool, true, false, cond, List, [], ◌∷◌, length, get_or, refl, sym, ap, ◌∙◌, arith}
-use Rattle.std.specs.Prelude.{Contains, take}
-use Rattle.std.specs.BTreeMap.{insert_entry}
-use Rattle.std.specs.List.{AllByRecursion, fold, range_with_len}
+use Rattle.std.proofs.Common.{◌≡◌, ◌⊎◌, inl, inr, ℕ, zero, suc, ◌+◌, ◌<◌, ◌≤◌, Bool, true, false, cond, ◌||◌, List, [], ◌∷◌, ◌++◌, length, length-append, length-map, map, get_or, refl, sym, ap, subst, ◌∙◌, arith}
+use Rattle.std.specs.Prelude.{Contains}
+use Rattle.std.specs.List.{AllByRecursion, list_any}
 use Rattle.std.specs.List.Sorted.{IsStrictlySortedBy}
-use Rattle.std.specs.Map.{keys_of}
-use Rattle.std.specs.Ordering.{eq_by_cmp, is_eq, match_ordering}
+use Rattle.std.specs.Ordering.{eq_by_cmp, is_eq}
 use Rattle.std.specs.declared.cmp.Ordering.{Ordering}
-use Rattle.std.specs.declared.cmp.Ordering.TheVariants.{Less, Equal, Greater}
-use Rattle.std.proofs.lemmas.List.FromFn.{length-range_with_len}
+use Rattle.std.specs.declared.cmp.Ordering.TheVariants.{Less}
+use Rattle.std.proofs.lemmas.List.Elements.{Contains-append_left, Contains-append_right}
 use mathlib.Core.Bool.{false≢true}
-use Rattle.jr_path.specs.Ids.{id_cmp}
-use Rattle.jr_path.specs.Names.{path_cmp}
-use Rattle.jr_path.specs.declared.path.DocId.{DocId}
-use Rattle.jr_path.specs.declared.path.DocId.TheVariants as id
+use Rattle.jr_path.specs.Names.{is_under, path_cmp}
 use Rattle.jr_path.specs.declared.path.Path.{Path}
+use Rattle.jr_path.proofs.Parts.{below_is_prefix}
 use Rattle.jr_tree.proofs.Pointwise.{same_path}
 use Rattle.oak_node.specs.declared.pending.Pending.{Pending}
 use Rattle.oak_node.specs.Memory.{NodeState}
 use Rattle.oak_node.specs.Notes.{IsPending}
 use Rattle.oak_node.specs.Seen.{seen_paths}
+use Rattle.oak_sync.specs.Upward.{AreUpward, backward_cmp, is_upward}
+use Rattle.oak_sync.proofs.Ending.{not_before_itself}
 use Rattle.core_world.proofs.Tables.{path_itself}
-use Rattle.oak_step.specs.Upkeeps.{told_above, told_at, told_ids}
 use Rattle.oak_world.specs.Left.{names_in}
 
 -- ---- members
@@ -51,14 +48,19 @@ without p (y ∷ ys) = cond (eq_by_cmp path_cmp p y) ys (y ∷ without p ys)
 one_behind : (l y a b : ℕ) → a ≡ l + b → y + a ≡ l + (y + b)
 one_behind l y a b h = omega (arith, h)
 
-without_total : (p : Path) (ys : List Path) → Contains ys p → names_in ys ≡ length p + names_in (without p ys)
-without_total p [] there = absurd (contains_none p there)
-without_total p (y ∷ ys) there = by (eq_by_cmp path_cmp p y) refl (contains_cases y p ys there) (without_total p ys)
+-- what all the paths weigh
+total : (Path → ℕ) → List Path → ℕ
+total f [] = 0
+total f (p ∷ ps) = f p + total f ps
+
+without_total : (f : Path → ℕ) (p : Path) (ys : List Path) → Contains ys p → total f ys ≡ f p + total f (without p ys)
+without_total f p [] there = absurd (contains_none p there)
+without_total f p (y ∷ ys) there = by (eq_by_cmp path_cmp p y) refl (contains_cases y p ys there) (without_total f p ys)
   where
-    by : (b : Bool) → eq_by_cmp path_cmp p y ≡ b → (y ≡ p) ⊎ Contains ys p → (Contains ys p → names_in ys ≡ length p + names_in (without p ys)) → length y + names_in ys ≡ length p + names_in (cond b ys (y ∷ without p ys))
-    by true e c rest = ap (λ (q : Path). length q + names_in ys) (sym (same_path p y e))
+    by : (b : Bool) → eq_by_cmp path_cmp p y ≡ b → (y ≡ p) ⊎ Contains ys p → (Contains ys p → total f ys ≡ f p + total f (without p ys)) → f y + total f ys ≡ f p + total f (cond b ys (y ∷ without p ys))
+    by true e c rest = ap (λ (q : Path). f q + total f ys) (sym (same_path p y e))
     by false e (inl same) rest = absurd (false≢true (sym e ∙ (ap (eq_by_cmp path_cmp p) same ∙ path_itself p)))
-    by false e (inr c) rest = one_behind (length p) (length y) (names_in ys) (names_in (without p ys)) (rest c)
+    by false e (inr c) rest = one_behind (f p) (f y) (total f ys) (total f (without p ys)) (rest c)
 
 without_has : (p q : Path) (ys : List Path) → Contains ys q → eq_by_cmp path_cmp p q ≡ false → Contains (without p ys) q
 without_has p q [] there apart = absurd (contains_none q there)
@@ -70,12 +72,16 @@ without_has p q (y ∷ ys) there apart = by (eq_by_cmp path_cmp p y) refl (conta
     by false e (inl same) rest = contains_first y q (without p ys) same
     by false e (inr c) rest = contains_behind y q (without p ys) (rest c)
 
-above_all : (x p : Path) (xs : List Path) → AllByRecursion (λ y. path_cmp x y ≡ Less) xs → Contains xs p → eq_by_cmp path_cmp x p ≡ false
-above_all x p [] all there = absurd (contains_none p there)
-above_all x p (y ∷ ys) all there = by (contains_cases y p ys there) (above_all x p ys all.1)
+-- an order that tells paths apart
+abbrev TellsApart : (Path → Path → Ordering) → Type 0
+TellsApart order = (x y : Path) → order x y ≡ Less → eq_by_cmp path_cmp x y ≡ false
+
+above_all : (order : Path → Path → Ordering) → TellsApart order → (x p : Path) (xs : List Path) → AllByRecursion (λ y. order x y ≡ Less) xs → Contains xs p → eq_by_cmp path_cmp x p ≡ false
+above_all order apart x p [] all there = absurd (contains_none p there)
+above_all order apart x p (y ∷ ys) all there = by (contains_cases y p ys there) (above_all order apart x p ys all.1)
   where
     by : (y ≡ p) ⊎ Contains ys p → (Contains ys p → eq_by_cmp path_cmp x p ≡ false) → eq_by_cmp path_cmp x p ≡ false
-    by (inl same) rest = ap (λ (q : Path). eq_by_cmp path_cmp x q) (sym same) ∙ ap is_eq all.0
+    by (inl same) rest = ap (λ (q : Path). eq_by_cmp path_cmp x q) (sym same) ∙ apart x y all.0
     by (inr c) rest = rest c
 
 none_least : (n : ℕ) → 0 ≤ n
@@ -84,49 +90,98 @@ none_least n = omega arith
 more_least : (l a b c : ℕ) → a ≤ b → c ≡ l + b → l + a ≤ c
 more_least l a b c h k = omega (arith, h, k)
 
--- paths that are each once among others have no more names
-fewer : (xs ys : List Path) → IsStrictlySortedBy path_cmp xs → ((p : Path) → Contains xs p → Contains ys p) → names_in xs ≤ names_in ys
+-- paths that are each once among others weigh no more
+fewer : (order : Path → Path → Ordering) → TellsApart order → (f : Path → ℕ) (xs ys : List Path) → IsStrictlySortedBy order xs → ((p : Path) → Contains xs p → Contains ys p) → total f xs ≤ total f ys
 unfolding IsStrictlySortedBy
-fewer [] ys sorted among = none_least (names_in ys)
-fewer (x ∷ xs) ys sorted among =
-    more_least (length x) (names_in xs) (names_in (without x ys)) (names_in ys)
-    (fewer xs (without x ys) sorted.1 (λ p c. without_has x p ys (among p (contains_behind x p xs c)) (above_all x p xs sorted.0 c)))
-    (without_total x ys (among x (contains_first x x xs refl)))
+fewer order apart f [] ys sorted among = none_least (total f ys)
+fewer order apart f (x ∷ xs) ys sorted among =
+    more_least (f x) (total f xs) (total f (without x ys)) (total f ys)
+    (fewer order apart f xs (without x ys) sorted.1 (λ p c. without_has x p ys (among p (contains_behind x p xs c)) (above_all order apart x p xs sorted.0 c)))
+    (without_total f x ys (among x (contains_first x x xs refl)))
 
--- ---- documents
+names_total : (ps : List Path) → total (λ p. length p) ps ≡ names_in ps
+names_total [] = refl
+names_total (p ∷ ps) = ap (λ (n : ℕ). length p + n) (names_total ps)
 
-put_count : (es : List (DocId × Bool)) (i : DocId) → length (keys_of (insert_entry id_cmp es i true)) ≤ suc (length (keys_of es))
-put_count [] i = omega arith
-put_count (e ∷ es) i = by (id_cmp i e.0) (put_count es i)
+count_total : (ps : List Path) → total (λ p. 1) ps ≡ length ps
+count_total [] = refl
+count_total (p ∷ ps) = ap suc (count_total ps)
+
+-- ---- the paths above others
+
+-- the paths above one, below the root, with itself
+firsts : Path → List Path
+firsts [] = []
+firsts (n ∷ p) = (n ∷ []) ∷ map (λ (q : Path). n ∷ q) (firsts p)
+
+firsts_count : (p : Path) → length (firsts p) ≡ length p
+firsts_count [] = refl
+firsts_count (n ∷ p) = ap suc (length-map (firsts p) (λ (q : Path). n ∷ q) ∙ firsts_count p)
+
+behind_name : (n : List ℕ) (q : Path) (ps : List Path) → Contains ps q → Contains (map (λ (r : Path). n ∷ r) ps) (n ∷ q)
+behind_name n q [] c = absurd (contains_none q c)
+behind_name n q (p ∷ ps) c = by (contains_cases p q ps c) (behind_name n q ps)
   where
-    by : (o : Ordering) → length (keys_of (insert_entry id_cmp es i true)) ≤ suc (length (keys_of es)) → length (keys_of (match_ordering o ((i, true) ∷ e ∷ es) ((e.0, true) ∷ es) (e ∷ insert_entry id_cmp es i true))) ≤ suc (suc (length (keys_of es)))
-    by Less rest = omega arith
-    by Equal rest = omega arith
-    by Greater rest = omega (arith, rest)
+    by : (p ≡ q) ⊎ Contains ps q → (Contains ps q → Contains (map (λ (r : Path). n ∷ r) ps) (n ∷ q)) → Contains (map (λ (r : Path). n ∷ r) (p ∷ ps)) (n ∷ q)
+    by (inl same) rest = contains_first (n ∷ p) (n ∷ q) (map (λ (r : Path). n ∷ r) ps) (ap (λ (r : Path). n ∷ r) same)
+    by (inr c) rest = contains_behind (n ∷ p) (n ∷ q) (map (λ (r : Path). n ∷ r) ps) (rest c)
 
-above_count : (p : Path) (ds : List ℕ) (es : List (DocId × Bool)) → length (keys_of (fold (told_at p) es ds)) ≤ length (keys_of es) + length ds
-above_count p [] es = omega arith
-above_count p (d ∷ ds) es =
-    let rest = above_count p ds (told_at p es d) in
-    let one = put_count es (id.Node (take (1 + d) p)) in
-    omega (arith, rest, one)
+among_firsts : (n : List ℕ) (q more : Path) → Contains (firsts ((n ∷ q) ++ more)) (n ∷ q)
+among_firsts n [] more = contains_first (n ∷ []) (n ∷ []) (map (λ (r : Path). n ∷ r) (firsts more)) refl
+among_firsts n (m ∷ q) more = contains_behind (n ∷ []) (n ∷ m ∷ q) (map (λ (r : Path). n ∷ r) (firsts ((m ∷ q) ++ more))) (behind_name n (m ∷ q) (firsts ((m ∷ q) ++ more)) (among_firsts m q more))
 
-none_more : (n : ℕ) → n ≤ n + 0
-none_more n = omega arith
+-- the paths above some, below the root, with themselves
+all_firsts : List Path → List Path
+all_firsts [] = []
+all_firsts (p ∷ ps) = firsts p ++ all_firsts ps
 
-both_more : (a b c r l t : ℕ) → a ≤ b + t → b ≤ c + r → r ≡ l → a ≤ c + (l + t)
-both_more a b c r l t h k e = omega (arith, h, k, e)
+all_count : (ps : List Path) → length (all_firsts ps) ≡ names_in ps
+all_count [] = refl
+all_count (p ∷ ps) = length-append (firsts p) (all_firsts ps) ∙ (ap (λ (n : ℕ). n + length (all_firsts ps)) (firsts_count p) ∙ ap (λ (n : ℕ). length p + n) (all_count ps))
 
-told_count : (ps : List Path) (es : List (DocId × Bool)) → length (keys_of (fold told_above es ps)) ≤ length (keys_of es) + names_in ps
-told_count [] es = none_more (length (keys_of es))
-told_count (p ∷ ps) es =
-    both_more (length (keys_of (fold told_above (told_above es p) ps))) (length (keys_of (told_above es p))) (length (keys_of es)) (length (range_with_len 0 (length p))) (length p) (names_in ps)
-    (told_count ps (told_above es p)) (above_count p (range_with_len 0 (length p)) es) (length-range_with_len 0 (length p))
-
--- there are no more of them than the notes have names
-pub told_few : (m : NodeState) (n : Pending) → IsPending m n → length (told_ids n.paths) ≤ names_in (seen_paths m.head m.notes)
-told_few m n pending =
-    along (length (told_ids n.paths)) (names_in n.paths) (names_in (seen_paths m.head m.notes)) (told_count n.paths []) (fewer n.paths (seen_paths m.head m.notes) pending.ordered (λ p c. (pending.noted p).0 c))
+among_all : (n : List ℕ) (q : Path) (ps : List Path) → list_any (λ (r : Path). is_under r (n ∷ q)) ps ≡ true → Contains (all_firsts ps) (n ∷ q)
+among_all n q [] h = absurd (false≢true h)
+among_all n q (p ∷ ps) h = by (is_under p (n ∷ q)) refl h (among_all n q ps)
   where
-    along : (a b c : ℕ) → a ≤ 0 + b → b ≤ c → a ≤ c
-    along a b c h k = omega (arith, h, k)
+    here : (more : Path) → p ≡ (n ∷ q) ++ more → Contains (firsts p) (n ∷ q)
+    here more is = subst (λ (r : Path). Contains (firsts r) (n ∷ q)) (sym is) (among_firsts n q more)
+
+    by : (b : Bool) → is_under p (n ∷ q) ≡ b → (b || list_any (λ (r : Path). is_under r (n ∷ q)) ps) ≡ true → (list_any (λ (r : Path). is_under r (n ∷ q)) ps ≡ true → Contains (all_firsts ps) (n ∷ q)) → Contains (firsts p ++ all_firsts ps) (n ∷ q)
+    by true e k rest = let more = (below_is_prefix p (n ∷ q)).0 e in Contains-append_left (firsts p) (all_firsts ps) (n ∷ q) (here more.0 more.1)
+    by false e k rest = Contains-append_right (firsts p) (all_firsts ps) (n ∷ q) (rest k)
+
+upward_among : (paths : List Path) (p : Path) → is_upward paths p ≡ true → Contains ([] ∷ all_firsts paths) p
+upward_among paths [] h = contains_first [] [] (all_firsts paths) refl
+upward_among paths (n ∷ q) h = contains_behind [] (n ∷ q) (all_firsts paths) (among_all n q paths h)
+
+backward_apart : TellsApart backward_cmp
+backward_apart x y less = by (eq_by_cmp path_cmp x y) refl
+  where
+    by : (b : Bool) → eq_by_cmp path_cmp x y ≡ b → eq_by_cmp path_cmp x y ≡ false
+    by true e = absurd (not_before_itself x (subst (λ (z : Path). backward_cmp x z ≡ Less) (sym (same_path x y e)) less))
+    by false e = e
+
+path_apart : TellsApart path_cmp
+path_apart x y less = ap is_eq less
+
+-- ---- a background write
+
+-- its documents are no more than the root's and one for each name
+pub upward_few : (paths up : List Path) → AreUpward paths up → length up ≤ suc (names_in paths)
+upward_few paths up are =
+    along (length up) (total (λ p. 1) up) (total (λ p. 1) ([] ∷ all_firsts paths)) (length (all_firsts paths)) (names_in paths)
+    (count_total up) (fewer backward_cmp backward_apart (λ p. 1) up ([] ∷ all_firsts paths) are.ordered (λ p c. upward_among paths p ((are.which p).0 c)))
+    (count_total ([] ∷ all_firsts paths)) (all_count paths)
+  where
+    along : (l t a f n : ℕ) → t ≡ l → t ≤ a → a ≡ suc f → f ≡ n → l ≤ suc n
+    along l t a f n h k e g = omega (arith, h, k, e, g)
+
+-- the notes that are taken have no more names than those that are there
+pub noted_few : (m : NodeState) (n : Pending) → IsPending m n → names_in n.paths ≤ names_in (seen_paths m.head m.notes)
+noted_few m n pending =
+    along (names_in n.paths) (total (λ p. length p) n.paths) (total (λ p. length p) (seen_paths m.head m.notes)) (names_in (seen_paths m.head m.notes))
+    (names_total n.paths) (fewer path_cmp path_apart (λ p. length p) n.paths (seen_paths m.head m.notes) pending.ordered (λ p c. (pending.noted p).0 c))
+    (names_total (seen_paths m.head m.notes))
+  where
+    along : (a t u b : ℕ) → t ≡ a → t ≤ u → u ≡ b → a ≤ b
+    along a t u b h k e = omega (arith, h, k, e)

@@ -46,11 +46,17 @@ use Rattle.oak_port.specs.declared.task.Task.TheVariants as task
 use Rattle.oak_port.specs.Ports.{Answers, Beside, Idle, Makes as Tells, MayBegin, Seat, Starting, OthersAlone, Steps as StepSeen, Work as Shows}
 use Rattle.oak_step.specs.declared.work.Work.{Work}
 use Rattle.oak_step.specs.declared.work.Work.TheVariants as work
+use Rattle.oak_sync.specs.Learning.{begun as begun_read, stage_of as stage_of_read}
+use Rattle.oak_sync.specs.declared.back_read.BackRead.{BackRead}
+use Rattle.oak_sync.specs.declared.stage.Stage.{Stage as Syncing}
+use Rattle.oak_sync.specs.declared.stage.Stage.TheVariants as syncing
+use Rattle.oak_step.proofs.Backs.{publishing_at}
 use Rattle.oak_step.specs.declared.upkeep.Upkeep.{Upkeep}
 use Rattle.oak_step.specs.declared.upkeep.Upkeep.TheVariants as upkeep
-use Rattle.oak_world.specs.Kept.{IsWorld, May, MayKeepUp}
-use Rattle.oak_step.specs.Parts.{CanKeepUp, CanStep, HasRoot, needed}
-use Rattle.oak_world.specs.Seen.{no_seat, seat_of, shown_at, shown_by, shown_upkeep, shown_work}
+use Rattle.oak_world.proofs.Ahead.{still_due}
+use Rattle.oak_world.specs.Kept.{IsWorld, May, MayKeepUp, MayLearn}
+use Rattle.oak_step.specs.Parts.{CanKeepUp, CanStep, IsReading, needed}
+use Rattle.oak_world.specs.Seen.{no_seat, seat_of, shown_at, shown_by, shown_read, shown_upkeep, shown_work}
 use Rattle.oak_step.specs.Works.{Begins, CanBegin, kind_due, kind_of}
 use Rattle.oak_world.specs.Steps.{HasCome, StepsIn, attached_after}
 use Rattle.oak_world.specs.Worlds.{ActorState, Story, WorldOf, actor_in, live, node_in, observing_of, reading_of, running_as, running_of, said_in, state_of, state_with, with_reply, with_work, work_in}
@@ -129,12 +135,18 @@ still_waits starts says w s name run = record {
 }
 
 -- background work is shown
+read_shown : (b : BackRead) (at : Syncing) → shown_read b at ≡ Idle → ⊥
+read_shown b syncing.Write h = cc
+read_shown b syncing.Publish h = cc
+read_shown b syncing.Read h = cc
+read_shown b syncing.Learn h = cc
+read_shown b syncing.Done h = cc
+
 upkeep_shown : (u : Upkeep) → shown_upkeep u ≡ Idle → ⊥
 upkeep_shown upkeep.Write h = cc
 upkeep_shown (upkeep.Noted n) h = cc
-upkeep_shown (upkeep.Publish ids r) h = cc
-upkeep_shown upkeep.Read h = cc
-upkeep_shown (upkeep.Learn last sweep) h = cc
+upkeep_shown (upkeep.Publish b) h = cc
+upkeep_shown (upkeep.Read b) h = read_shown b (stage_of_read b) h
 upkeep_shown (upkeep.Checkpoint i) h = cc
 upkeep_shown (upkeep.Release i) h = cc
 upkeep_shown (upkeep.Attach i) h = cc
@@ -194,7 +206,7 @@ begins_shown pin (task.List p) v h = ap shown_work h.3
 begins_shown pin (task.Changes since) v h = ap shown_work h.3
 begins_shown pin (task.Commit edit marks) v h = ap shown_work h
 begins_shown pin task.BackWrite v h = ap shown_work h
-begins_shown pin task.BackRead v h = ap shown_work h
+begins_shown pin task.BackRead v h = ap shown_work h.1
 begins_shown pin (task.Checkpoint i) v h = ap shown_work h
 begins_shown pin (task.Release i) v h = ap shown_work h
 begins_shown pin (task.Attach i) v h = ap shown_work h
@@ -238,11 +250,18 @@ module _ (starts : Starts) (says : Says) (proper : StartsProper starts) (writes 
       let few : length w.history.sessions ≤ 64 = is.few in
       omega arith
 
-  can_keep_up : (u : Upkeep) → HasCome (live w.history) s → CanKeepUp s (memory_of (state_of w) s) u
-  can_keep_up (upkeep.Checkpoint i) come = come_pinned come
-  can_keep_up upkeep.Detach come = come_pinned come
-  can_keep_up upkeep.Observe come = (below_few, come_pinned come)
-  can_keep_up _ come = tt
+  can_read : (b : BackRead) (at : Syncing) → MayLearn (live w.history) b at → IsReading at
+  can_read b syncing.Read may = tt
+  can_read b syncing.Learn may = tt
+  can_read b _ may = absurd may
+
+  can_keep_up : (u : Upkeep) → HasCome (live w.history) s → MayKeepUp (live w.history) s u → CanKeepUp s (memory_of (state_of w) s) u
+  can_keep_up (upkeep.Publish b) come may = publishing_at b (still_due b may.1)
+  can_keep_up (upkeep.Read b) come may = can_read b (stage_of_read b) may
+  can_keep_up (upkeep.Checkpoint i) come may = come_pinned come
+  can_keep_up upkeep.Detach come may = come_pinned come
+  can_keep_up upkeep.Observe come may = (below_few, come_pinned come)
+  can_keep_up _ come may = tt
 
   can_by : (v : Work) → (v ≡ work.Rest → ⊥) → work_in w.actors s ≡ v → May starts (live w.history) s v → (places : ℕ) → needed v ≤ places → length w.history.past < 2 ^ 63 → CanStep s (memory_of (state_of w) s) places v
   can_by work.Rest busy at may places kept short = absurd (busy refl)
@@ -256,15 +275,11 @@ module _ (starts : Starts) (says : Says) (proper : StartsProper starts) (writes 
   can_by (work.Changes r) busy at may places kept short = tt
   can_by (work.Plan edit marks) busy at may places kept short = let t : known_time (memory_of (state_of w) s) ≤ 0 + length w.history.past = time_known starts says proper (state_of w) is.kept.sessions (node_in w.history s) node in omega arith
   can_by (work.Commit c) busy at may places kept short = record { flying = flies_there starts says proper (state_of w) is.kept.sessions s (running_as s c) (ap (running_of s) at); unended = may.unended; counted = counted_stage c may.looked; kept = kept }
-  can_by (work.Upkeep u) busy at may places kept short = can_keep_up u may.0
+  can_by (work.Upkeep u) busy at may places kept short = can_keep_up u may.0 may.1
   can_by (work.Move r) busy at may places kept short = record { ended = moved_ended r may; pinned = come_pinned may.0; place = kept }
 
   pub can_step : work_in w.actors s ≢ work.Rest → (places : ℕ) → needed (work_in w.actors s) ≤ places → length w.history.past < 2 ^ 63 → CanStep s (memory_of (state_of w) s) places (work_in w.actors s)
   can_step busy = can_by (work_in w.actors s) busy refl (is.may s)
-
-  -- the root's document is there
-  pub has_root : HasRoot w.table
-  has_root = ap is_some is.kept.root.there
 
   -- the session may be told to do the task
   pub can_begin : (t : Task) → MayBegin starts (live w.history) s t → CanBegin (actor_pin (state_of w) s) t
@@ -412,7 +427,7 @@ module _ (starts : Starts) (says : Says) (proper : StartsProper starts) (writes 
         (observes_keeps (changes_reader h.0 since h.1) (notice_whole starts says proper (state_of w) is.kept s h.0 since h.1 (none_stopped w.history.sessions w.history.past is.unstopped s) few_sessions may.0 may.1 may.3 (own_pin h.1 may.2 h.2)) (record { login = may.0; stays = may.1 }) may.2)
     start_keeps (task.Commit edit marks) v may h = subst (λ (x : Work). IsWorld starts says (with_work w s x)) (sym h) (quiet_keeps (work.Plan edit marks) refl (refl, refl) (record { login = may.0; stays = may.1 }, may.2, may.3))
     start_keeps task.BackWrite v may h = upkeep_keeps upkeep.Write v h (record { login = may.0; stays = may.1 }) tt
-    start_keeps task.BackRead v may h = upkeep_keeps upkeep.Read v h (record { login = may.0; stays = may.1 }) tt
+    start_keeps task.BackRead v may h = upkeep_keeps (upkeep.Read (begun_read h.0)) v h.1 (record { login = may.0; stays = may.1 }) tt
     start_keeps (task.Checkpoint i) v may h = upkeep_keeps (upkeep.Checkpoint i) v h (record { login = may.0; stays = may.1 }) may.2
     start_keeps (task.Release i) v may h = upkeep_keeps (upkeep.Release i) v h (record { login = may.0; stays = may.1 }) tt
     start_keeps (task.Attach i) v may h = upkeep_keeps (upkeep.Attach i) v h (record { login = may.0; stays = may.1 }) may.2

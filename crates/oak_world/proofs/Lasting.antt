@@ -12,9 +12,13 @@ use Rattle.oak_machine.specs.Sessions.{is_attached}
 use Rattle.core_heads.proofs.Runs.{later_run}
 use Rattle.core_read.proofs.Latest.{at_most_trans}
 use Rattle.core_world.specs.Kept.{WereOnRoot}
+use Rattle.oak_sync.specs.Learning.{stage_of}
+use Rattle.oak_sync.specs.declared.back_read.BackRead.{BackRead}
+use Rattle.oak_sync.specs.declared.stage.Stage.{Stage as Syncing}
+use Rattle.oak_sync.specs.declared.stage.Stage.TheVariants as syncing
 use Rattle.oak_step.specs.declared.upkeep.Upkeep.{Upkeep}
 use Rattle.oak_step.specs.declared.upkeep.Upkeep.TheVariants as upkeep
-use Rattle.oak_world.specs.Kept.{IsOwn, MayKeepUp}
+use Rattle.oak_world.specs.Kept.{IsOwn, MayKeepUp, MayLearn}
 use Rattle.oak_world.specs.Worlds.{Story, live}
 use Rattle.oak_world.proofs.Others.{attached_left, reader_left}
 
@@ -35,16 +39,20 @@ module _ (starts : Starts) (says : Says) (h : Story) (nodes : AreNodes h.cluster
   own_lasts r m = (m.0, local_lasts starts says h.clusters h.sessions None nodes own h.past run r r.cluster m.1)
 
   module _ (others : AreOthers q own h.past) where
-    -- it is attached as before, or not
+    -- a session is attached as before, or not
     pub still : (b : Bool) → is_attached h.past q ≡ b → is_attached (own ++ h.past) q ≡ b
     still b m = attached_left q own h.past others ∙ m
+
+    learn_lasts : (b : BackRead) (at : Syncing) → MayLearn (live h) b at → MayLearn (after own (live h)) b at
+    learn_lasts b syncing.Read m = tt
+    learn_lasts b syncing.Learn m = were_lasts None h.clusters own h.past b.last b.sweep m
+    learn_lasts b _ m = absurd m
 
     pub upkeep_lasts : (u : Upkeep) → MayKeepUp (live h) q u → MayKeepUp (after own (live h)) q u
     upkeep_lasts upkeep.Write m = tt
     upkeep_lasts (upkeep.Noted n) m = own_lasts n.upto m
-    upkeep_lasts (upkeep.Publish ids r) m = (own_lasts r m.0, m.1)
-    upkeep_lasts upkeep.Read m = tt
-    upkeep_lasts (upkeep.Learn last sweep) m = were_lasts None h.clusters own h.past last sweep m
+    upkeep_lasts (upkeep.Publish b) m = (own_lasts b.upto m.0, m.1)
+    upkeep_lasts (upkeep.Read b) m = learn_lasts b (stage_of b) m
     upkeep_lasts (upkeep.Checkpoint i) m = still false m
     upkeep_lasts (upkeep.Release i) m = tt
     upkeep_lasts (upkeep.Attach i) m = still false m

@@ -1,10 +1,10 @@
 -- A step of a session lowers the number of steps that are left, or it waits.
 use mathlib.Core.Bool.{false≢true}
-use Rattle.std.proofs.Common.{◌≡◌, ◌⊎◌, inl, inr, ℕ, suc, ◌+◌, ◌<◌, ◌≤◌, true, Option, Some, None, Result, Ok, Err, List, [], ◌∷◌, ◌++◌, length, drop, map, is_some, refl, sym, ap, subst, ◌∙◌, arith, length-append}
-use Rattle.std.specs.Prelude.{slice_get, slice_set}
+use Rattle.std.proofs.Common.{◌≡◌, ◌⊎◌, inl, inr, ℕ, suc, ◌+◌, ◌-◌, ◌<◌, ◌≤◌, true, cond, Option, Some, None, Result, Ok, Err, List, [], ◌∷◌, ◌++◌, length, drop, map, is_some, refl, sym, ap, subst, ◌∙◌, arith, length-append}
+use Rattle.std.specs.Prelude.{nat_lt, slice_get, slice_set}
 use Rattle.std.specs.Option.{unwrap_or}
+use Rattle.std.proofs.lemmas.Bool.{lt-ltb}
 use Rattle.std.proofs.lemmas.Option.{slice_get_within}
-use Rattle.jr_path.specs.declared.path.DocId.{DocId}
 use Rattle.jr_path.specs.declared.path.DocId.TheVariants as id
 use Rattle.jr_path.specs.declared.path.Item.{Item}
 use Rattle.jr_path.specs.declared.path.Path.{Path}
@@ -36,18 +36,24 @@ use Rattle.core_world.specs.States.{State, base_in, memory_of, nodes_in}
 use Rattle.core_world.specs.Steps.{after_mark, after_update, after_write, marked_by, with_result}
 use Rattle.oak_step.proofs.Stages.{finish_stage}
 use Rattle.oak_step.specs.Parts.{EndsSo, changes_on, committed, marked, read_on}
-use Rattle.oak_step.specs.Upkeeps.{told_ids}
+use Rattle.oak_node.specs.declared.pending.Pending.{Pending}
+use Rattle.oak_sync.specs.Learning as learning
+use Rattle.oak_sync.specs.declared.back_read.BackRead.{BackRead}
+use Rattle.oak_sync.specs.declared.back_write.BackWrite.{BackWrite}
+use Rattle.oak_sync.specs.declared.stage.Stage.{Stage}
+use Rattle.oak_sync.specs.declared.stage.Stage.TheVariants as syncing
 use Rattle.oak_step.specs.declared.upkeep.Upkeep.{Upkeep}
 use Rattle.oak_step.specs.declared.upkeep.Upkeep.TheVariants as upkeep
 use Rattle.oak_step.specs.declared.work.Work.{Work}
 use Rattle.oak_step.specs.declared.work.Work.TheVariants as work
-use Rattle.oak_world.proofs.Counting.{told_few}
+use Rattle.oak_world.proofs.Ahead.{begins_ahead, is_within}
+use Rattle.oak_world.proofs.Counting.{noted_few, upward_few}
 use Rattle.oak_world.proofs.Observing.{changes_lower}
 use Rattle.oak_world.proofs.Reading.{read_lowers}
 use Rattle.oak_world.proofs.States.{actor_set}
-use Rattle.oak_world.specs.Kept.{IsWorld, May}
-use Rattle.oak_world.specs.Left.{changes_left, commit_left, left_in, left_of, marks_left, reads_left, upkeep_left, writes_left}
-use Rattle.oak_world.specs.Steps.{Makes, MakesCommit, MakesUpdate, MakesUpkeep, Publishes, StepsIn}
+use Rattle.oak_world.specs.Kept.{EndsInRoot, IsWorld, May, MayKeepUp}
+use Rattle.oak_world.specs.Left.{changes_left, commit_left, learn_left, left_in, left_of, marks_left, names_in, reads_left, upkeep_left, writes_left}
+use Rattle.oak_world.specs.Steps.{Learns, Makes, MakesCommit, MakesUpdate, MakesUpkeep, Publishes, PublishesFirst, StepsIn}
 use Rattle.oak_world.specs.Worlds.{ActorState, WorldOf, idle, live, running_as, state_of, work_in}
 
 -- ---- basics
@@ -91,7 +97,7 @@ does_now w s u o m = by (slice_get w.actors s) refl
 
 -- ---- a commit that is settled
 
--- it rests, its base is to move, or a document is undone
+-- the session rests, its base is to move, or a document is undone
 abbrev GoesDown : Committing → Work → Type 0
 GoesDown c x = (x ≡ work.Rest) ⊎ ((x ≡ work.Move c.revision) ⊎ ((x ≡ work.Commit (with_undone c)) × (p : Path) × (rest : List Path) × (c.writer.written ≡ p ∷ rest)))
 
@@ -123,7 +129,7 @@ settled_less s t m c e x is (inr (inr k)) =
 
 -- ---- a commit that is going on
 
--- it has been settled how it ends
+-- a commit has been settled, how it ends
 abbrev Turns : Committing → Work → Type 0
 Turns c x = (d : Committing) × (e : CommitEnd) × (x ≡ work.Commit d) × (d.outcome ≡ Some e) × (length d.writer.written ≤ suc (length c.writer.written))
 
@@ -138,7 +144,7 @@ of_cons : {A : Type 0} (P : A → List A → Type 0) (x y : A) (xs ys : List A) 
 of_cons {A} P x y xs ys e h = subst (λ (z : A). P z ys) (let k : x ∷ xs ≡ y ∷ ys = e in cc) (subst (λ (zs : List A). P x zs) (let k : x ∷ xs ≡ y ∷ ys = e in cc) h)
 
 module _ (s : ℕ) (t u : State) (c : Committing) (x : Work) (going : c.outcome ≡ None) where
-  -- it turns to undoing, for want of memory or refused
+  -- the commit turns to undoing, for want of memory or refused
   turns_wanting : x ≡ work.Commit (wanting c) → Turns c x
   turns_wanting is = (wanting c, end.Memory, is, refl, one_more (length c.writer.written))
 
@@ -151,7 +157,7 @@ module _ (s : ℕ) (t u : State) (c : Committing) (x : Work) (going : c.outcome 
   turns_written : (p : Path) (rest : List Path) (d : Committing) → x ≡ work.Commit d → d ≡ wanting (written_alone c p rest (nodes_in t.table p)) → Turns c x
   turns_written p rest d is same = (wanting (written_alone c p rest (nodes_in t.table p)), end.Memory, is ∙ ap work.Commit same, refl, appended c.writer.written p)
 
-  -- it doesn't undo, and it doesn't end
+  -- a commit that is going on doesn't undo, and it doesn't end
   undoes_not : undoes c.outcome ≡ true → ⊥
   undoes_not h = false≢true (sym (ap undoes going) ∙ h)
 
@@ -239,7 +245,7 @@ at_most_one : (a b : ℕ) → a ≡ b → a < suc b
 at_most_one a b h = omega (arith, h)
 
 module _ (s : ℕ) (w u : State) (c : Committing) (x : Work) (o : StepOut) (m n : NodeState) (going : c.outcome ≡ None) (makes : MakesCommit s w c u x o) where
-  -- it turns to its end
+  -- the commit turns to its end
   turned : (fs : List Met) (ps : List Path) → c.writer.due ≡ fs → c.writer.left ≡ ps → Turns c x → left_of s u.table n x < left_of s w.table m (work.Commit c)
   turned fs ps due left k =
       turns_less (marks_left c.revision (writes_left c.revision c.base c.edit.writes c.marks ps) fs c.roots w.table) (length c.writer.written) (length ps) _ _
@@ -294,9 +300,16 @@ commit_less s w u c x o m n roots makes = by c.outcome refl
         on [] (p ∷ ps) due left = write_less s w u c x o m n going makes p ps due left
         on [] [] due left = last_less s w u c x o m n going makes due left
 
--- the commit roots that a session keeps are those of whom it is to mark
+-- a background write has still to tell the root
+abbrev IsGoing : Upkeep → Type 0
+IsGoing (upkeep.Publish b) = EndsInRoot b
+IsGoing _ = Unit {0}
+
+-- the commit roots that a session keeps are those of whom it is to mark, and its background write has
+-- still to tell the root
 abbrev Rooted : Past → Work → Type 0
 Rooted past (work.Commit c) = HasRoots past c
+Rooted past (work.Upkeep u) = IsGoing u
 Rooted past _ = Unit {0}
 
 -- what a session may do keeps its roots
@@ -309,7 +322,19 @@ rooted starts h s work.Refresh may = tt
 rooted starts h s (work.Read r) may = tt
 rooted starts h s (work.Changes r) may = tt
 rooted starts h s (work.Plan edit marks) may = tt
-rooted starts h s (work.Upkeep u) may = tt
+rooted starts h s (work.Upkeep u) may = by u may.1
+  where
+    by : (u : Upkeep) → MayKeepUp h s u → IsGoing u
+    by (upkeep.Publish b) m = m.1
+    by upkeep.Write m = tt
+    by (upkeep.Noted n) m = tt
+    by (upkeep.Read b) m = tt
+    by (upkeep.Checkpoint i) m = tt
+    by (upkeep.Release i) m = tt
+    by (upkeep.Attach i) m = tt
+    by upkeep.Detach m = tt
+    by (upkeep.Detaching pin) m = tt
+    by upkeep.Observe m = tt
 rooted starts h s (work.Move r) may = tt
 
 -- ---- background work
@@ -321,50 +346,79 @@ module _ (s : ℕ) (w u : State) (m n : NodeState) (x : Work) where
   rest_less : (k : ℕ) → x ≡ work.Rest → now < suc k
   rest_less k is = let z : now ≡ 0 = ap (left_of s u.table n) is in omega (arith, z)
 
-  publish_less : (ids : List DocId) (r : Revision) (o : StepOut) → Publishes s w ids r u x o → now < suc (length ids)
-  publish_less ids r (answers.Went kind.Back) h =
-      let z : now ≡ suc (length h.0) = ap (left_of s u.table n) h.4 in
-      let l : length ids ≡ length h.0 + 1 = ap length h.2 ∙ length-append h.0 (h.1 ∷ []) in
-      omega (arith, z, l)
-  publish_less ids r (answers.Ready (ends.Published o)) h = rest_less (length ids) h.3
-  publish_less ids r answers.Memory h = rest_less (length ids) h.1
-  publish_less ids r _ h = absurd h
+  out_less : (b : BackWrite) → EndsInRoot b → x ≡ work.Rest → now < length b.paths - b.written
+  out_less b ahead is =
+      let z : now ≡ 0 = ap (left_of s u.table n) is in
+      let less = is_within b ahead in
+      omega (arith, z, less)
 
-  upkeep_less : (k : Upkeep) (o : StepOut) → MakesUpkeep s w k u x o → now < upkeep_left (memory_of w s) k
-  upkeep_less upkeep.Write (answers.Went kind.Back) h =
-      let z : now ≡ suc (length (told_ids h.0.paths)) = ap (left_of s u.table n) h.3 in
-      let few = told_few (memory_of w s) h.0 h.1 in
+  some_less : (at : Stage) → x ≡ work.Rest → now < learn_left at
+  some_less syncing.Write is = rest_less 0 is
+  some_less syncing.Publish is = rest_less 0 is
+  some_less syncing.Read is = rest_less 1 is
+  some_less syncing.Learn is = rest_less 0 is
+  some_less syncing.Done is = rest_less 0 is
+
+  publish_less : (b : BackWrite) → EndsInRoot b → (o : StepOut) → Publishes s w b u x o → now < length b.paths - b.written
+  publish_less b ahead (answers.Went kind.Back) h =
+      let z : now ≡ length b.paths - cond (nat_lt b.written (length b.paths)) (b.written + 1) b.written = ap (left_of s u.table n) h.4 in
+      let less = is_within b ahead in
+      let next : cond (nat_lt b.written (length b.paths)) (b.written + 1) b.written ≡ b.written + 1 = ap (λ c. cond c (b.written + 1) b.written) (lt-ltb b.written (length b.paths) less) in
+      omega (arith, z, less, next)
+  publish_less b ahead (answers.Ready (ends.Published o)) h = out_less b ahead h.3
+  publish_less b ahead answers.Memory h = out_less b ahead h.1
+  publish_less b ahead _ h = absurd h
+
+  begin_less : (p : Pending) (o : StepOut) → PublishesFirst s w p u x o → now < suc (names_in p.paths)
+  begin_less p o (inl h) = rest_less (names_in p.paths) h.2
+  begin_less p o (inr h) =
+      let none : (h.1).written ≡ 0 = ap (λ (c : BackWrite). c.written) (h.2).state in
+      let few = upward_few p.paths (h.1).paths (h.2).paths in
+      let less = publish_less h.1 (begins_ahead h.0 p h.1 h.2) o h.3 in
+      omega (arith, none, few, less)
+
+  learn_less : (b : BackRead) (o : StepOut) → Learns s w b u x o → now < learn_left (learning.stage_of b)
+  learn_less b (answers.Went kind.Back) h =
+      subst (λ (at : Stage). now < learn_left at) (sym h.0)
+      (let z : now ≡ 1 = ap (left_of s u.table n) h.2 ∙ one (nodes_in w.table []) in omega (arith, z))
+    where
+      one : (o : Option Document) → learn_left (learning.stage_of (learning.with_root b o)) ≡ 1
+      one None = refl
+      one (Some d) = refl
+  learn_less b (answers.Ready (ends.Learnt v)) h = some_less (learning.stage_of b) h.3
+  learn_less b answers.Memory h = some_less (learning.stage_of b) h.1
+  learn_less b _ h = absurd h
+
+  upkeep_less : (k : Upkeep) → IsGoing k → (o : StepOut) → MakesUpkeep s w k u x o → now < upkeep_left (memory_of w s) k
+  upkeep_less upkeep.Write going (answers.Went kind.Back) h =
+      let z : now ≡ suc (names_in (h.0).paths) = ap (left_of s u.table n) h.3 in
+      let few = noted_few (memory_of w s) h.0 h.1 in
       omega (arith, z, few)
-  upkeep_less upkeep.Write answers.Memory h = rest_less _ h.1
-  upkeep_less upkeep.Write _ h = absurd h
-  upkeep_less (upkeep.Noted p) o h = publish_less (told_ids p.paths) p.upto o h
-  upkeep_less (upkeep.Publish ids r) o h = publish_less ids r o h
-  upkeep_less upkeep.Read (answers.Went kind.Back) h = let z : now ≡ 1 = ap (left_of s u.table n) h.3 in omega (arith, z)
-  upkeep_less upkeep.Read answers.Memory h = rest_less 1 h.1
-  upkeep_less upkeep.Read _ h = absurd h
-  upkeep_less (upkeep.Learn last sweep) (answers.Ready (ends.Learnt v)) h = rest_less 0 h.2
-  upkeep_less (upkeep.Learn last sweep) answers.Memory h = rest_less 0 h.1
-  upkeep_less (upkeep.Learn last sweep) _ h = absurd h
-  upkeep_less (upkeep.Checkpoint i) (answers.Ready (ends.Set None)) h = rest_less 0 h.3
-  upkeep_less (upkeep.Checkpoint i) answers.Memory h = rest_less 0 h.1
-  upkeep_less (upkeep.Checkpoint i) _ h = absurd h
-  upkeep_less (upkeep.Release i) (answers.Ready (ends.Set None)) h = rest_less 0 h.2
-  upkeep_less (upkeep.Release i) (answers.Ready ends.NoCheckpoint) h = rest_less 0 h.2
-  upkeep_less (upkeep.Release i) answers.Memory h = rest_less 0 h.1
-  upkeep_less (upkeep.Release i) _ h = absurd h
-  upkeep_less (upkeep.Attach i) (answers.Ready (ends.Set (Some pin))) h = rest_less 0 h.2
-  upkeep_less (upkeep.Attach i) (answers.Ready ends.NoCheckpoint) h = rest_less 0 h.2
-  upkeep_less (upkeep.Attach i) answers.Memory h = rest_less 0 h.1
-  upkeep_less (upkeep.Attach i) _ h = absurd h
-  upkeep_less upkeep.Detach (answers.Went kind.Pin) h = let z : now ≡ 1 = ap (left_of s u.table n) h.1 in omega (arith, z)
-  upkeep_less upkeep.Detach answers.Memory h = rest_less 1 h.1
-  upkeep_less upkeep.Detach _ h = absurd h
-  upkeep_less (upkeep.Detaching pin) (answers.Ready (ends.Pinned o)) h = rest_less 0 h.2
-  upkeep_less (upkeep.Detaching pin) answers.Memory h = rest_less 0 h.1
-  upkeep_less (upkeep.Detaching pin) _ h = absurd h
-  upkeep_less upkeep.Observe (answers.Ready (ends.Pinned pin)) h = rest_less 0 h.2
-  upkeep_less upkeep.Observe answers.Memory h = rest_less 0 h.1
-  upkeep_less upkeep.Observe _ h = absurd h
+  upkeep_less upkeep.Write going answers.Memory h = rest_less _ h.1
+  upkeep_less upkeep.Write going _ h = absurd h
+  upkeep_less (upkeep.Noted p) going o h = begin_less p o h
+  upkeep_less (upkeep.Publish b) going o h = publish_less b going o h
+  upkeep_less (upkeep.Read b) going o h = learn_less b o h
+  upkeep_less (upkeep.Checkpoint i) going (answers.Ready (ends.Set None)) h = rest_less 0 h.3
+  upkeep_less (upkeep.Checkpoint i) going answers.Memory h = rest_less 0 h.1
+  upkeep_less (upkeep.Checkpoint i) going _ h = absurd h
+  upkeep_less (upkeep.Release i) going (answers.Ready (ends.Set None)) h = rest_less 0 h.2
+  upkeep_less (upkeep.Release i) going (answers.Ready ends.NoCheckpoint) h = rest_less 0 h.2
+  upkeep_less (upkeep.Release i) going answers.Memory h = rest_less 0 h.1
+  upkeep_less (upkeep.Release i) going _ h = absurd h
+  upkeep_less (upkeep.Attach i) going (answers.Ready (ends.Set (Some pin))) h = rest_less 0 h.2
+  upkeep_less (upkeep.Attach i) going (answers.Ready ends.NoCheckpoint) h = rest_less 0 h.2
+  upkeep_less (upkeep.Attach i) going answers.Memory h = rest_less 0 h.1
+  upkeep_less (upkeep.Attach i) going _ h = absurd h
+  upkeep_less upkeep.Detach going (answers.Went kind.Pin) h = let z : now ≡ 1 = ap (left_of s u.table n) h.1 in omega (arith, z)
+  upkeep_less upkeep.Detach going answers.Memory h = rest_less 1 h.1
+  upkeep_less upkeep.Detach going _ h = absurd h
+  upkeep_less (upkeep.Detaching pin) going (answers.Ready (ends.Pinned o)) h = rest_less 0 h.2
+  upkeep_less (upkeep.Detaching pin) going answers.Memory h = rest_less 0 h.1
+  upkeep_less (upkeep.Detaching pin) going _ h = absurd h
+  upkeep_less upkeep.Observe going (answers.Ready (ends.Pinned pin)) h = rest_less 0 h.2
+  upkeep_less upkeep.Observe going answers.Memory h = rest_less 0 h.1
+  upkeep_less upkeep.Observe going _ h = absurd h
 
   -- ---- all
 
@@ -404,7 +458,7 @@ module _ (s : ℕ) (w u : State) (m n : NodeState) (x : Work) where
   less table (work.Move r) (answers.Wait o) roots h = inl tt
   less table (work.Move r) (answers.Ready (ends.Commit (end.Committed o))) roots h = inr (rest_less 0 h.1)
   less table (work.Move r) _ roots h = absurd h
-  less table (work.Upkeep k) o roots h = inr (upkeep_less k o h)
+  less table (work.Upkeep k) o going h = inr (upkeep_less k going o h)
   less table work.Rest o roots h = absurd h
 
 -- a step lowers the number, or it waits
@@ -414,34 +468,40 @@ lowers {L} starts says w u s o is m =
     (less s (state_of w) (state_of u) (memory_of (state_of w) s) (memory_of (state_of u) s) m.does is.table (work_in w.actors s) o (rooted starts (live w.history) s (work_in w.actors s) (is.may s)) m.makes)
 
 -- nothing is left only where nothing is done
-pub over : (s : ℕ) (t : Table) (m : NodeState) (v : Work) → left_of s t m v ≡ 0 → v ≡ work.Rest
-over s t m work.Rest h = refl
-over s t m work.Login h = absurd (omega (arith, h))
-over s t m work.End h = absurd (omega (arith, h))
-over s t m work.Refresh h = absurd (omega (arith, h))
-over s t m (work.Read r) h = absurd (omega (arith, h))
-over s t m (work.Changes r) h = absurd (omega (arith, h))
-over s t m (work.Plan edit marks) h = absurd (omega (arith, h))
-over s t m (work.Commit c) h = absurd (by c.outcome h)
+pub over : (starts : Starts) (h : History) (s : ℕ) (t : Table) (m : NodeState) (v : Work) → May starts h s v → left_of s t m v ≡ 0 → v ≡ work.Rest
+over starts past s t m work.Rest may h = refl
+over starts past s t m work.Login may h = absurd (omega (arith, h))
+over starts past s t m work.End may h = absurd (omega (arith, h))
+over starts past s t m work.Refresh may h = absurd (omega (arith, h))
+over starts past s t m (work.Read r) may h = absurd (omega (arith, h))
+over starts past s t m (work.Changes r) may h = absurd (omega (arith, h))
+over starts past s t m (work.Plan edit marks) may h = absurd (omega (arith, h))
+over starts past s t m (work.Commit c) may h = absurd (by c.outcome h)
   where
     by : (o : Option CommitEnd) → commit_left t c o ≡ 0 → ⊥
     by None h = omega (arith, h)
     by (Some e) h = omega (arith, h)
-over s t m (work.Move r) h = absurd (omega (arith, h))
-over s t m (work.Upkeep u) h = absurd (by u h)
+over starts past s t m (work.Move r) may h = absurd (omega (arith, h))
+over starts past s t m (work.Upkeep u) may h = absurd (by u (rooted starts past s (work.Upkeep u) may) h)
   where
-    by : (u : Upkeep) → upkeep_left m u ≡ 0 → ⊥
-    by upkeep.Write h = omega (arith, h)
-    by (upkeep.Noted n) h = omega (arith, h)
-    by (upkeep.Publish ids r) h = omega (arith, h)
-    by upkeep.Read h = omega (arith, h)
-    by (upkeep.Learn last sweep) h = omega (arith, h)
-    by (upkeep.Checkpoint i) h = omega (arith, h)
-    by (upkeep.Release i) h = omega (arith, h)
-    by (upkeep.Attach i) h = omega (arith, h)
-    by upkeep.Detach h = omega (arith, h)
-    by (upkeep.Detaching pin) h = omega (arith, h)
-    by upkeep.Observe h = omega (arith, h)
+    by : (u : Upkeep) → IsGoing u → upkeep_left m u ≡ 0 → ⊥
+    by upkeep.Write g h = omega (arith, h)
+    by (upkeep.Noted n) g h = omega (arith, h)
+    by (upkeep.Publish b) g h = let less = is_within b g in omega (arith, h, less)
+    by (upkeep.Read b) g h = at (learning.stage_of b) h
+      where
+        at : (p : Stage) → learn_left p ≡ 0 → ⊥
+        at syncing.Write h = omega (arith, h)
+        at syncing.Publish h = omega (arith, h)
+        at syncing.Read h = omega (arith, h)
+        at syncing.Learn h = omega (arith, h)
+        at syncing.Done h = omega (arith, h)
+    by (upkeep.Checkpoint i) g h = omega (arith, h)
+    by (upkeep.Release i) g h = omega (arith, h)
+    by (upkeep.Attach i) g h = omega (arith, h)
+    by upkeep.Detach g h = omega (arith, h)
+    by (upkeep.Detaching pin) g h = omega (arith, h)
+    by upkeep.Observe g h = omega (arith, h)
 
 -- in worlds with the same documents and memories a session that does one thing has as many steps left
 pub same_left : {L : Type 0} (w u : WorldOf L) (s : ℕ) → state_of u ≡ state_of w → work_in u.actors s ≡ work_in w.actors s → left_in u s ≡ left_in w s

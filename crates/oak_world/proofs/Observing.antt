@@ -49,7 +49,7 @@ as_many (e ∷ es) = ap suc (as_many es)
 module _ (t : Table) where
   -- ---- what an answer leads to
 
-  -- it stands at the node of this path, in at most this phase, and has the documents behind it ahead
+  -- a reader of changes stands at the node of this path, in at most this phase, and has the documents behind it ahead
   abbrev IsPast : ℕ → Path → ChangesReader → Type 0
   IsPast n p r = (rank (phase_told r) ≤ n) × (documents_ahead t r ≡ documents_behind t p)
 

@@ -16,7 +16,7 @@ attached_by whole (event.Refresh t v ∷ own) before q h = let n = neither (t ==
 attached_by whole (event.Attach t id ∷ own) before q h = let n = neither (t == q) _ h in other (t == q) _ _ _ n.0 (attached_by whole own before q n.1)
 attached_by whole (e ∷ own) before q h = attached_by whole own before q (neither (is_event_of whole q e) _ h).1
 
--- it is attached as before
+-- a session is attached as before
 pub attached_left : (q : ℕ) (own before : Past) → AreOthers q own before → is_attached (own ++ before) q ≡ is_attached before q
 attached_left q own before others = attached_by (own ++ before) own before q others
 
@@ -26,7 +26,7 @@ reader_by whole (event.Attach t id ∷ own) before q h = let n = neither (t == q
 reader_by whole (event.Detach t ∷ own) before q h = let n = neither (t == q) _ h in other (t == q) _ _ _ n.0 (reader_by whole own before q n.1)
 reader_by whole (e ∷ own) before q h = reader_by whole own before q (neither (is_event_of whole q e) _ h).1
 
--- it is a reader as before
+-- a session is a reader as before
 pub reader_left : (q : ℕ) (own before : Past) → AreOthers q own before → has_reader (own ++ before) q ≡ has_reader before q
 reader_left q own before others = reader_by (own ++ before) own before q others
 

@@ -46,7 +46,7 @@ ids_known (e ∷ es) x h = by (eq_by_cmp id_cmp x e.0) h (ids_known es x)
 
 -- ---- what a step leads to
 
--- it is at this path, in at most this phase
+-- a reader is at this path, in at most this phase
 abbrev IsPast : ℕ → Path → Reader → Type 0
 IsPast n p r = (rank (phase_of r) ≤ n) × (r.at ≡ p)
 

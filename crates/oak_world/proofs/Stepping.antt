@@ -16,8 +16,6 @@ use Rattle.oak_machine.specs.declared.event.Event.{Event}
 use Rattle.oak_machine.specs.declared.event.Event.TheVariants as event
 use Rattle.oak_machine.specs.declared.event.StepKind.{StepKind}
 use Rattle.oak_machine.specs.declared.event.StepKind.TheVariants as kind
-use Rattle.jr_path.specs.Ids.{names_of}
-use Rattle.jr_path.specs.declared.path.DocId.{DocId}
 use Rattle.oak_doc.specs.declared.update.Change.TheVariants as change
 use Rattle.oak_node.specs.Heads.{learned, next_draw, with_draw}
 use Rattle.oak_node.specs.Memory.{NodeState}
@@ -28,17 +26,23 @@ use Rattle.oak_read.specs.declared.reader.Reader.{Reader}
 use Rattle.oak_store.specs.Tables.{Table}
 use Rattle.core_clash.specs.Core.{root_of}
 use Rattle.core_world.specs.States.{State, memory_at, with_memory, with_session}
-use Rattle.core_world.specs.Steps.{after_finish, after_update, after_want, back_op, settings_op, with_observer, with_reader}
+use Rattle.core_world.specs.Steps.{after_finish, after_update, after_want, settings_op, with_observer, with_reader}
 use Rattle.oak_port.specs.declared.task.StepOut.{StepOut}
 use Rattle.oak_port.specs.declared.task.StepOut.TheVariants as answers
 use Rattle.oak_port.specs.declared.task.TaskEnd.TheVariants as ends
 use Rattle.oak_step.specs.declared.work.Work.{Work}
 use Rattle.oak_step.specs.declared.work.Work.TheVariants as work
+use Rattle.oak_node.specs.declared.pending.Pending.{Pending}
+use Rattle.oak_sync.specs.Learning as learning
+use Rattle.oak_sync.specs.Publishing as publishing
+use Rattle.oak_sync.specs.declared.back_read.BackRead.{BackRead}
+use Rattle.oak_sync.specs.declared.back_write.BackWrite.{BackWrite}
+use Rattle.oak_sync.proofs.Standing.{below_due, root_due}
 use Rattle.oak_step.specs.declared.upkeep.Upkeep.{Upkeep}
 use Rattle.oak_step.specs.declared.upkeep.Upkeep.TheVariants as upkeep
-use Rattle.oak_step.specs.Upkeeps.{told_ids}
-use Rattle.oak_step.specs.Parts.{CommitsOn, EndsSo, IsGivenUp, KeepsUp, Parts, PublishesOn, Steps, UpdatesOn, Updates, base_at, changes_on, parts, parts_ended, read_on}
-use Rattle.oak_world.specs.Steps.{Makes, MakesCommit, MakesUpdate, MakesUpkeep, Publishes}
+use Rattle.oak_step.proofs.Backs.{goes_on, read_table, reads_on, told_table}
+use Rattle.oak_step.specs.Parts.{CommitsOn, EndsSo, IsGivenUp, KeepsUp, LearnsOn, Parts, PublishesFirst as PublishesFirstOn, PublishesOn, Steps, UpdatesOn, Updates, after_ask, base_at, changes_on, learned_on, parts, parts_ended, published_on, read_on}
+use Rattle.oak_world.specs.Steps.{Learns, Makes, MakesCommit, MakesUpdate, MakesUpkeep, Publishes, PublishesFirst}
 use Rattle.oak_world.specs.Worlds.{ActorState, WorldOf, node_in, observing_of, parts_at, reading_of, running_as, running_of, state_of, with_parts, work_in}
 use Rattle.oak_world.proofs.Making.{begins_is, ended_is, makes_last, makes_mark, makes_undo, makes_write, observes_is, reads_is, runs_is, same_is, sets_is, told_is}
 use Rattle.oak_world.proofs.States.{SameReaders, same_readers}
@@ -189,24 +193,54 @@ module _ {L : Type 0} (w : WorldOf L) (s : ℕ) (there : s < length w.actors) (q
   -- ---- background work, and the settings
 
   module _ (k : Upkeep) (here : work_in w.actors s ≡ work.Upkeep k) where
-    publishes : (ids : List DocId) (r : Revision) (o : StepOut) → PublishesOn s node (parts_at w s) ids r q v o → Publishes s (state_of w) ids r now v o
-    publishes ids r (answers.Went kind.Back) h = (h.0, h.1, h.2, sets (work.Upkeep k) (work.Upkeep (upkeep.Publish h.0 r)) here h.4 refl (refl, refl) (event.Went s kind.Back) (after_update w.table (back_op (names_of h.1) r)) h.3, h.4)
-    publishes ids r (answers.Ready (ends.Published o)) h = (h.0, h.1, sets (work.Upkeep k) work.Rest here h.3 refl (refl, refl) (event.Out node r) (after_update w.table (back_op [] r)) h.2, h.3)
-    publishes ids r answers.Memory h = (still (work.Upkeep k) work.Rest here h.1 refl (refl, refl) h.0, h.1)
-    publishes ids r _ h = absurd h
+    nothing : (o : StepOut) → o ≡ answers.Memory → q ≡ parts_at w s → v ≡ work.Rest → now ≡ state_of w
+    nothing o is same rest = still (work.Upkeep k) work.Rest here rest refl (refl, refl) same
+
+    publishes : (b : BackWrite) (o : StepOut) → PublishesOn s node (parts_at w s) b q v o → Publishes s (state_of w) b now v o
+    publishes b (answers.Went kind.Back) h =
+        let p = below_due b h.0 in
+        let goes = goes_on w.table b p.0 p.1 in (
+          h.0,
+          p.0,
+          (p.1).asks,
+          sets (work.Upkeep k) (work.Upkeep (upkeep.Publish (published_on w.table b))) here h.2 refl (refl, refl) (event.Went s kind.Back) (after_ask w.table (publishing.due b)) h.1
+              ∙ ap (λ (t : Table). record (state_of w) { past = event.Went s kind.Back ∷ w.history.past; table = t }) (told_table w.table b p.0 p.1),
+          h.2 ∙ ap (λ (c : BackWrite). work.Upkeep (upkeep.Publish c)) goes,
+        )
+    publishes b (answers.Ready (ends.Published o)) h =
+        let root = root_due b h.0 in (
+          h.0,
+          h.1,
+          sets (work.Upkeep k) work.Rest here h.3 refl (refl, refl) (event.Out node b.upto) (after_ask w.table (publishing.due b)) h.2
+              ∙ ap (λ (t : Table). record (state_of w) { past = event.Out node b.upto ∷ w.history.past; table = t }) (told_table w.table b [] root),
+          h.3,
+        )
+    publishes b answers.Memory h = (nothing answers.Memory refl h.0 h.1, h.1)
+    publishes b _ h = absurd h
+
+    publishes_first : (n : Pending) (o : StepOut) → PublishesFirstOn s node (parts_at w s) n q v o → PublishesFirst s (state_of w) n now v o
+    publishes_first n o (inl h) = inl (h.0, nothing o h.0 h.1 h.2, h.2)
+    publishes_first n o (inr h) = inr (h.0, h.1, h.2, publishes h.1 o h.3)
+
+    learns : (b : BackRead) (o : StepOut) → LearnsOn s node (parts_at w s) b q v o → Learns s (state_of w) b now v o
+    learns b (answers.Went kind.Back) h = (
+      h.0,
+      sets (work.Upkeep k) (work.Upkeep (upkeep.Read (learned_on w.table b))) here h.2 refl (refl, refl) (event.Went s kind.Back) (after_ask w.table (learning.due b)) h.1
+          ∙ ap (λ (t : Table). record (state_of w) { past = event.Went s kind.Back ∷ w.history.past; table = t }) (read_table w.table b h.0),
+      h.2 ∙ ap (λ (c : BackRead). work.Upkeep (upkeep.Read c)) (reads_on w.table b h.0),
+    )
+    learns b (answers.Ready (ends.Learnt u)) h =
+        (h.0, h.1, tells (work.Upkeep k) work.Rest here h.3 refl (refl, refl) (event.In node (learned memory b.last b.sweep).head) (learned memory b.last b.sweep) h.2, h.3)
+    learns b answers.Memory h = (nothing answers.Memory refl h.0 h.1, h.1)
+    learns b _ h = absurd h
 
   upkeep_makes : (k : Upkeep) → work_in w.actors s ≡ work.Upkeep k → (o : StepOut) → KeepsUp s node (parts_at w s) k q v o → MakesUpkeep s (state_of w) k now v o
   upkeep_makes upkeep.Write here (answers.Went kind.Back) h = (h.0, h.1, tells (work.Upkeep upkeep.Write) (work.Upkeep (upkeep.Noted h.0)) here h.3 refl (refl, refl) (event.Went s kind.Back) (without_seen memory) h.2, h.3)
   upkeep_makes upkeep.Write here answers.Memory h = (still (work.Upkeep upkeep.Write) work.Rest here h.1 refl (refl, refl) h.0, h.1)
   upkeep_makes upkeep.Write here _ h = absurd h
-  upkeep_makes (upkeep.Noted n) here o h = publishes (upkeep.Noted n) here (told_ids n.paths) n.upto o h
-  upkeep_makes (upkeep.Publish ids r) here o h = publishes (upkeep.Publish ids r) here ids r o h
-  upkeep_makes upkeep.Read here (answers.Went kind.Back) h = (h.0, h.1, sets (work.Upkeep upkeep.Read) (work.Upkeep (upkeep.Learn (h.0).last_rev (h.0).sweep_rev)) here h.3 refl (refl, refl) (event.Went s kind.Back) w.table h.2, h.3)
-  upkeep_makes upkeep.Read here answers.Memory h = (still (work.Upkeep upkeep.Read) work.Rest here h.1 refl (refl, refl) h.0, h.1)
-  upkeep_makes upkeep.Read here _ h = absurd h
-  upkeep_makes (upkeep.Learn last sweep) here (answers.Ready (ends.Learnt u)) h = (h.0, tells (work.Upkeep (upkeep.Learn last sweep)) work.Rest here h.2 refl (refl, refl) (event.In node (learned memory last sweep).head) (learned memory last sweep) h.1, h.2)
-  upkeep_makes (upkeep.Learn last sweep) here answers.Memory h = (still (work.Upkeep (upkeep.Learn last sweep)) work.Rest here h.1 refl (refl, refl) h.0, h.1)
-  upkeep_makes (upkeep.Learn last sweep) here _ h = absurd h
+  upkeep_makes (upkeep.Noted n) here o h = publishes_first (upkeep.Noted n) here n o h
+  upkeep_makes (upkeep.Publish b) here o h = publishes (upkeep.Publish b) here b o h
+  upkeep_makes (upkeep.Read b) here o h = learns (upkeep.Read b) here b o h
   upkeep_makes (upkeep.Checkpoint i) here (answers.Ready (ends.Set None)) h = (h.0, h.1, sets (work.Upkeep (upkeep.Checkpoint i)) work.Rest here h.3 refl (refl, refl) (event.Checkpoint i (h.0).base) (after_update w.table (settings_op (change.Checkpoint i h.0))) h.2, h.3)
   upkeep_makes (upkeep.Checkpoint i) here answers.Memory h = (still (work.Upkeep (upkeep.Checkpoint i)) work.Rest here h.1 refl (refl, refl) h.0, h.1)
   upkeep_makes (upkeep.Checkpoint i) here _ h = absurd h

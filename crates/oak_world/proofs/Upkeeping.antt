@@ -1,15 +1,14 @@
 -- The steps of background work and on the settings, from one state to the next.
 use Rattle.core_world.proofs.Unsplit.{back_lists, settings_lists}
-use Rattle.std.proofs.Common.{◌≡◌, ℕ, Bool, true, false, cond, ◌&&◌, Option, Some, None, List, [], ◌∷◌, is_some, refl, sym, ap, subst, ◌∙◌}
-use Rattle.std.specs.Prelude.{◌==◌, IsSome, slice_get}
+use Rattle.std.proofs.Common.{◌≡◌, ℕ, Bool, true, false, cond, ◌&&◌, Option, Some, None, [], ◌∷◌, inl, inr, is_some, refl, sym, ap, subst, ◌∙◌}
+use Rattle.std.specs.Prelude.{◌==◌, IsSome, length, slice_get}
 use Rattle.std.specs.BTreeMap.{is_at}
 use Rattle.std.specs.Map.{lookup}
 use Rattle.std.specs.Option.{option_and_then, option_map_or}
 use Rattle.std.specs.Ordering.{eq_by_cmp}
 use mathlib.Core.Bool.{false≢true}
-use Rattle.jr_path.specs.Ids.{names_of}
 use Rattle.jr_path.specs.Names.{name_cmp, path_cmp}
-use Rattle.jr_path.specs.declared.path.DocId.{DocId}
+use Rattle.jr_path.specs.declared.path.Path.{Path}
 use Rattle.jr_path.specs.Lists.{Text}
 use Rattle.jr_rev.specs.declared.revision.Revision.{Revision}
 use Rattle.jr_rev.specs.declared.vector.Pin.{Pin}
@@ -42,16 +41,23 @@ use Rattle.core_world.proofs.Whole.{attach_keeps, attach_unfound_keeps, back_kee
 use Rattle.oak_port.specs.declared.task.StepOut.{StepOut}
 use Rattle.oak_port.specs.declared.task.StepOut.TheVariants as answers
 use Rattle.oak_port.specs.declared.task.TaskEnd.TheVariants as ends
-use Rattle.oak_port.specs.Ports.{AreOfStep, Idle, Makes as Tells, Publishing, Work as Shows}
+use Rattle.oak_port.specs.Ports.{AreOfStep, Idle, Learning, Makes as Tells, Publishing, Work as Shows}
 use Rattle.oak_step.specs.declared.work.Work.{Work}
 use Rattle.oak_step.specs.declared.work.Work.TheVariants as work
+use Rattle.oak_sync.specs.Learning as learning
+use Rattle.oak_sync.specs.Publishing.{stage_of, went_on}
+use Rattle.oak_sync.specs.declared.back_read.BackRead.{BackRead}
+use Rattle.oak_sync.specs.declared.back_write.BackWrite.{BackWrite}
+use Rattle.oak_sync.specs.declared.stage.Stage.{Stage}
+use Rattle.oak_sync.specs.declared.stage.Stage.TheVariants as stage
+use Rattle.oak_sync.proofs.Standing.{below_due, one_due}
 use Rattle.oak_step.specs.declared.upkeep.Upkeep.{Upkeep}
 use Rattle.oak_step.specs.declared.upkeep.Upkeep.TheVariants as upkeep
-use Rattle.oak_world.specs.Kept.{AreBelow, IsOwn, MayKeepUp}
-use Rattle.oak_world.specs.Seen.{shown_upkeep, shown_work}
-use Rattle.oak_world.specs.Steps.{HasCome, MakesUpkeep, Publishes, attached_after, attaching, is_made}
-use Rattle.oak_step.specs.Upkeeps.{set_checkpoint, told_ids}
-use Rattle.oak_world.proofs.Below.{below_parts, told_below}
+use Rattle.oak_world.specs.Kept.{EndsInRoot, IsOwn, MayKeepUp, MayLearn}
+use Rattle.oak_world.specs.Seen.{shown_read, shown_upkeep, shown_work}
+use Rattle.oak_world.specs.Steps.{HasCome, Learns, MakesUpkeep, Publishes, PublishesFirst, attached_after, attaching, is_made}
+use Rattle.oak_step.specs.Upkeeps.{set_checkpoint}
+use Rattle.oak_world.proofs.Ahead.{begins_ahead, below_root, goes_ahead}
 use Rattle.oak_world.proofs.Lasting.{local_lasts}
 use Rattle.oak_world.proofs.Attached.{attached_reads}
 use Rattle.oak_world.proofs.StepsOf.{IsStepOf, apart_one, chosen, flipped, kind_told, none_stopped, refused_stays, with_true}
@@ -76,7 +82,7 @@ module _ (starts : Starts) (says : Says) (proper : StartsProper starts) (w : Sta
   is_mine : is_on (history_in w) s (node_of w s) ≡ true
   is_mine = ap (λ (o : Option ℕ). option_map_or (λ m. m == node_of w s) o false) on ∙ number_itself (node_of w s)
 
-  -- the same, at a state and a work that are equal to these
+  -- a step to a state and a work that are equal to those of a step
   at_those : (v : Work) (o : StepOut) (t : State) (y : Work) (u : State) (x : Work) → u ≡ t → x ≡ y → StepOf v t y o → StepOf v u x o
   at_those v o t y u x same is f = subst (λ (z : State). StepOf v z x o) (sym same) (subst (λ (z : Work). StepOf v t z o) (sym is) f)
 
@@ -117,93 +123,124 @@ module _ (starts : Starts) (says : Says) (proper : StartsProper starts) (w : Sta
         low : is_at_most n.upto (local w.begin w.past n.upto.cluster) ≡ true
         low = subst (λ (r : Revision). is_at_most n.upto r ≡ true) (upto_is ∙ ap (local w.begin w.past) (sym cluster_is)) (at_most_itself n.upto)
 
-    module _ (v : Work) (r : Revision) (shown : shown_work v ≡ Publishing r) (unmoved : attaching v ≡ None) (own : IsOwn (history_in w) s r) where
+    module _ (v : Work) (b : BackWrite) (shown : shown_work v ≡ Publishing b.upto) (unmoved : attaching v ≡ None) (own : IsOwn (history_in w) s b.upto) (ahead : EndsInRoot b) where
       -- the session is attached as before
       still : (o : StepOut) → attached_after v o (is_attached w.past s) ≡ is_attached w.past s
       still o = ap (λ (x : Option Bool). option_map_or (λ now. cond (is_made o) now (is_attached w.past s)) x (is_attached w.past s)) unmoved
 
-      -- its revision is of the session's node
-      of_node : r.cluster ≡ node_of w s
-      of_node = let k : Some r.cluster ≡ Some (node_of w s) = sym own.0 ∙ on in ap (λ (o : Option ℕ). option_map_or (λ m. m) o r.cluster) k
+      -- the revision is of the session's node
+      of_node : b.upto.cluster ≡ node_of w s
+      of_node = let k : Some b.upto.cluster ≡ Some (node_of w s) = sym own.0 ∙ on in ap (λ (o : Option ℕ). option_map_or (λ m. m) o b.upto.cluster) k
 
-      tell_step : (rest : List DocId) (i : DocId) → AreBelow rest → eq_by_cmp path_cmp [] (names_of i) ≡ false → StepOf v (after_back w s (names_of i) r) (work.Upkeep (upkeep.Publish rest r)) (answers.Went kind.Back)
-      tell_step rest i below other = record {
+      tell_step : (p : Path) → stage_of b ≡ stage.Write → eq_by_cmp path_cmp [] p ≡ false → StepOf v (after_back w s p b.upto) (work.Upkeep (upkeep.Publish (went_on b))) (answers.Went kind.Back)
+      tell_step p at other = record {
         own = event.Went s kind.Back ∷ [];
         grown = refl;
         kept = kept_then;
-        may = (record { login = come.login; stays = come.stays }, ((own.0, local_lasts starts says w.clusters w.sessions w.begin kept.sessions.nodes (event.Went s kind.Back ∷ []) w.past kept_then.sessions.run r r.cluster own.1), below));
+        may = (record { login = come.login; stays = come.stays }, ((own.0, local_lasts starts says w.clusters w.sessions w.begin kept.sessions.nodes (event.Went s kind.Back ∷ []) w.past kept_then.sessions.run b.upto b.upto.cluster own.1), goes_ahead b at ahead));
         apart = apart_one w.past s (event.Went s kind.Back) (λ q m. flipped q s m);
         attached = still (answers.Went kind.Back);
         unstopped = λ q k. k;
-        same = back_lists w.table (names_of i) r;
-        tells = subst (λ (y : Shows). Tells (history_in w) s y (answers.Went kind.Back) (event.Went s kind.Back ∷ []) (Publishing r)) (sym shown) (refl, refl, refl);
+        same = back_lists w.table p b.upto;
+        tells = subst (λ (y : Shows). Tells (history_in w) s y (answers.Went kind.Back) (event.Went s kind.Back ∷ []) (Publishing b.upto)) (sym shown) (refl, refl, refl);
         of_step = kind_told kind.Back (s == s && true) (with_true (s == s) (number_itself s));
         as_due = refl;
       }
         where
-          kept_then : IsKept starts says (after_back w s (names_of i) r)
-          kept_then = back_keeps starts says proper w kept s come.login come.stays (names_of i) r other
+          kept_then : IsKept starts says (after_back w s p b.upto)
+          kept_then = back_keeps starts says proper w kept s come.login come.stays p b.upto other
 
-      out_step : StepOf v (after_out w s r) work.Rest (answers.Ready (ends.Published r))
+      out_step : StepOf v (after_out w s b.upto) work.Rest (answers.Ready (ends.Published b.upto))
       out_step = record {
-        own = event.Out (node_of w s) r ∷ [];
+        own = event.Out (node_of w s) b.upto ∷ [];
         grown = refl;
-        kept = out_keeps starts says proper w kept s come.login r of_node (subst (λ (k : ℕ). is_at_most r (local w.begin w.past k) ≡ true) of_node own.1);
+        kept = out_keeps starts says proper w kept s come.login b.upto of_node (subst (λ (k : ℕ). is_at_most b.upto (local w.begin w.past k) ≡ true) of_node own.1);
         may = tt;
-        apart = apart_one w.past s (event.Out (node_of w s) r) (λ q m. refl);
-        attached = still (answers.Ready (ends.Published r));
+        apart = apart_one w.past s (event.Out (node_of w s) b.upto) (λ q m. refl);
+        attached = still (answers.Ready (ends.Published b.upto));
         unstopped = λ q k. k;
-        same = back_lists w.table [] r;
-        tells = subst (λ (y : Shows). Tells (history_in w) s y (answers.Ready (ends.Published r)) (event.Out (node_of w s) r ∷ []) Idle) (sym shown) (node_of w s, on, refl, refl, refl);
-        of_step = subst (λ (y : Shows). AreOfStep (history_in w) s y (answers.Ready (ends.Published r)) (event.Out (node_of w s) r ∷ [])) (sym shown) (kind_told kind.Back (is_on (history_in w) s (node_of w s)) is_mine);
+        same = back_lists w.table [] b.upto;
+        tells = subst (λ (y : Shows). Tells (history_in w) s y (answers.Ready (ends.Published b.upto)) (event.Out (node_of w s) b.upto ∷ []) Idle) (sym shown) (node_of w s, on, refl, refl, refl);
+        of_step = subst (λ (y : Shows). AreOfStep (history_in w) s y (answers.Ready (ends.Published b.upto)) (event.Out (node_of w s) b.upto ∷ [])) (sym shown) (kind_told kind.Back (is_on (history_in w) s (node_of w s)) is_mine);
         as_due = refl;
       }
 
       still_step : (u : State) (x : Work) → u ≡ w → x ≡ work.Rest → StepOf v u x answers.Memory
       still_step u x same is = at_those v answers.Memory w work.Rest u x same is (record { own = []; grown = refl; kept = kept; may = tt; apart = λ q m. refl; attached = refused_stays v (is_attached w.past s); unstopped = λ q m. m; same = refl; tells = subst (λ (y : Shows). Tells (history_in w) s y answers.Memory [] Idle) (sym shown) (refl, refl); of_step = refl; as_due = refl })
 
-      publish_step : (ids : List DocId) → AreBelow ids → (u : State) (x : Work) (o : StepOut) → Publishes s w ids r u x o → StepOf v u x o
-      publish_step ids below u x (answers.Went kind.Back) m =
-          let p = below_parts m.0 m.1 (subst AreBelow m.2 below) in
-          at_those v (answers.Went kind.Back) (after_back w s (names_of m.1) r) (work.Upkeep (upkeep.Publish m.0 r)) u x m.3 m.4 (tell_step m.0 m.1 p.0 p.1)
-      publish_step ids below u x (answers.Ready (ends.Published o)) m =
-          subst (λ (y : Revision). StepOf v u x (answers.Ready (ends.Published y))) (sym m.1) (at_those v (answers.Ready (ends.Published r)) (after_out w s r) work.Rest u x m.2 m.3 out_step)
-      publish_step ids below u x answers.Memory m = still_step u x m.0 m.1
-      publish_step ids below u x _ m = absurd m
+      publish_step : (u : State) (x : Work) (o : StepOut) → Publishes s w b u x o → StepOf v u x o
+      publish_step u x (answers.Went kind.Back) m =
+          let p = below_due b m.0 in
+          let other = below_root m.1 (subst (λ (q : Path). (length q == 0) ≡ false) (one_due b p.0 m.1 (p.1).asks m.2) p.2) in
+          at_those v (answers.Went kind.Back) (after_back w s m.1 b.upto) (work.Upkeep (upkeep.Publish (went_on b))) u x m.3 m.4 (tell_step m.1 m.0 other)
+      publish_step u x (answers.Ready (ends.Published o)) m =
+          subst (λ (y : Revision). StepOf v u x (answers.Ready (ends.Published y))) (sym m.1) (at_those v (answers.Ready (ends.Published b.upto)) (after_out w s b.upto) work.Rest u x m.2 m.3 out_step)
+      publish_step u x answers.Memory m = still_step u x m.0 m.1
+      publish_step u x _ m = absurd m
+
+    -- a background write that begins
+    begin_step : (n : Pending) → IsOwn (history_in w) s n.upto → (u : State) (x : Work) (o : StepOut) → PublishesFirst s w n u x o → StepOf (work.Upkeep (upkeep.Noted n)) u x o
+    begin_step n own u x o (inl m) =
+        subst (λ (y : StepOut). StepOf (work.Upkeep (upkeep.Noted n)) u x y) (sym m.0) (refused_step (upkeep.Noted n) (refl, refl) u x m.1 m.2)
+    begin_step n own u x o (inr m) =
+        let same : (m.1).upto ≡ n.upto = ap (λ (c : BackWrite). c.upto) (m.2).state in
+        publish_step (work.Upkeep (upkeep.Noted n)) m.1 (ap Publishing (sym same)) refl (subst (λ (r : Revision). IsOwn (history_in w) s r) (sym same) own) (begins_ahead m.0 n m.1 m.2) u x o m.3
 
     -- ---- a background read
 
-    read_step : (d : Document) → nodes_in w.table [] ≡ Some d → StepOf (work.Upkeep upkeep.Read) (after_went w s kind.Back) (work.Upkeep (upkeep.Learn d.last_rev d.sweep_rev)) (answers.Went kind.Back)
-    read_step d there_d =
-        let told = told_now w.clusters w.begin w.past w.table kept.root d there_d in
-        record {
-          own = event.Went s kind.Back ∷ [];
-          grown = refl;
-          kept = went_whole starts says proper w kept s kind.Back refl refl come.login come.stays;
-          may = (record { login = come.login; stays = come.stays }, (1, told));
-          apart = apart_one w.past s (event.Went s kind.Back) (λ q m. flipped q s m);
-          attached = refl;
-          unstopped = λ q k. k;
-          same = refl;
-          tells = (d.last_rev, told.public, refl, refl, refl);
-          of_step = kind_told kind.Back (s == s && true) (with_true (s == s) (number_itself s));
-          as_due = refl;
-        }
+    module _ (b : BackRead) where
+      -- the root's document is read
+      read_step : learning.stage_of b ≡ stage.Read → StepOf (work.Upkeep (upkeep.Read b)) (after_went w s kind.Back) (work.Upkeep (upkeep.Read (learning.with_root b (nodes_in w.table [])))) (answers.Went kind.Back)
+      read_step at =
+          let d = kept.root.document in
+          let told = told_now w.clusters w.begin w.past w.table kept.root d kept.root.there in
+          subst (λ (c : BackRead). StepOf (work.Upkeep (upkeep.Read b)) (after_went w s kind.Back) (work.Upkeep (upkeep.Read c)) (answers.Went kind.Back)) (sym (ap (learning.with_root b) kept.root.there))
+          (record {
+            own = event.Went s kind.Back ∷ [];
+            grown = refl;
+            kept = went_whole starts says proper w kept s kind.Back refl refl come.login come.stays;
+            may = (record { login = come.login; stays = come.stays }, (1, told));
+            apart = apart_one w.past s (event.Went s kind.Back) (λ q m. flipped q s m);
+            attached = refl;
+            unstopped = λ q k. k;
+            same = refl;
+            tells = subst (λ (y : Shows). Tells (history_in w) s y (answers.Went kind.Back) (event.Went s kind.Back ∷ []) (Learning d.last_rev)) (sym (ap (shown_read b) at)) (d.last_rev, told.public, refl, refl, refl);
+            of_step = kind_told kind.Back (s == s && true) (with_true (s == s) (number_itself s));
+            as_due = refl;
+          })
 
-    learn_step : (last sweep : RevVec) → WereOnRoot w.begin w.clusters w.past last sweep → StepOf (work.Upkeep (upkeep.Learn last sweep)) (after_learn w s last sweep) work.Rest (answers.Ready (ends.Learnt (learned (memory_of w s) last sweep).head))
-    learn_step last sweep were = record {
-      own = event.In (node_of w s) (learned (memory_of w s) last sweep).head ∷ [];
-      grown = refl;
-      kept = learn_keeps starts says proper w kept s on_now come.login last sweep were;
-      may = tt;
-      apart = apart_one w.past s (event.In (node_of w s) (learned (memory_of w s) last sweep).head) (λ q m. refl);
-      attached = refl;
-      unstopped = λ q k. k;
-      same = refl;
-      tells = (node_of w s, on, λ r seen. heard starts says proper w (layers_of starts says w kept) s come.login last sweep were r seen, refl, refl);
-      of_step = kind_told kind.Learn (is_on (history_in w) s (node_of w s)) is_mine;
-      as_due = refl;
-    }
+      learn_step : learning.stage_of b ≡ stage.Learn → WereOnRoot w.begin w.clusters w.past b.last b.sweep → StepOf (work.Upkeep (upkeep.Read b)) (after_learn w s b.last b.sweep) work.Rest (answers.Ready (ends.Learnt (learned (memory_of w s) b.last b.sweep).head))
+      learn_step at were = record {
+        own = event.In (node_of w s) (learned (memory_of w s) b.last b.sweep).head ∷ [];
+        grown = refl;
+        kept = learn_keeps starts says proper w kept s on_now come.login b.last b.sweep were;
+        may = tt;
+        apart = apart_one w.past s (event.In (node_of w s) (learned (memory_of w s) b.last b.sweep).head) (λ q m. refl);
+        attached = refl;
+        unstopped = λ q k. k;
+        same = refl;
+        tells = subst (λ (y : Shows). Tells (history_in w) s y (answers.Ready (ends.Learnt (learned (memory_of w s) b.last b.sweep).head)) (event.In (node_of w s) (learned (memory_of w s) b.last b.sweep).head ∷ []) Idle) (sym (ap (shown_read b) at)) (node_of w s, on, λ r seen. heard starts says proper w (layers_of starts says w kept) s come.login b.last b.sweep were r seen, refl, refl);
+        of_step = subst (λ (y : Shows). AreOfStep (history_in w) s y (answers.Ready (ends.Learnt (learned (memory_of w s) b.last b.sweep).head)) (event.In (node_of w s) (learned (memory_of w s) b.last b.sweep).head ∷ [])) (sym (ap (shown_read b) at)) (kind_told kind.Learn (is_on (history_in w) s (node_of w s)) is_mine);
+        as_due = refl;
+      }
+
+      -- memory was refused
+      unread_step : (at : Stage) → Tells (history_in w) s (shown_read b at) answers.Memory [] Idle
+      unread_step stage.Write = (refl, refl)
+      unread_step stage.Publish = (refl, refl)
+      unread_step stage.Read = (refl, refl)
+      unread_step stage.Learn = (refl, refl)
+      unread_step stage.Done = (refl, refl)
+
+      learns_step : MayLearn (history_in w) b (learning.stage_of b) → (u : State) (x : Work) (o : StepOut) → Learns s w b u x o → StepOf (work.Upkeep (upkeep.Read b)) u x o
+      learns_step may u x (answers.Went kind.Back) m =
+          at_those (work.Upkeep (upkeep.Read b)) (answers.Went kind.Back) (after_went w s kind.Back) (work.Upkeep (upkeep.Read (learning.with_root b (nodes_in w.table [])))) u x m.1 m.2 (read_step m.0)
+      learns_step may u x (answers.Ready (ends.Learnt v)) m =
+          subst (λ (y : RevVec). StepOf (work.Upkeep (upkeep.Read b)) u x (answers.Ready (ends.Learnt y))) (sym m.1)
+          (at_those (work.Upkeep (upkeep.Read b)) (answers.Ready (ends.Learnt (learned (memory_of w s) b.last b.sweep).head)) (after_learn w s b.last b.sweep) work.Rest u x m.2 m.3
+          (learn_step m.0 (subst (MayLearn (history_in w) b) m.0 may)))
+      learns_step may u x answers.Memory m = refused_step (upkeep.Read b) (unread_step (learning.stage_of b)) u x m.0 m.1
+      learns_step may u x _ m = absurd m
 
     -- ---- the settings
 
@@ -358,16 +395,9 @@ module _ (starts : Starts) (says : Says) (proper : StartsProper starts) (w : Sta
     upkeep_step upkeep.Write may u x (answers.Went kind.Back) m = at_those (work.Upkeep upkeep.Write) (answers.Went kind.Back) (after_pending w s) (work.Upkeep (upkeep.Noted m.0)) u x m.2 m.3 (write_step m.0 m.1)
     upkeep_step upkeep.Write may u x answers.Memory m = refused_step upkeep.Write (refl, refl) u x m.0 m.1
     upkeep_step upkeep.Write may u x _ m = absurd m
-    upkeep_step (upkeep.Noted n) may u x o m = publish_step (work.Upkeep (upkeep.Noted n)) n.upto refl refl may (told_ids n.paths) (told_below n.paths) u x o m
-    upkeep_step (upkeep.Publish ids r) may u x o m = publish_step (work.Upkeep (upkeep.Publish ids r)) r refl refl may.0 ids may.1 u x o m
-    upkeep_step upkeep.Read may u x (answers.Went kind.Back) m = at_those (work.Upkeep upkeep.Read) (answers.Went kind.Back) (after_went w s kind.Back) (work.Upkeep (upkeep.Learn (m.0).last_rev (m.0).sweep_rev)) u x m.2 m.3 (read_step m.0 m.1)
-    upkeep_step upkeep.Read may u x answers.Memory m = refused_step upkeep.Read (refl, refl) u x m.0 m.1
-    upkeep_step upkeep.Read may u x _ m = absurd m
-    upkeep_step (upkeep.Learn last sweep) may u x (answers.Ready (ends.Learnt v)) m =
-        subst (λ (y : RevVec). StepOf (work.Upkeep (upkeep.Learn last sweep)) u x (answers.Ready (ends.Learnt y))) (sym m.0)
-        (at_those (work.Upkeep (upkeep.Learn last sweep)) (answers.Ready (ends.Learnt (learned (memory_of w s) last sweep).head)) (after_learn w s last sweep) work.Rest u x m.1 m.2 (learn_step last sweep may))
-    upkeep_step (upkeep.Learn last sweep) may u x answers.Memory m = refused_step (upkeep.Learn last sweep) (refl, refl) u x m.0 m.1
-    upkeep_step (upkeep.Learn last sweep) may u x _ m = absurd m
+    upkeep_step (upkeep.Noted n) may u x o m = begin_step n may u x o m
+    upkeep_step (upkeep.Publish b) may u x o m = publish_step (work.Upkeep (upkeep.Publish b)) b refl refl may.0 may.1 u x o m
+    upkeep_step (upkeep.Read b) may u x o m = learns_step b may u x o m
     upkeep_step (upkeep.Checkpoint i) may u x (answers.Ready (ends.Set None)) m = at_those (work.Upkeep (upkeep.Checkpoint i)) (answers.Ready (ends.Set None)) (after_checkpoint w s i m.0) work.Rest u x m.2 m.3 (checkpoint_step i m.0 may m.1)
     upkeep_step (upkeep.Checkpoint i) may u x answers.Memory m = refused_step (upkeep.Checkpoint i) (refl, refl) u x m.0 m.1
     upkeep_step (upkeep.Checkpoint i) may u x _ m = absurd m

@@ -418,7 +418,7 @@ module _ (starts : Starts) (says : Says) (proper : StartsProper starts) (writes 
     then_kept : IsKept starts says (with_observer w s (Some then))
     then_kept = feed_whole starts says proper w kept writes s r here table
 
-    -- it still reads since that vector, up to that pin
+    -- a session still reads since that vector, up to that pin
     then_same : (then.from ≡ r.from) × (then.pin ≡ r.pin)
     then_same = reply_keeps r (answer w.table.documents (changes.due r))
 
@@ -540,7 +540,7 @@ module _ (starts : Starts) (says : Says) (proper : StartsProper starts) (writes 
       refusal_tells : (k : StepKind) (item : Item) (o : Revision) (d : Committing) → d ≡ refused c item o → Tells h s (shown_work (work.Commit c)) (answers.Went k) (event.Refuse c.revision item o ∷ []) (shown_work (work.Commit d))
       refusal_tells k item o d is = writing (answers.Went k) (event.Refuse c.revision item o ∷ []) (shown_work (work.Commit d)) (inr (inr (inr (item, o, refl, ap (λ (y : Committing). shown_work (work.Commit y)) is))))
 
-      -- it gives up for want of memory
+      -- the commit gives up for want of memory
       want_step : StepOf (work.Commit c) (after_want w s x) (work.Commit (wanting c)) answers.Memory
       want_step = record {
         own = [];
@@ -805,7 +805,7 @@ module _ (starts : Starts) (says : Says) (proper : StartsProper starts) (writes 
 
   -- ---- all
 
-  -- the same, at a state and a committer that are equal to these
+  -- a step to a state and a committer that are equal to those of a step
   at_both : (v : Work) (o : StepOut) (t : State) (d : Committing) (u : State) (e : Committing) → u ≡ t → e ≡ d → StepOf v t (work.Commit d) o → StepOf v u (work.Commit e) o
   at_both v o t d u e same is f = subst (λ (y : State). StepOf v y (work.Commit e) o) (sym same) (subst (λ (y : Committing). StepOf v t (work.Commit y) o) (sym is) f)
 
@@ -845,7 +845,7 @@ module _ (starts : Starts) (says : Says) (proper : StartsProper starts) (writes 
       subst (λ (y : Work). StepOf (work.Commit c) u y o) (sym m.3) (subst (λ (y : StepOut). StepOf (work.Commit c) u (work.Commit (wanting c)) y) (sym m.0)
       (subst (λ (y : State). StepOf (work.Commit c) y (work.Commit (wanting c)) answers.Memory) (sym m.2) (want_step c here at m.1)))
 
-  -- the same, at a state and a work that are equal to these
+  -- a step to a state and a work that are equal to those of a step
   at_those : (v : Work) (o : StepOut) (t : State) (y : Work) (u : State) (x : Work) → u ≡ t → x ≡ y → StepOf v t y o → StepOf v u x o
   at_those v o t y u x same is f = subst (λ (z : State). StepOf v z x o) (sym same) (subst (λ (z : Work). StepOf v t z o) (sym is) f)
 

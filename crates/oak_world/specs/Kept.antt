@@ -1,7 +1,7 @@
 -- What each world keeps.
 use Rattle.jr_path.specs.declared.path.Path.{Path}
 use Rattle.core_world.specs.States.{listed_at}
-use Rattle.std.specs.Prelude.{◌≡◌, ◌≤◌, ◌+◌, ℕ, false, cond, [], ◌∷◌, List, length, map, sum_by, slice_get, None, Some, is_some, IsTrue, IsFalse}
+use Rattle.std.specs.Prelude.{◌≡◌, ◌≤◌, ◌+◌, ℕ, false, cond, [], ◌∷◌, ◌++◌, List, length, map, sum_by, slice_get, None, Some, is_some, IsTrue, IsFalse}
 use Rattle.oak_commit.specs.Committing.{Committing}
 use Rattle.oak_machine.specs.History.{History}
 use Rattle.oak_machine.specs.Commits.{is_ended}
@@ -12,16 +12,17 @@ use Rattle.oak_machine.specs.Sessions.{has_login, has_reader, is_attached, is_st
 use Rattle.oak_read.specs.Reading.{IsTable}
 use Rattle.core_clash.specs.Core.{root_of}
 use Rattle.core_world.specs.Kept.{IsKept, WereOnRoot}
-use Rattle.jr_path.specs.Ids.{names_of}
-use Rattle.jr_path.specs.Names.{path_cmp}
-use Rattle.jr_path.specs.declared.path.DocId.{DocId}
 use Rattle.jr_rev.specs.declared.revision.Revision.{Revision}
 use Rattle.jr_rev.specs.Revisions.{is_at_most}
 use Rattle.oak_machine.specs.Heads.{local}
 use Rattle.oak_port.specs.Ports.{MayAppend}
+use Rattle.oak_sync.specs.Learning.{stage_of}
+use Rattle.oak_sync.specs.declared.back_read.BackRead.{BackRead}
+use Rattle.oak_sync.specs.declared.back_write.BackWrite.{BackWrite}
+use Rattle.oak_sync.specs.declared.stage.Stage.{Stage as Syncing}
+use Rattle.oak_sync.specs.declared.stage.Stage.TheVariants as syncing
 use Rattle.oak_step.specs.declared.upkeep.Upkeep.{Upkeep}
 use Rattle.oak_step.specs.declared.upkeep.Upkeep.TheVariants as upkeep
-use Rattle.std.specs.Ordering.{eq_by_cmp}
 use Rattle.oak_world.specs.declared.actor.Actor.{Actor}
 use Rattle.oak_step.specs.declared.work.Work.{Work}
 use Rattle.oak_step.specs.declared.work.Work.TheVariants as work
@@ -30,7 +31,8 @@ use Rattle.oak_world.specs.Worlds.{WorldOf, actor_in, live, state_of, work_in}
 use Rattle.oak_world.specs.Seen.{shown_work}
 use Rattle.oak_world.specs.Steps.{HasCome}
 
--- the session has come, and the commit hasn't ended; it goes to the commit roots of those that it is to mark, and looks at no previous document
+-- the session has come, and the commit hasn't ended; the commit goes to the commit roots of those
+-- that it is to mark, and looks at no previous document
 pub record IsAtWork (h : History) (s : ℕ) (c : Committing) : Type 0 where
   pub come : HasCome h s
   pub unended : c.ended ≡ false
@@ -42,18 +44,26 @@ abbrev pub IsOwn : History → ℕ → Revision → Type 0
 IsOwn h s r = (slice_get h.sessions s ≡ Some r.cluster)
     × IsTrue (is_at_most r (local h.begin h.past r.cluster))
 
--- the documents are below the root
-abbrev pub AreBelow : List DocId → Type 0
-AreBelow [] = Unit {0}
-AreBelow (i ∷ ids) = IsFalse (eq_by_cmp path_cmp [] (names_of i)) × AreBelow ids
+-- the root's document is the last that a background write tells, and is still to be told
+pub record EndsInRoot (b : BackWrite) : Type 0 where
+  pub front : List Path
+  pub paths : b.paths ≡ front ++ [] ∷ []
+  pub ahead : b.written ≤ length front
+
+-- a background read that stands in a stage has still to read the root, or has read what the root
+-- told
+abbrev pub MayLearn : History → BackRead → Syncing → Type 0
+MayLearn h b syncing.Read = Unit {0}
+MayLearn h b syncing.Learn = WereOnRoot h.begin h.clusters h.past b.last b.sweep
+MayLearn h b _ = ⊥
 
 -- what is published is the node's own, and what is learned the root told; at an attached session no
 -- checkpoint is made, no cursor is pinned, and no further checkpoint is taken; it is detached, and
 -- once it is at the head, its reader goes
 abbrev pub MayKeepUp : History → ℕ → Upkeep → Type 0
 MayKeepUp h s (upkeep.Noted n) = IsOwn h s n.upto
-MayKeepUp h s (upkeep.Publish ids r) = IsOwn h s r × AreBelow ids
-MayKeepUp h s (upkeep.Learn last sweep) = WereOnRoot h.begin h.clusters h.past last sweep
+MayKeepUp h s (upkeep.Publish b) = IsOwn h s b.upto × EndsInRoot b
+MayKeepUp h s (upkeep.Read b) = MayLearn h b (stage_of b)
 MayKeepUp h s (upkeep.Checkpoint i) = IsFalse (is_attached h.past s)
 MayKeepUp h s (upkeep.Attach i) = IsFalse (is_attached h.past s)
 MayKeepUp h s upkeep.Detach = IsTrue (is_attached h.past s)
@@ -94,7 +104,8 @@ pub record IsWorld (starts : Starts) (says : Says) {L : Type 0} (w : WorldOf L) 
 -- each event that what is being done for it may still append
 pub record IsAskedWorld (asks : Asks) {L : Type 0} (w : WorldOf L) : Type 0 where
   pub made : AreAsked asks (live w.history)
-  pub coming : (s : ℕ) (e : Event) → MayAppend (shown_work (work_in w.actors s)) e → asks s (next_index w.history.past s) e
+  pub coming : (s : ℕ) (e : Event) → MayAppend (shown_work (work_in w.actors s)) e
+      → asks s (next_index w.history.past s) e
 
 -- the places that are kept for what a session does, and for its reply
 abbrev pub IsPlaced : Actor → Type 0

@@ -1,6 +1,7 @@
 -- How many steps are left of what a session does, where it alone takes steps, whatever they answer
--- but that one waits. The number hangs on the documents and on the memory of its cluster node alone.
-use Rattle.std.specs.Prelude.{ℕ, zero, suc, ◌+◌, List, [], ◌∷◌, drop, length, Option, None, Some}
+-- but that one waits. The number hangs on the documents and on the memory of its cluster node
+-- alone.
+use Rattle.std.specs.Prelude.{ℕ, zero, suc, ◌+◌, ◌-◌, List, [], ◌∷◌, drop, length, Option, None, Some}
 use Rattle.std.specs.List.{filter}
 use Rattle.std.specs.Map.{keys_of}
 use Rattle.std.specs.Ordering.{is_lt}
@@ -27,18 +28,21 @@ use Rattle.oak_read.specs.declared.reader.Step.TheVariants as step
 use Rattle.oak_store.specs.Tables.{Table}
 use Rattle.core_world.specs.States.{memory_of, nodes_in}
 use Rattle.core_world.specs.Steps.{after_update}
+use Rattle.oak_sync.specs.Learning.{stage_of}
+use Rattle.oak_sync.specs.declared.stage.Stage.{Stage as Syncing}
+use Rattle.oak_sync.specs.declared.stage.Stage.TheVariants as syncing
 use Rattle.oak_step.specs.declared.upkeep.Upkeep.{Upkeep}
 use Rattle.oak_step.specs.declared.upkeep.Upkeep.TheVariants as upkeep
 use Rattle.oak_step.specs.declared.work.Work.{Work}
 use Rattle.oak_step.specs.declared.work.Work.TheVariants as work
 use Rattle.oak_step.specs.Parts.{base_at, changes_on, read_on}
-use Rattle.oak_step.specs.Upkeeps.{told_ids}
 use Rattle.oak_world.specs.Worlds.{WorldOf, state_of, work_in}
 
 -- ---- a reader
 
 -- where a reader stands: it asks for the document of a node, for previous documents of the node or
--- for commit roots, with so many behind the next of these, or for the document behind; or it is done
+-- for commit roots, with so many behind the next of these, or for the document behind; or it is
+-- done
 pub data Phase : Type 0 where
   Main : Phase
   Previous : ℕ → Phase
@@ -165,12 +169,18 @@ abbrev pub names_in : List Path → ℕ
 names_in [] = 0
 names_in (p ∷ ps) = length p + names_in ps
 
--- how many steps of an upkeep are left at most
+-- how many steps are left of a background read that stands in a stage
+abbrev pub learn_left : Syncing → ℕ
+learn_left syncing.Read = 2
+learn_left _ = 1
+
+-- how many steps of an upkeep are left at most; a background write tells a document a step, which
+-- before it has begun are the root's and no more than one for each name
 abbrev pub upkeep_left : NodeState → Upkeep → ℕ
 upkeep_left m upkeep.Write = suc (suc (names_in (seen_paths m.head m.notes)))
-upkeep_left m (upkeep.Noted n) = suc (length (told_ids n.paths))
-upkeep_left m (upkeep.Publish ids r) = suc (length ids)
-upkeep_left m upkeep.Read = 2
+upkeep_left m (upkeep.Noted n) = suc (names_in n.paths)
+upkeep_left m (upkeep.Publish b) = length b.paths - b.written
+upkeep_left m (upkeep.Read b) = learn_left (stage_of b)
 upkeep_left m upkeep.Detach = 2
 upkeep_left m _ = 1
 

@@ -8,6 +8,10 @@ use Rattle.oak_commit.specs.declared.outcome.CommitEnd.TheVariants as end
 use Rattle.core_watch.specs.Standing.{path_read}
 use Rattle.oak_port.specs.declared.task.Task.{Task}
 use Rattle.oak_port.specs.declared.task.Task.TheVariants as task
+use Rattle.oak_sync.specs.Learning.{stage_of}
+use Rattle.oak_sync.specs.declared.back_read.BackRead.{BackRead}
+use Rattle.oak_sync.specs.declared.stage.Stage.{Stage as Syncing}
+use Rattle.oak_sync.specs.declared.stage.Stage.TheVariants as syncing
 use Rattle.oak_step.specs.declared.upkeep.Upkeep.{Upkeep}
 use Rattle.oak_step.specs.declared.upkeep.Upkeep.TheVariants as upkeep
 use Rattle.oak_port.specs.Ports.{Awaiting, Deciding, Detaching, Idle, Learning, Publishing, Seat, Shown, Starting, Undoing, Work as Shows, Writing}
@@ -27,13 +31,17 @@ shown_by r None = Writing r
 shown_by r (Some (end.Committed o)) = Deciding r
 shown_by r (Some e) = Undoing r e
 
+-- a background read that stands in a stage
+abbrev pub shown_read : BackRead → Syncing → Shows
+shown_read b syncing.Learn = Learning b.last
+shown_read b _ = Starting task.BackRead
+
 -- background work, or a change of the settings
 abbrev pub shown_upkeep : Upkeep → Shows
 shown_upkeep upkeep.Write = Starting task.BackWrite
 shown_upkeep (upkeep.Noted n) = Publishing n.upto
-shown_upkeep (upkeep.Publish ids r) = Publishing r
-shown_upkeep upkeep.Read = Starting task.BackRead
-shown_upkeep (upkeep.Learn last sweep) = Learning last
+shown_upkeep (upkeep.Publish b) = Publishing b.upto
+shown_upkeep (upkeep.Read b) = shown_read b (stage_of b)
 shown_upkeep (upkeep.Checkpoint i) = Starting (task.Checkpoint i)
 shown_upkeep (upkeep.Release i) = Starting (task.Release i)
 shown_upkeep (upkeep.Attach i) = Starting (task.Attach i)

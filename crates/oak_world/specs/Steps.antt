@@ -1,6 +1,7 @@
 -- What sessions do, and what a step makes of a world.
-use Rattle.std.specs.Prelude.{◌≡◌, ◌≢◌, ◌⊎◌, ◌≤◌, ◌+◌, ◌-◌, ◌^◌, ℕ, Bool, true, false, cond, min, List, [], ◌∷◌, ◌++◌, length, slice_get, slice_set, Option, Some, None, is_some, IsTrue, IsFalse}
+use Rattle.std.specs.Prelude.{◌≡◌, ◌≢◌, ◌⊎◌, ◌≤◌, ◌+◌, ◌-◌, ◌^◌, ℕ, Bool, true, false, cond, min, List, [], ◌∷◌, length, slice_get, slice_set, Option, Some, None, is_some, IsTrue, IsFalse}
 use Rattle.std.specs.Option.{IsSomeAnd, option_map_or}
+use Rattle.std.specs.declared.alloc.Global.{Global}
 use Rattle.jr_path.specs.declared.path.Path.{Path}
 use Rattle.jr_path.specs.declared.path.Item.{Item}
 use Rattle.jr_path.specs.Lists.{Text}
@@ -25,9 +26,6 @@ use Rattle.oak_machine.specs.Laws.{Says}
 use Rattle.oak_machine.specs.Sessions.{has_left, has_login, next_index}
 use Rattle.oak_node.specs.declared.pending.Pending.{Pending}
 use Rattle.oak_node.specs.Pins.{pin_of}
-use Rattle.jr_path.specs.Ids.{names_of}
-use Rattle.jr_path.specs.declared.path.DocId.{DocId}
-use Rattle.oak_doc.specs.declared.document.Document.{Document}
 use Rattle.oak_doc.specs.declared.update.Change.TheVariants as change
 use Rattle.oak_node.specs.Notes.{IsPending}
 use Rattle.oak_node.specs.Heads.{AwaitsEarlier, learned, next_draw}
@@ -38,9 +36,14 @@ use Rattle.core_world.specs.Steps.{after_attach, after_back, after_checkpoint, a
 use Rattle.oak_port.specs.declared.task.StepOut.{StepOut}
 use Rattle.oak_port.specs.declared.task.StepOut.TheVariants as answers
 use Rattle.oak_port.specs.declared.task.TaskEnd.TheVariants as ends
+use Rattle.oak_sync.specs.Learning as learning
+use Rattle.oak_sync.specs.Publishing as publishing
+use Rattle.oak_sync.specs.declared.back_read.BackRead.{BackRead}
+use Rattle.oak_sync.specs.declared.back_write.BackWrite.{BackWrite}
+use Rattle.oak_sync.specs.declared.stage.Stage.TheVariants as syncing
 use Rattle.oak_step.specs.declared.upkeep.Upkeep.{Upkeep}
 use Rattle.oak_step.specs.declared.upkeep.Upkeep.TheVariants as upkeep
-use Rattle.oak_step.specs.Upkeeps.{set_checkpoint, told_ids}
+use Rattle.oak_step.specs.Upkeeps.{set_checkpoint}
 use Rattle.oak_step.specs.declared.work.Work.{Work}
 use Rattle.oak_step.specs.declared.work.Work.TheVariants as work
 use Rattle.oak_step.specs.Works.{kind_due}
@@ -94,7 +97,8 @@ module _ (s : ℕ) (w : State) (c : Committing) (u : State) (d : Committing) whe
       × (u ≡ after_undoing w s (running_as s c) p rest) × (d ≡ with_undone c)
   MakesUpdate _ = ⊥
 
--- a step of a commit: an operation on a document, the end of its revision, or its turn to undoing where memory was refused
+-- a step of a commit: an operation on a document, the end of its revision, or its turn to undoing
+-- where memory was refused
 abbrev pub MakesCommit : ℕ → State → Committing → State → Work → StepOut → Type 0
 MakesCommit s w c u v o =
     ((x : StepKind) × (o ≡ answers.Went x) × (d : Committing) × (v ≡ work.Commit d)
@@ -103,15 +107,38 @@ MakesCommit s w c u v o =
     ⊎ ((o ≡ answers.Memory) × (c.outcome ≡ None) × (u ≡ after_want w s (running_as s c))
     × (v ≡ work.Commit (wanting c)))
 
--- the last of the documents is told that r is published; where none is left, the root is, and the task ends
-abbrev pub Publishes : ℕ → State → List DocId → Revision → State → Work → StepOut → Type 0
-Publishes s w ids r u v (answers.Went kind.Back) =
-    (rest : List DocId) × (i : DocId) × (ids ≡ rest ++ i ∷ []) × (u ≡ after_back w s (names_of i) r)
-    × (v ≡ work.Upkeep (upkeep.Publish rest r))
-Publishes s w ids r u v (answers.Ready (ends.Published o)) =
-    (ids ≡ []) × (o ≡ r) × (u ≡ after_out w s r) × (v ≡ work.Rest)
-Publishes s w ids r u v answers.Memory = (u ≡ w) × (v ≡ work.Rest)
-Publishes s w ids r u v _ = ⊥
+-- a background write tells the document of a node below the root; or the root's, which publishes
+-- its revision, and the task ends
+abbrev pub Publishes : ℕ → State → BackWrite → State → Work → StepOut → Type 0
+Publishes s w b u v (answers.Went kind.Back) =
+    (publishing.stage_of b ≡ syncing.Write)
+    × (p : Path) × (publishing.due b ≡ ask.Update (publishing.back_op p b.upto))
+    × (u ≡ after_back w s p b.upto) × (v ≡ work.Upkeep (upkeep.Publish (publishing.went_on b)))
+Publishes s w b u v (answers.Ready (ends.Published o)) =
+    (publishing.stage_of b ≡ syncing.Publish) × (o ≡ b.upto) × (u ≡ after_out w s b.upto)
+    × (v ≡ work.Rest)
+Publishes s w b u v answers.Memory = (u ≡ w) × (v ≡ work.Rest)
+Publishes s w b u v _ = ⊥
+
+-- a background write begins with the notes that it took, and tells its first document, or memory is
+-- refused
+abbrev pub PublishesFirst : ℕ → State → Pending → State → Work → StepOut → Type 0
+PublishesFirst s w n u v o =
+    ((o ≡ answers.Memory) × (u ≡ w) × (v ≡ work.Rest))
+    ⊎ ((a : Global) × (b : BackWrite) × publishing.IsBegun a n b × Publishes s w b u v o)
+
+-- a background read reads the root's document; then the memory learns the two vectors that it read,
+-- and the task ends
+abbrev pub Learns : ℕ → State → BackRead → State → Work → StepOut → Type 0
+Learns s w b u v (answers.Went kind.Back) =
+    (learning.stage_of b ≡ syncing.Read) × (u ≡ after_went w s kind.Back)
+    × (v ≡ work.Upkeep (upkeep.Read (learning.with_root b (nodes_in w.table []))))
+Learns s w b u v (answers.Ready (ends.Learnt x)) =
+    (learning.stage_of b ≡ syncing.Learn)
+    × (x ≡ (learned (memory_of w s) b.last b.sweep).head) × (u ≡ after_learn w s b.last b.sweep)
+    × (v ≡ work.Rest)
+Learns s w b u v answers.Memory = (u ≡ w) × (v ≡ work.Rest)
+Learns s w b u v _ = ⊥
 
 -- a step of background work, or on the settings
 abbrev pub MakesUpkeep : ℕ → State → Upkeep → State → Work → StepOut → Type 0
@@ -119,18 +146,9 @@ MakesUpkeep s w upkeep.Write u v (answers.Went kind.Back) = (n : Pending)
     × IsPending (memory_of w s) n × (u ≡ after_pending w s) × (v ≡ work.Upkeep (upkeep.Noted n))
 MakesUpkeep s w upkeep.Write u v answers.Memory = (u ≡ w) × (v ≡ work.Rest)
 MakesUpkeep s w upkeep.Write u v _ = ⊥
-MakesUpkeep s w (upkeep.Noted n) u v o = Publishes s w (told_ids n.paths) n.upto u v o
-MakesUpkeep s w (upkeep.Publish ids r) u v o = Publishes s w ids r u v o
-MakesUpkeep s w upkeep.Read u v (answers.Went kind.Back) =
-    (d : Document) × (nodes_in w.table [] ≡ Some d) × (u ≡ after_went w s kind.Back)
-    × (v ≡ work.Upkeep (upkeep.Learn d.last_rev d.sweep_rev))
-MakesUpkeep s w upkeep.Read u v answers.Memory = (u ≡ w) × (v ≡ work.Rest)
-MakesUpkeep s w upkeep.Read u v _ = ⊥
-MakesUpkeep s w (upkeep.Learn last sweep) u v (answers.Ready (ends.Learnt x)) =
-    (x ≡ (learned (memory_of w s) last sweep).head) × (u ≡ after_learn w s last sweep)
-    × (v ≡ work.Rest)
-MakesUpkeep s w (upkeep.Learn last sweep) u v answers.Memory = (u ≡ w) × (v ≡ work.Rest)
-MakesUpkeep s w (upkeep.Learn last sweep) u v _ = ⊥
+MakesUpkeep s w (upkeep.Noted n) u v o = PublishesFirst s w n u v o
+MakesUpkeep s w (upkeep.Publish b) u v o = Publishes s w b u v o
+MakesUpkeep s w (upkeep.Read b) u v o = Learns s w b u v o
 MakesUpkeep s w (upkeep.Checkpoint i) u v (answers.Ready (ends.Set None)) = (pin : Pin)
     × (pin_of (memory_of w s) s ≡ Some pin) × (u ≡ after_checkpoint w s i pin) × (v ≡ work.Rest)
 MakesUpkeep s w (upkeep.Checkpoint i) u v answers.Memory = (u ≡ w) × (v ≡ work.Rest)
@@ -161,7 +179,8 @@ MakesUpkeep s w upkeep.Observe u v (answers.Ready (ends.Pinned pin)) =
 MakesUpkeep s w upkeep.Observe u v answers.Memory = (u ≡ w) × (v ≡ work.Rest)
 MakesUpkeep s w upkeep.Observe u v _ = ⊥
 
--- how a step of session s goes, by what it does: the state after it, what it does then, and the answer
+-- how a step of session s goes, by what it does: the state after it, what it does then, and the
+-- answer
 abbrev pub Makes : ℕ → State → Work → State → Work → StepOut → Type 0
 Makes s w work.Login u v (answers.Ready (ends.Pinned pin)) =
     (u ≡ after_login w s) × (v ≡ work.Rest) × (pin ≡ pin_now (memory_of w s))
@@ -182,7 +201,8 @@ Makes s w (work.Read r) u v (answers.Ready e) = (u ≡ with_reader w s None) × 
 Makes s w (work.Read r) u v answers.Memory = (u ≡ with_reader w s None) × (v ≡ work.Rest)
 Makes s w (work.Read r) u v _ = ⊥
 Makes s w (work.Changes r) u v (answers.Went kind.Read) =
-    (u ≡ with_observer w s (Some (changes_on w.table r))) × (v ≡ work.Changes (changes_on w.table r))
+    (u ≡ with_observer w s (Some (changes_on w.table r)))
+    × (v ≡ work.Changes (changes_on w.table r))
     × (changes.due (changes_on w.table r) ≢ ask.Done)
 Makes s w (work.Changes r) u v (answers.Ready (ends.Changes commits)) =
     (u ≡ with_observer w s None) × (v ≡ work.Rest)
@@ -214,7 +234,8 @@ reads_after (work.Read r) o n = reads_of_load o n
 reads_after _ o n = n
 
 -- whether a session is attached once what it does is made, where that moves its base: an attaching
--- attaches it, and to the head it goes for a login, a refresh, its commit, and before it is detached
+-- attaches it, and to the head it goes for a login, a refresh, its commit, and before it is
+-- detached
 abbrev pub attaching_by : Upkeep → Option Bool
 attaching_by (upkeep.Attach i) = Some true
 attaching_by upkeep.Detach = Some false
@@ -239,7 +260,8 @@ is_made _ = true
 abbrev pub attached_after : Work → StepOut → Bool → Bool
 attached_after v o was = option_map_or (λ now. cond (is_made o) now was) (attaching v) was
 
--- a step of session s: it changes the state so, and of the sessions what this one does; the law stays
+-- a step of session s: it changes the state so, and of the sessions what this one does; the law
+-- stays
 pub record StepsIn {L : Type 0} (w : WorldOf L) (s : ℕ) (u : WorldOf L) (o : StepOut) : Type 0 where
   pub does : Work
   pub makes : Makes s (state_of w) (work_in w.actors s) (state_of u) does o
@@ -253,7 +275,8 @@ pub record StepsIn {L : Type 0} (w : WorldOf L) (s : ℕ) (u : WorldOf L) (o : S
 
 -- ---- steps of many
 
--- one that is named in a schedule takes a step, where it is a session with a task; else nothing is changed
+-- one that is named in a schedule takes a step, where it is a session with a task; else nothing is
+-- changed
 abbrev pub Turns : {L : Type 0} → WorldOf L → ℕ → WorldOf L → Type 0
 Turns w s v = ((o : StepOut) × StepsIn w s v o)
     ⊎ ((v ≡ w) × ((slice_get w.history.sessions s ≡ None) ⊎ (kind_due (work_in w.actors s) ≡ None)))

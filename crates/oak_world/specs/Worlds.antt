@@ -57,7 +57,8 @@ live h = record { clusters = h.clusters; sessions = h.sessions; begin = None; pa
 abbrev pub story_of : Journal → Story
 story_of j = record { clusters = j.clusters; sessions = j.sessions; past = reverse j.events.list }
 
--- a law, what the journal tells, the documents, the memories of the cluster nodes 1, 2 and so on, and what each session does
+-- a law, what the journal tells, the documents, the memories of the cluster nodes 1, 2 and so on,
+-- and what each session does
 pub record WorldOf (L : Type 0) : Type 0 where
   pub law : L
   pub history : Story

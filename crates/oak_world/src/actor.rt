@@ -5,7 +5,7 @@ ghost use Rattle.oak_machine.specs.declared.event.Event.TheVariants as event;
 ghost use Rattle.oak_node.specs.Pins.{pin_of};
 ghost use Rattle.oak_read.specs.Reading.{IsTable};
 ghost use Rattle.core_world.specs.States.{reader_pin};
-ghost use Rattle.oak_step.specs.Parts.{CanStep, HasRoot, Steps, parts};
+ghost use Rattle.oak_step.specs.Parts.{CanStep, Steps, parts};
 ghost use Rattle.oak_step.specs.declared.work.Work.TheVariants as work;
 ghost use Rattle.oak_world.specs.Kept.{IsPlaced};
 ghost use Rattle.oak_world.specs.Steps.{attached_after, attaching, attaching_by, is_made, reads_after, reads_of_load};
@@ -87,7 +87,8 @@ impl Actor {
         }
     }
 
-    // Keeps room for the next reply, and a place of the journal. Where memory is refused nothing changes.
+    // Keeps room for the next reply, and a place of the journal. Where memory is refused nothing
+    // changes.
     pub(crate) fn reserve(&mut self, events: &mut Events, room: Room) -> Result<(), AllocError>
         requires placed { IsPlaced self.old }
         requires places { self.old.places ≤ events.old.places }
@@ -146,7 +147,6 @@ pub(crate) fn step_actor(
 ) -> StepOut
     requires can { CanStep s memory.old events.old.places actor.old.work }
     requires table { IsTable table.old.documents }
-    requires root { HasRoot table.old }
     requires placed { IsPlaced actor.old }
     requires places { actor.old.places ≤ events.old.places }
     ensures made { Steps s node (parts table.old memory.old events.old.list) actor.old.work
@@ -154,7 +154,8 @@ pub(crate) fn step_actor(
     ensures began { actor.new.began ≡ actor.old.began }
     ensures reply { actor.new.reply ≡ actor.old.reply }
     ensures reads { actor.new.reads ≡ reads_after actor.old.work result actor.old.reads }
-    ensures attached { actor.new.attached ≡ attached_after actor.old.work result actor.old.attached }
+    ensures attached { actor.new.attached
+        ≡ attached_after actor.old.work result actor.old.attached }
     ensures order { IsTable table.new.documents }
     ensures placed { IsPlaced actor.new }
     ensures places { events.new.places + actor.old.places ≡ events.old.places + actor.new.places }

@@ -1,5 +1,5 @@
-//! The store, the memories of the cluster nodes, the sessions' tasks and the journal together. Each step is one operation: on
-//! one document, on the memory of one cluster node, or one reply.
+//! The store, the memories of the cluster nodes, the sessions' tasks and the journal together. Each
+//! step is one operation: on one document, on the memory of one cluster node, or one reply.
 #![tactic(auto)]
 
 mod actor;

@@ -48,9 +48,10 @@ use std::alloc::{AllocError, Global};
 use std::marker::Model;
 use std::snapshot::Snapshot;
 
-/// The law, which clauses alone read and which takes no memory; the journal, the documents, the memories of one to eight cluster nodes,
-/// and what each session does. Its steps are those of Oak's DocumentNodeStore (Oak, DocumentNodeStore): one operation on one document or
-/// on one node's memory, in any order of the sessions.
+/// The law, which clauses alone read and which takes no memory; the journal, the documents, the
+/// memories of one to eight cluster nodes, and what each session does. Its steps are those of Oak's
+/// DocumentNodeStore (Oak, DocumentNodeStore): one operation on one document or on one node's
+/// memory, in any order of the sessions.
 pub struct World<L: Law> {
     alloc: Global,
     law: Snapshot<L>,
@@ -96,8 +97,9 @@ impl<L: Law> Model for World<L> {
 }
 
 impl<L: Law + Drop> World<L> {
-    /// The world before any step: of so many cluster nodes, 1 to 8, and of at most 64 sessions, each on the node of its number
-    /// in the list. The store has four documents: `/`, `/jcr:system`, `/jcr:system/jcr:versionStorage` and the settings.
+    /// The world before any step: of so many cluster nodes, 1 to 8, and of at most 64 sessions,
+    /// each on the node of its number in the list. The store has four documents: `/`,
+    /// `/jcr:system`, `/jcr:system/jcr:versionStorage` and the settings.
     pub fn new(
         alloc: Global,
         law: &L,
@@ -135,10 +137,11 @@ impl<L: Law + Drop> World<L> {
         })
     }
 
-    /// The events so far: a run of the machine by the law. Each of its sessions has a seat. Of two commits that are made and
-    /// clash, the base of one sees the other. A refusal names its cause: another's commit, outside the base, made or under way.
-    /// What has ended and clashes with no other draw outside its base is committed, or wanted memory before its commit point.
-    /// Each event was made by a session for its next command, which asks for it.
+    /// The events so far: a run of the machine by the law. Each of its sessions has a seat. Of two
+    /// commits that are made and clash, the base of one sees the other. A refusal names its cause:
+    /// another's commit, outside the base, made or under way. What has ended and clashes with no
+    /// other draw outside its base is committed, or wanted memory before its commit point. Each
+    /// event was made by a session for its next command, which asks for it.
     pub fn journal(&self) -> &Journal
         ensures journal { history_of result.now ≡ live self.now.history }
         ensures run { IsRun (L.may_start self.now.law) (L.may_say self.now.law)
@@ -183,9 +186,10 @@ impl<L: Law + Drop> World<L> {
         let _ = &self.journal;
     }
 
-    /// The documents. With the journal, the memories and the sessions they keep what each world keeps: the documents hold what
-    /// the journal tells, the committers are sound, the memories are those of the journal, and the readers read the tree at their pins.
-    /// Of what has ended without a commit no document of a node has an entry but collisions.
+    /// The documents. With the journal, the memories and the sessions they keep what each world
+    /// keeps: the documents hold what the journal tells, the committers are sound, the memories are
+    /// those of the journal, and the readers read the tree at their pins. Of what has ended without
+    /// a commit no document of a node has an entry but collisions.
     pub fn documents(&self) -> &DocTable
         ensures table { result.now ≡ self.now.table }
         ensures kept { IsKept (L.may_start self.now.law)
@@ -221,12 +225,12 @@ impl<L: Law + Drop> World<L> {
         seat.pin(&self.table, memory, actor)
     }
 
-    /// Each pair that is held shows the journal's tree; its vector is settled and closed, and at least
-    /// its sweep vector. A pair is held that is a pin of a cluster node's memory, of a session or of
-    /// its cursor, and one that the settings keep as a checkpoint or for an attached session. Pins are
-    /// where the journal has their owners; the settings have just the last checkpoint of each id that
-    /// wasn't released since, and readers just of sessions that attached and weren't detached since.
-    /// The function does nothing: callers learn the facts.
+    /// Each pair that is held shows the journal's tree; its vector is settled and closed, and at
+    /// least its sweep vector. A pair is held that is a pin of a cluster node's memory, of a
+    /// session or of its cursor, and one that the settings keep as a checkpoint or for an attached
+    /// session. Pins are where the journal has their owners; the settings have just the last
+    /// checkpoint of each id that wasn't released since, and readers just of sessions that attached
+    /// and weren't detached since. The function does nothing: callers learn the facts.
     pub fn holds_pairs(&self)
         ensures pins { (k owner : ℕ) (pin : Pin) → IsNode self.now.history.clusters k
             → pin_of (memory_at self.now.memories k) owner ≡ Some pin
@@ -246,8 +250,8 @@ impl<L: Law + Drop> World<L> {
         let _ = &self.table;
     }
 
-    /// Tells a session that does nothing what to do; its next command asks for the events of the task.
-    /// Where memory is refused nothing changes.
+    /// Tells a session that does nothing what to do; its next command asks for the events of the
+    /// task. Where memory is refused nothing changes.
     pub fn start(&mut self, actor: u32, task: Task) -> Result<(), AllocError>
         requires idle { IsIdle self.old actor }
         requires may { MayBegin (L.may_start self.old.law) (live self.old.history) actor task }
@@ -266,8 +270,9 @@ impl<L: Law + Drop> World<L> {
         Ok(())
     }
 
-    /// One step of a session that has a task. A port tells of it what the second clause says, whatever the reference that leads to the world.
-    /// A step lowers the number of steps that are left of the task, or the session waits.
+    /// One step of a session that has a task. A port tells of it what the second clause says,
+    /// whatever the reference that leads to the world. A step lowers the number of steps that are
+    /// left of the task, or the session waits.
     pub fn step(&mut self, actor: u32) -> StepOut
         requires there { IsTrue (is_some (slice_get self.old.history.sessions actor)) }
         requires busy { work_in self.old.actors actor ≢ work.Rest }
@@ -291,7 +296,8 @@ impl<L: Law + Drop> World<L> {
         )
     }
 
-    /// The kind of the session's next step; None where it has no task. It takes no memory. Where no step is left it has none.
+    /// The kind of the session's next step; None where it has no task. It takes no memory. Where no
+    /// step is left it has none.
     pub fn due(&self, actor: u32) -> Option<StepKind>
         requires { IsTrue (is_some (slice_get self.now.history.sessions actor)) }
         ensures due { result ≡ kind_due (work_in self.now.actors actor) }
@@ -322,7 +328,8 @@ impl<L: Law + Drop> World<L> {
         seat.reserve(&mut self.journal.events, room)
     }
 
-    /// Says the session's next reply, which the law lets it say, and whose bytes are reserved. It can't be refused.
+    /// Says the session's next reply, which the law lets it say, and whose bytes are reserved. It
+    /// can't be refused.
     pub fn say(&mut self, actor: u32, index: u32, text: &str)
         requires idle { IsIdle self.old actor }
         requires may { HasPlace (L.may_say self.old.law) (live self.old.history)

@@ -71,12 +71,9 @@ fn end_write(write: BackWrite, out: &mut Out) {
     }
 }
 
-// CLUSTER
+// What the root tells is learned.
 pub(crate) fn add_read(row: &Row<'_>, table: &mut DocTable, out: &mut Out) {
-    match BackRead::new(out.alloc, short(row.arguments)) {
-        Ok(read) => run_read(row, read, table, out),
-        Err(_) => out.is_broken = true,
-    }
+    run_read(row, BackRead::new(out.alloc), table, out);
 }
 
 fn run_read(row: &Row<'_>, read: BackRead, table: &mut DocTable, out: &mut Out) {

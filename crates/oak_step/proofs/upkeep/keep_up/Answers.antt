@@ -4,16 +4,10 @@ pub returns-in-Write-clause-made : goal.returns-in-Write-clause-made
 returns-in-Write-clause-made c = rw c.in-Write.is (c.write.ensures.made c.args.node c.args.table.now)
 
 pub returns-in-Noted-clause-made : goal.returns-in-Noted-clause-made
-returns-in-Noted-clause-made c = rw c.in-Noted.is (c.publish_all.ensures.made c.args.memory.now)
+returns-in-Noted-clause-made c = rw c.in-Noted.is (c.begin.ensures.made c.args.memory.now)
 
 pub returns-in-Publish-clause-made : goal.returns-in-Publish-clause-made
 returns-in-Publish-clause-made c = rw c.in-Publish.is (c.publish.ensures.made c.args.memory.now)
-
-pub returns-in-Read-clause-made : goal.returns-in-Read-clause-made
-returns-in-Read-clause-made c = rw c.in-Read.is (c.read_root.ensures.made c.args.node c.args.memory.now)
-
-pub returns-in-Learn-clause-made : goal.returns-in-Learn-clause-made
-returns-in-Learn-clause-made c = rw c.in-Learn.is (c.learn.ensures.made c.args.s c.args.table.now)
 
 pub returns-in-Checkpoint-clause-made : goal.returns-in-Checkpoint-clause-made
 returns-in-Checkpoint-clause-made c = rw c.in-Checkpoint.is (c.checkpoint.ensures.made c.args.node)

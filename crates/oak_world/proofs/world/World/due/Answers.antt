@@ -27,4 +27,6 @@ returns-clause-busy g c =
     ((world_is g.L.Law.may_start g.L.Law.may_say _ c.args.self.now c.self.view_is c.self.invariant.0.0).may c.args.actor))
 
 pub returns-clause-over : goal.returns-clause-over
-returns-clause-over g c = over c.args.actor c.args.self.now.table (memory_of (state_of c.args.self.now) c.args.actor) (work_in c.args.self.now.actors c.args.actor)
+returns-clause-over g c =
+    over (g.L.Law.may_start c.args.self.now.law) (live c.args.self.now.history) c.args.actor c.args.self.now.table (memory_of (state_of c.args.self.now) c.args.actor) (work_in c.args.self.now.actors c.args.actor)
+    ((world_is g.L.Law.may_start g.L.Law.may_say _ c.args.self.now c.self.view_is c.self.invariant.0.0).may c.args.actor)

@@ -1,4 +1,4 @@
-use Rattle.std.proofs.Common.{◌<◌, ◌^◌, length, is_some, ap, subst, List, arith}
+use Rattle.std.proofs.Common.{◌<◌, ◌^◌, length, subst, List, arith}
 use Rattle.oak_machine.specs.declared.event.Event.{Event}
 use Rattle.oak_world.proofs.Calling.{seat_placed, seat_places, step_can, step_made, step_shown, step_stands}
 use Rattle.oak_world.proofs.Left.{lowers}
@@ -20,9 +20,6 @@ step_actor-requires-clause-can g c = step_can (g.L.Law.may_start c.self.inside.l
 
 pub step_actor-requires-clause-table : goal.step_actor-requires-clause-table
 step_actor-requires-clause-table g c = c.self.invariant.0.0.table
-
-pub step_actor-requires-clause-root : goal.step_actor-requires-clause-root
-step_actor-requires-clause-root g c = ap is_some c.self.invariant.0.0.kept.root.there
 
 pub step_actor-requires-clause-placed : goal.step_actor-requires-clause-placed
 step_actor-requires-clause-placed g c = seat_placed (g.L.Law.may_start c.self.inside.law.value) (g.L.Law.may_say c.self.inside.law.value) (g.L.Law.proper c.self.inside.law.value) (g.L.Law.writes c.self.inside.law.value) (g.L.Law.starts_last c.self.inside.law.value) c.self.inside.law.value c.self.inside.journal c.self.inside.table c.self.inside.memories.items c.self.inside.actors.items c.self.invariant.0.0 c.self.invariant.0.1 c.args.actor c.node-node.result (on_by _ c.args.self.now c.args.actor c.node-node.result c.self.view_is c.node-node.ensures.node) c.index_mut-seat.result.now c.index_mut-seat.ensures.value

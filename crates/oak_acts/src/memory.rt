@@ -4,15 +4,15 @@ ghost use Rattle.oak_machine.specs.declared.event.Event.TheVariants as event;
 ghost use Rattle.oak_machine.specs.declared.event.StepKind.TheVariants as kind;
 ghost use Rattle.oak_node.specs.Pins.{pin_now, pin_of, with_pin};
 ghost use Rattle.core_nodes.specs.Nodes.{without_session};
-ghost use Rattle.oak_step.specs.Parts.{base_at};
+ghost use Rattle.oak_acts.specs.Acts.{base_at};
 
 use jr_rev::{Pin, RevVec};
 use oak_machine::{Event, Events, StepKind};
 use oak_node::NodeMem;
 use std::alloc::AllocError;
 
-// The session logs in: it is pinned at the head.
-pub(crate) fn login(memory: &mut NodeMem, events: &mut Events, s: u32) -> Result<Pin, AllocError>
+/// The session logs in: it is pinned at the head.
+pub fn login(memory: &mut NodeMem, events: &mut Events, s: u32) -> Result<Pin, AllocError>
     ensures pin { IfOk result (λ pin. pin ≡ pin_now memory.old) }
     ensures memory { OnOk result (memory.new ≡ with_pin memory.old s (pin_now memory.old)) }
     ensures list { OnOk result
@@ -30,8 +30,8 @@ pub(crate) fn login(memory: &mut NodeMem, events: &mut Events, s: u32) -> Result
     Ok(pin)
 }
 
-// The base of the session, which is pinned, moves to the head.
-pub(crate) fn refresh(memory: &mut NodeMem, events: &mut Events, s: u32) -> Result<Pin, AllocError>
+/// The base of the session, which is pinned, moves to the head.
+pub fn refresh(memory: &mut NodeMem, events: &mut Events, s: u32) -> Result<Pin, AllocError>
     requires { IsSome (pin_of memory.old s) }
     ensures pin { IfOk result (λ pin. pin ≡ pin_now memory.old) }
     ensures memory { OnOk result (memory.new ≡ with_pin memory.old s (pin_now memory.old)) }
@@ -45,8 +45,8 @@ pub(crate) fn refresh(memory: &mut NodeMem, events: &mut Events, s: u32) -> Resu
     Ok(refresh_kept(memory, events, s))
 }
 
-// The same, with a place that is kept for it. It takes no memory.
-pub(crate) fn refresh_kept(memory: &mut NodeMem, events: &mut Events, s: u32) -> Pin
+/// The base of the session moves to the head, with a place that is kept for it. It takes no memory.
+pub fn refresh_kept(memory: &mut NodeMem, events: &mut Events, s: u32) -> Pin
     requires pinned { IsSome (pin_of memory.old s) }
     requires place { 0 < events.old.places }
     ensures pin { result ≡ pin_now memory.old }
@@ -59,8 +59,8 @@ pub(crate) fn refresh_kept(memory: &mut NodeMem, events: &mut Events, s: u32) ->
     pin
 }
 
-// The session leaves: its pin goes, and that of its cursor.
-pub(crate) fn leave(memory: &mut NodeMem, events: &mut Events, s: u32) -> Result<(), AllocError>
+/// The session leaves: its pin goes, and that of its cursor.
+pub fn leave(memory: &mut NodeMem, events: &mut Events, s: u32) -> Result<(), AllocError>
     requires { s < 64 }
     ensures memory { OnOk result (memory.new ≡ without_session memory.old s) }
     ensures list { OnOk result (events.new.list ≡ events.old.list ++ event.Went s kind.End ∷ []) }
@@ -74,8 +74,8 @@ pub(crate) fn leave(memory: &mut NodeMem, events: &mut Events, s: u32) -> Result
     Ok(())
 }
 
-// The base of the session.
-pub(crate) fn base_of(memory: &NodeMem, s: u32) -> RevVec
+/// The base of the session.
+pub fn base_of(memory: &NodeMem, s: u32) -> RevVec
     ensures { result ≡ base_at memory.now s }
 {
     match memory.pin_of(s) {
