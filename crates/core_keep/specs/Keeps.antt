@@ -92,14 +92,17 @@ KeepsValue c p n es = KeepsItem (put_of p n) shows_value (property_at c.tree p n
 pub record KeepsAt (ds : Documents) (c : Course) (p : Path) : Type 0 where
   pub node : KeepsNode c p (gone_in (all_at ds p))
   pub prop : (n : Name) → KeepsValue c p n (values_in n (all_at ds p))
+  -- the commit root of each entry of a commit says so, where no swept bound sees it
   pub rooted : (d : Document) → IsIn d (all_at ds p) → (r : Revision) (ws : List Write)
       → edit_in c r ≡ Some ws → IsFalse (c.swept r) → HasEntryOf r d
       → IsTrue (has_revision (ds (commit_root_of d r)) r)
+  -- nothing else is said to be committed, or, once it isn't in flight, noted
   pub unsaid : (r : Revision) → edit_in c r ≡ None → IsFalse (c.old r)
       → IsFalse (has_revision (ds (id.Node p)) r)
   pub no_root : (r : Revision) → edit_in c r ≡ None → IsFalse (c.old r) → IsFalse (c.flying r)
       → root_entry (ds (id.Node p)) r ≡ None
   pub named : (d : Document) → ds (id.Node p) ≡ Some d → d.id ≡ id.Node p
+  -- behind each listed previous document the document has later values
   pub previous : (d : Document) → ds (id.Node p) ≡ Some d → (e : PrevEntry) → IsIn e d.prev
       → (x : Document) → ds (id.Prev e.number p) ≡ Some x → IsPrevious c p d e.number x
 

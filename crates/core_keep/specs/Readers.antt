@@ -48,8 +48,10 @@ IsListed ds p k =
 -- or outdone by the copy, or by nothing
 pub record Reads (ds : Documents) (c : Course) (v t : Sight) (p : Path) (copy : Document)
     (asked : ℕ → Bool) (look : ℕ → Option Document) : Type 0 where
+  -- what it will find of a listed one that it hasn't asked for is there now, or nothing
   pub follows : (e : PrevEntry) → IsIn e copy.prev → IsFalse (asked e.number)
       → (look e.number ≡ ds (id.Prev e.number p)) ⊎ (look e.number ≡ None)
+  -- what it goes by shows the node and its properties as its base sees them
   pub node :
       Matches shows_node (born_at c.tree p) (last_entry (gone_of p) v c.commits)
       (latest (filter (λ e. v e.0) (gone_in (gone_by copy look))))
@@ -57,15 +59,20 @@ pub record Reads (ds : Documents) (c : Course) (v t : Sight) (p : Path) (copy : 
       → Matches shows_value (property_at c.tree p n) (last_entry (put_of p n) v c.commits)
       (latest (filter (λ e. v e.0) (values_in n (gone_by copy look))))
   pub named : copy.id ≡ id.Node p
+  -- a previous document that it goes by has its own id, and no entry of the node
   pub previous : (e : PrevEntry) → IsIn e copy.prev → (x : Document) → look e.number ≡ Some x
       → (x.id ≡ id.Prev e.number p) × (x.deleted ≡ [])
+  -- each entry that it sees is of what is done, and of what its sweep vector doesn't see the
+  -- commit root says so
   pub done : (x : Document) → IsIn x (gone_by copy look) → (r : Revision) → IsTrue (v r)
       → HasEntryOf r x → IsTrue (is_done c r)
   pub said : (x : Document) → IsIn x (gone_by copy look) → (r : Revision) → IsTrue (v r)
       → IsFalse (t r) → HasEntryOf r x → IsTrue (has_revision (ds (commit_root_of x r)) r)
+  -- the document has no entry that the reader sees but of what its copy has
   pub within : (d : Document) → ds (id.Node p) ≡ Some d → (n : Name) (q : Revision) → IsTrue (v q)
       → IsTrue (is_some (of_revision (values_of_property d.props n) q))
       → IsTrue (is_some (of_revision (values_of_property copy.props n) q))
+  -- what it hasn't asked for is still listed, or the copy outdoes it
   pub left : (e : PrevEntry) → IsIn e copy.prev → IsFalse (asked e.number) → (x : Document)
       → look e.number ≡ Some x → IsListed ds p e.number ⊎ IsOutdone v copy x
 
@@ -76,18 +83,23 @@ pub record Reads (ds : Documents) (c : Course) (v t : Sight) (p : Path) (copy : 
 pub record GoesOn (ds now : Documents) (c later : Course) (v t : Sight) (p : Path) (copy : Document)
     (asked : ℕ → Bool) : Type 0 where
   pub tree : later.tree ≡ c.tree
+  -- of the node and each property the last commit that the reader sees stays
   pub node_last : last_entry (gone_of p) v later.commits ≡ last_entry (gone_of p) v c.commits
   pub prop_last : (n : Name) → last_entry (put_of p n) v later.commits
       ≡ last_entry (put_of p n) v c.commits
+  -- what is done stays so, and what is said of what the reader sees stays said
   pub done : (r : Revision) → IsTrue (is_done c r) → IsTrue (is_done later r)
   pub said : (q : Path) (r : Revision) → IsTrue (is_done c r) → IsTrue (v r) → IsFalse (t r)
       → IsTrue (has_revision (ds (id.Node q)) r) → IsTrue (has_revision (now (id.Node q)) r)
+  -- the node's document gets no entry that the reader sees
   pub sub : (d : Document) → now (id.Node p) ≡ Some d → (n : Name) (q : Revision) → IsTrue (v q)
       → IsTrue (is_some (of_revision (values_of_property d.props n) q))
       → (old : Document) × (ds (id.Node p) ≡ Some old)
       × IsTrue (is_some (of_revision (values_of_property old.props n) q))
+  -- only what the document outdoes is listed no more
   pub list : (k : ℕ) (x : Document) → ds (id.Prev k p) ≡ Some x → IsListed ds p k → IsListed now p k
       ⊎ ((old : Document) × (ds (id.Node p) ≡ Some old) × IsOutdone v old x)
+  -- which of the previous documents stay; those that don't are listed by nobody
   pub stays : ℕ → Bool
   pub previous : (e : PrevEntry) → IsIn e copy.prev → IsFalse (asked e.number)
       → (IsTrue (stays e.number) × (now (id.Prev e.number p) ≡ ds (id.Prev e.number p)))

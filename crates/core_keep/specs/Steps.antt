@@ -58,10 +58,14 @@ pub record AreNotes {X : Type 0} (c : Course) (es left : List (Revision × X)) :
 -- of a document entries went, and statuses, and it lists no more previous documents, of which each
 -- entry is seen by a bound that sees a later one that stands
 pub record IsPruned (ds : Documents) (c : Course) (p : Path) (old d : Document) : Type 0 where
+  -- entries may go, of the node and of each property
   pub deleted : AreLeft c old.deleted d.deleted
   pub props : (n : Name) → AreLeft c (values_of_property old.props n) (values_of_property d.props n)
+  -- notes of commit roots may go, and statuses
   pub roots : AreNotes c old.commit_root d.commit_root
   pub revisions : AreNotes c old.revisions d.revisions
+  -- previous documents may be listed no more: each entry of theirs a bound sees, and a later one
+  -- that the bound sees too stays
   pub prev : (keep : PrevEntry → Bool) × (d.prev ≡ filter keep old.prev)
       × ((e : PrevEntry) → IsIn e old.prev → IsFalse (keep e) → (x : Document)
       → ds (id.Prev e.number p) ≡ Some x
@@ -74,11 +78,13 @@ pub record IsPruned (ds : Documents) (c : Course) (p : Path) (old d : Document) 
 -- entries of properties went to a previous document x, which the document lists first now
 pub record IsMoved (c : Course) (p : Path) (old d : Document) (e : PrevEntry)
     (x : Document) : Type 0 where
+  -- the document lists the previous one first, and is else as it was, but for properties
   pub prev : d.prev ≡ e ∷ old.prev
   pub deleted : d.deleted ≡ old.deleted
   pub roots : d.commit_root ≡ old.commit_root
   pub revisions : d.revisions ≡ old.revisions
   pub named : d.id ≡ id.Node p
+  -- each entry of a property is in one of the two, and not in both
   pub props : (n : Name) (q : Revision)
       → option_or (of_revision (values_of_property d.props n) q)
       (of_revision (values_of_property x.props n) q)
@@ -86,6 +92,7 @@ pub record IsMoved (c : Course) (p : Path) (old d : Document) (e : PrevEntry)
   pub parted : (n : Name) (q : Revision)
       → IsTrue (is_some (of_revision (values_of_property x.props n) q))
       → of_revision (values_of_property d.props n) q ≡ None
+  -- what went has the commit root that it had
   pub noted : (n : Name) (q : Revision)
       → IsTrue (is_some (of_revision (values_of_property x.props n) q))
       → of_revision x.commit_root q ≡ of_revision old.commit_root q

@@ -19,7 +19,6 @@ use Rattle.core_heads.proofs.Locals.{some_of}
 use Rattle.core_heads.proofs.Orders.{and_both}
 use Rattle.core_heads.proofs.Runs.{fresh_run}
 use Rattle.core_keep.specs.Journal.{Separate}
-use Rattle.core_keep.proofs.Start.{start_separate}
 use Rattle.core_world.specs.Kept.{AreSessionsKept, has_written}
 use Rattle.core_world.specs.States.{State, origin}
 use Rattle.core_begun.proofs.Course.{separate_commit}

@@ -197,11 +197,15 @@ pub record AreSettingsKept (sessions : List ℕ) (past : Past) (t : Table) : Typ
 
 -- what sessions, their commits, readers and memories keep
 pub record AreSessionsKept (starts : Starts) (says : Says) (w : State) : Type 0 where
+  -- sessions are at cluster nodes, and the past is that of a run
   pub nodes : AreNodes w.clusters w.sessions
   pub run : IsRunOf starts says w.clusters w.sessions w.begin w.past
+  -- commits in flight, and who is at work
   pub committing : AreCommitting (origin w) w.past w.table w.running
   pub working : AreAtWork w.sessions w.past w.running w.reading
+  -- the memory of each cluster node is that of the past
   pub memories : AreMemories w.begin w.clusters w.sessions w.past w.memories
+  -- readers, and readers of changes
   pub readers : AreReading (origin w) w.past w.table w.formers w.reading
   pub observers : AreObserving (origin w) w.sessions w.past w.table w.formers w.observing
 
