@@ -16,7 +16,7 @@ use Rattle.oak_step.specs.declared.work.Work.{Work}
 use Rattle.oak_step.specs.declared.work.Work.TheVariants as work
 use Rattle.oak_step.specs.declared.upkeep.Upkeep.{Upkeep}
 use Rattle.oak_step.specs.declared.upkeep.Upkeep.TheVariants as upkeep
-use Rattle.oak_world.specs.Steps.{Learns, Makes, MakesCommit, MakesUpdate, MakesUpkeep, Publishes, PublishesFirst}
+use Rattle.oak_world.specs.Steps.{BeginsBackWrite, Makes, MakesBackRead, MakesBackWrite, MakesCommit, MakesUpdate, MakesUpkeep}
 use Rattle.jr_shared.proofs.Lists.{never_longer, never_two_longer}
 
 module _ (s : ℕ) (w u : State) (same : u.past ≡ w.past) where
@@ -47,17 +47,17 @@ module _ (s : ℕ) (w u : State) (same : u.past ≡ w.past) where
   still : u ≡ w → IsCalm
   still is = (ap (λ (x : State). x.table) is, ap (λ (x : State). x.memories) is)
 
-  calm_publish : (b : BackWrite) (v : Work) (o : StepOut) → Publishes s w b u v o → IsCalm
+  calm_publish : (b : BackWrite) (v : Work) (o : StepOut) → MakesBackWrite s w b u v o → IsCalm
   calm_publish b v (answers.Went kind.Back) m = never _ (ap (λ (x : State). x.past) m.3)
   calm_publish b v (answers.Ready (ends.Published o)) m = never _ (ap (λ (x : State). x.past) m.2)
   calm_publish b v answers.Memory m = still m.0
   calm_publish b v _ m = absurd m
 
-  calm_begin : (n : Pending) (v : Work) (o : StepOut) → PublishesFirst s w n u v o → IsCalm
+  calm_begin : (n : Pending) (v : Work) (o : StepOut) → BeginsBackWrite s w n u v o → IsCalm
   calm_begin n v o (inl m) = still m.1
   calm_begin n v o (inr m) = calm_publish m.1 v o m.3
 
-  calm_learn : (b : BackRead) (v : Work) (o : StepOut) → Learns s w b u v o → IsCalm
+  calm_learn : (b : BackRead) (v : Work) (o : StepOut) → MakesBackRead s w b u v o → IsCalm
   calm_learn b v (answers.Went kind.Back) m = never _ (ap (λ (x : State). x.past) m.1)
   calm_learn b v (answers.Ready (ends.Learnt x)) m = never _ (ap (λ (y : State). y.past) m.2)
   calm_learn b v answers.Memory m = still m.0

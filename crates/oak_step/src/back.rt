@@ -60,6 +60,7 @@ fn take(memory: &mut NodeMem, events: &mut Events, s: u32) -> Result<Pending, Al
 }
 
 // A background write begins with the notes that it took, and makes its first update.
+#[tactic(auto, using(crate::proofs::Backs::publishing_first))]
 pub(crate) fn begin(
     alloc: Global,
     table: &mut DocTable,
@@ -124,6 +125,7 @@ fn told_write(write: BackWrite, reply: Reply) -> Work
 }
 
 // What a background read has due: the root's document is read, or the memory learns what that told.
+#[tactic(auto, using(oak_sync::proofs::Standing::learns_both))]
 pub(crate) fn read(
     table: &mut DocTable,
     memory: &mut NodeMem,

@@ -45,7 +45,7 @@ path_due b busy = by (slice_get b.paths b.written) refl
     by (Some p) is = (p, path_there b p is)
 
 -- the path of the document that is due is one
-path_in : Ask → Path
+abbrev path_in : Ask → Path
 path_in (ask.Update op) = names_of op.id
 path_in _ = []
 

@@ -49,7 +49,7 @@ one_behind : (l y a b : ℕ) → a ≡ l + b → y + a ≡ l + (y + b)
 one_behind l y a b h = omega (arith, h)
 
 -- what all the paths weigh
-total : (Path → ℕ) → List Path → ℕ
+abbrev total : (Path → ℕ) → List Path → ℕ
 total f [] = 0
 total f (p ∷ ps) = f p + total f ps
 
@@ -110,7 +110,7 @@ count_total (p ∷ ps) = ap suc (count_total ps)
 -- ---- the paths above others
 
 -- the paths above one, below the root, with itself
-firsts : Path → List Path
+abbrev firsts : Path → List Path
 firsts [] = []
 firsts (n ∷ p) = (n ∷ []) ∷ map (λ (q : Path). n ∷ q) (firsts p)
 
@@ -131,7 +131,7 @@ among_firsts n [] more = contains_first (n ∷ []) (n ∷ []) (map (λ (r : Path
 among_firsts n (m ∷ q) more = contains_behind (n ∷ []) (n ∷ m ∷ q) (map (λ (r : Path). n ∷ r) (firsts ((m ∷ q) ++ more))) (behind_name n (m ∷ q) (firsts ((m ∷ q) ++ more)) (among_firsts m q more))
 
 -- the paths above some, below the root, with themselves
-all_firsts : List Path → List Path
+abbrev all_firsts : List Path → List Path
 all_firsts [] = []
 all_firsts (p ∷ ps) = firsts p ++ all_firsts ps
 

@@ -53,7 +53,7 @@ use Rattle.oak_world.proofs.Reading.{read_lowers}
 use Rattle.oak_world.proofs.States.{actor_set}
 use Rattle.oak_world.specs.Kept.{EndsInRoot, IsWorld, May, MayKeepUp}
 use Rattle.oak_world.specs.Left.{changes_left, commit_left, learn_left, left_in, left_of, marks_left, names_in, reads_left, upkeep_left, writes_left}
-use Rattle.oak_world.specs.Steps.{Learns, Makes, MakesCommit, MakesUpdate, MakesUpkeep, Publishes, PublishesFirst, StepsIn}
+use Rattle.oak_world.specs.Steps.{BeginsBackWrite, Makes, MakesBackRead, MakesBackWrite, MakesCommit, MakesUpdate, MakesUpkeep, StepsIn}
 use Rattle.oak_world.specs.Worlds.{ActorState, WorldOf, idle, live, running_as, state_of, work_in}
 
 -- ---- basics
@@ -359,7 +359,7 @@ module _ (s : ℕ) (w u : State) (m n : NodeState) (x : Work) where
   some_less syncing.Learn is = rest_less 0 is
   some_less syncing.Done is = rest_less 0 is
 
-  publish_less : (b : BackWrite) → EndsInRoot b → (o : StepOut) → Publishes s w b u x o → now < length b.paths - b.written
+  publish_less : (b : BackWrite) → EndsInRoot b → (o : StepOut) → MakesBackWrite s w b u x o → now < length b.paths - b.written
   publish_less b ahead (answers.Went kind.Back) h =
       let z : now ≡ length b.paths - cond (nat_lt b.written (length b.paths)) (b.written + 1) b.written = ap (left_of s u.table n) h.4 in
       let less = is_within b ahead in
@@ -369,7 +369,7 @@ module _ (s : ℕ) (w u : State) (m n : NodeState) (x : Work) where
   publish_less b ahead answers.Memory h = out_less b ahead h.1
   publish_less b ahead _ h = absurd h
 
-  begin_less : (p : Pending) (o : StepOut) → PublishesFirst s w p u x o → now < suc (names_in p.paths)
+  begin_less : (p : Pending) (o : StepOut) → BeginsBackWrite s w p u x o → now < suc (names_in p.paths)
   begin_less p o (inl h) = rest_less (names_in p.paths) h.2
   begin_less p o (inr h) =
       let none : (h.1).written ≡ 0 = ap (λ (c : BackWrite). c.written) (h.2).state in
@@ -377,7 +377,7 @@ module _ (s : ℕ) (w u : State) (m n : NodeState) (x : Work) where
       let less = publish_less h.1 (begins_ahead h.0 p h.1 h.2) o h.3 in
       omega (arith, none, few, less)
 
-  learn_less : (b : BackRead) (o : StepOut) → Learns s w b u x o → now < learn_left (learning.stage_of b)
+  learn_less : (b : BackRead) (o : StepOut) → MakesBackRead s w b u x o → now < learn_left (learning.stage_of b)
   learn_less b (answers.Went kind.Back) h =
       subst (λ (at : Stage). now < learn_left at) (sym h.0)
       (let z : now ≡ 1 = ap (left_of s u.table n) h.2 ∙ one (nodes_in w.table []) in omega (arith, z))

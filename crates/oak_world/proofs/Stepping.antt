@@ -41,8 +41,8 @@ use Rattle.oak_sync.proofs.Standing.{below_due, root_due}
 use Rattle.oak_step.specs.declared.upkeep.Upkeep.{Upkeep}
 use Rattle.oak_step.specs.declared.upkeep.Upkeep.TheVariants as upkeep
 use Rattle.oak_step.proofs.Backs.{goes_on, read_table, reads_on, told_table}
-use Rattle.oak_step.specs.Parts.{CommitsOn, EndsSo, IsGivenUp, KeepsUp, LearnsOn, Parts, PublishesFirst as PublishesFirstOn, PublishesOn, Steps, UpdatesOn, Updates, after_ask, base_at, changes_on, learned_on, parts, parts_ended, published_on, read_on}
-use Rattle.oak_world.specs.Steps.{Learns, Makes, MakesCommit, MakesUpdate, MakesUpkeep, Publishes, PublishesFirst}
+use Rattle.oak_step.specs.Parts.{CommitsOn, EndsSo, IsGivenUp, KeepsUp, LearnsOn, Parts, PublishesFirst, PublishesOn, Steps, UpdatesOn, Updates, after_ask, base_at, changes_on, learned_on, parts, parts_ended, published_on, read_on}
+use Rattle.oak_world.specs.Steps.{BeginsBackWrite, Makes, MakesBackRead, MakesBackWrite, MakesCommit, MakesUpdate, MakesUpkeep}
 use Rattle.oak_world.specs.Worlds.{ActorState, WorldOf, node_in, observing_of, parts_at, reading_of, running_as, running_of, state_of, with_parts, work_in}
 use Rattle.oak_world.proofs.Making.{begins_is, ended_is, makes_last, makes_mark, makes_undo, makes_write, observes_is, reads_is, runs_is, same_is, sets_is, told_is}
 use Rattle.oak_world.proofs.States.{SameReaders, same_readers}
@@ -196,7 +196,7 @@ module _ {L : Type 0} (w : WorldOf L) (s : ℕ) (there : s < length w.actors) (q
     nothing : (o : StepOut) → o ≡ answers.Memory → q ≡ parts_at w s → v ≡ work.Rest → now ≡ state_of w
     nothing o is same rest = still (work.Upkeep k) work.Rest here rest refl (refl, refl) same
 
-    publishes : (b : BackWrite) (o : StepOut) → PublishesOn s node (parts_at w s) b q v o → Publishes s (state_of w) b now v o
+    publishes : (b : BackWrite) (o : StepOut) → PublishesOn s node (parts_at w s) b q v o → MakesBackWrite s (state_of w) b now v o
     publishes b (answers.Went kind.Back) h =
         let p = below_due b h.0 in
         let goes = goes_on w.table b p.0 p.1 in (
@@ -218,11 +218,11 @@ module _ {L : Type 0} (w : WorldOf L) (s : ℕ) (there : s < length w.actors) (q
     publishes b answers.Memory h = (nothing answers.Memory refl h.0 h.1, h.1)
     publishes b _ h = absurd h
 
-    publishes_first : (n : Pending) (o : StepOut) → PublishesFirstOn s node (parts_at w s) n q v o → PublishesFirst s (state_of w) n now v o
+    publishes_first : (n : Pending) (o : StepOut) → PublishesFirst s node (parts_at w s) n q v o → BeginsBackWrite s (state_of w) n now v o
     publishes_first n o (inl h) = inl (h.0, nothing o h.0 h.1 h.2, h.2)
     publishes_first n o (inr h) = inr (h.0, h.1, h.2, publishes h.1 o h.3)
 
-    learns : (b : BackRead) (o : StepOut) → LearnsOn s node (parts_at w s) b q v o → Learns s (state_of w) b now v o
+    learns : (b : BackRead) (o : StepOut) → LearnsOn s node (parts_at w s) b q v o → MakesBackRead s (state_of w) b now v o
     learns b (answers.Went kind.Back) h = (
       h.0,
       sets (work.Upkeep k) (work.Upkeep (upkeep.Read (learned_on w.table b))) here h.2 refl (refl, refl) (event.Went s kind.Back) (after_ask w.table (learning.due b)) h.1

@@ -55,7 +55,7 @@ use Rattle.oak_step.specs.declared.upkeep.Upkeep.{Upkeep}
 use Rattle.oak_step.specs.declared.upkeep.Upkeep.TheVariants as upkeep
 use Rattle.oak_world.specs.Kept.{EndsInRoot, IsOwn, MayKeepUp, MayLearn}
 use Rattle.oak_world.specs.Seen.{shown_read, shown_upkeep, shown_work}
-use Rattle.oak_world.specs.Steps.{HasCome, Learns, MakesUpkeep, Publishes, PublishesFirst, attached_after, attaching, is_made}
+use Rattle.oak_world.specs.Steps.{BeginsBackWrite, HasCome, MakesBackRead, MakesBackWrite, MakesUpkeep, attached_after, attaching, is_made}
 use Rattle.oak_step.specs.Upkeeps.{set_checkpoint}
 use Rattle.oak_world.proofs.Ahead.{begins_ahead, below_root, goes_ahead}
 use Rattle.oak_world.proofs.Lasting.{local_lasts}
@@ -168,7 +168,7 @@ module _ (starts : Starts) (says : Says) (proper : StartsProper starts) (w : Sta
       still_step : (u : State) (x : Work) → u ≡ w → x ≡ work.Rest → StepOf v u x answers.Memory
       still_step u x same is = at_those v answers.Memory w work.Rest u x same is (record { own = []; grown = refl; kept = kept; may = tt; apart = λ q m. refl; attached = refused_stays v (is_attached w.past s); unstopped = λ q m. m; same = refl; tells = subst (λ (y : Shows). Tells (history_in w) s y answers.Memory [] Idle) (sym shown) (refl, refl); of_step = refl; as_due = refl })
 
-      publish_step : (u : State) (x : Work) (o : StepOut) → Publishes s w b u x o → StepOf v u x o
+      publish_step : (u : State) (x : Work) (o : StepOut) → MakesBackWrite s w b u x o → StepOf v u x o
       publish_step u x (answers.Went kind.Back) m =
           let p = below_due b m.0 in
           let other = below_root m.1 (subst (λ (q : Path). (length q == 0) ≡ false) (one_due b p.0 m.1 (p.1).asks m.2) p.2) in
@@ -179,7 +179,7 @@ module _ (starts : Starts) (says : Says) (proper : StartsProper starts) (w : Sta
       publish_step u x _ m = absurd m
 
     -- a background write that begins
-    begin_step : (n : Pending) → IsOwn (history_in w) s n.upto → (u : State) (x : Work) (o : StepOut) → PublishesFirst s w n u x o → StepOf (work.Upkeep (upkeep.Noted n)) u x o
+    begin_step : (n : Pending) → IsOwn (history_in w) s n.upto → (u : State) (x : Work) (o : StepOut) → BeginsBackWrite s w n u x o → StepOf (work.Upkeep (upkeep.Noted n)) u x o
     begin_step n own u x o (inl m) =
         subst (λ (y : StepOut). StepOf (work.Upkeep (upkeep.Noted n)) u x y) (sym m.0) (refused_step (upkeep.Noted n) (refl, refl) u x m.1 m.2)
     begin_step n own u x o (inr m) =
@@ -232,7 +232,7 @@ module _ (starts : Starts) (says : Says) (proper : StartsProper starts) (w : Sta
       unread_step stage.Learn = (refl, refl)
       unread_step stage.Done = (refl, refl)
 
-      learns_step : MayLearn (history_in w) b (learning.stage_of b) → (u : State) (x : Work) (o : StepOut) → Learns s w b u x o → StepOf (work.Upkeep (upkeep.Read b)) u x o
+      learns_step : MayLearn (history_in w) b (learning.stage_of b) → (u : State) (x : Work) (o : StepOut) → MakesBackRead s w b u x o → StepOf (work.Upkeep (upkeep.Read b)) u x o
       learns_step may u x (answers.Went kind.Back) m =
           at_those (work.Upkeep (upkeep.Read b)) (answers.Went kind.Back) (after_went w s kind.Back) (work.Upkeep (upkeep.Read (learning.with_root b (nodes_in w.table [])))) u x m.1 m.2 (read_step m.0)
       learns_step may u x (answers.Ready (ends.Learnt v)) m =

@@ -109,36 +109,36 @@ MakesCommit s w c u v o =
 
 -- a background write tells the document of a node below the root; or the root's, which publishes
 -- its revision, and the task ends
-abbrev pub Publishes : ℕ → State → BackWrite → State → Work → StepOut → Type 0
-Publishes s w b u v (answers.Went kind.Back) =
+abbrev pub MakesBackWrite : ℕ → State → BackWrite → State → Work → StepOut → Type 0
+MakesBackWrite s w b u v (answers.Went kind.Back) =
     (publishing.stage_of b ≡ syncing.Write)
     × (p : Path) × (publishing.due b ≡ ask.Update (publishing.back_op p b.upto))
     × (u ≡ after_back w s p b.upto) × (v ≡ work.Upkeep (upkeep.Publish (publishing.went_on b)))
-Publishes s w b u v (answers.Ready (ends.Published o)) =
+MakesBackWrite s w b u v (answers.Ready (ends.Published o)) =
     (publishing.stage_of b ≡ syncing.Publish) × (o ≡ b.upto) × (u ≡ after_out w s b.upto)
     × (v ≡ work.Rest)
-Publishes s w b u v answers.Memory = (u ≡ w) × (v ≡ work.Rest)
-Publishes s w b u v _ = ⊥
+MakesBackWrite s w b u v answers.Memory = (u ≡ w) × (v ≡ work.Rest)
+MakesBackWrite s w b u v _ = ⊥
 
 -- a background write begins with the notes that it took, and tells its first document, or memory is
 -- refused
-abbrev pub PublishesFirst : ℕ → State → Pending → State → Work → StepOut → Type 0
-PublishesFirst s w n u v o =
+abbrev pub BeginsBackWrite : ℕ → State → Pending → State → Work → StepOut → Type 0
+BeginsBackWrite s w n u v o =
     ((o ≡ answers.Memory) × (u ≡ w) × (v ≡ work.Rest))
-    ⊎ ((a : Global) × (b : BackWrite) × publishing.IsBegun a n b × Publishes s w b u v o)
+    ⊎ ((a : Global) × (b : BackWrite) × publishing.IsBegun a n b × MakesBackWrite s w b u v o)
 
 -- a background read reads the root's document; then the memory learns the two vectors that it read,
 -- and the task ends
-abbrev pub Learns : ℕ → State → BackRead → State → Work → StepOut → Type 0
-Learns s w b u v (answers.Went kind.Back) =
+abbrev pub MakesBackRead : ℕ → State → BackRead → State → Work → StepOut → Type 0
+MakesBackRead s w b u v (answers.Went kind.Back) =
     (learning.stage_of b ≡ syncing.Read) × (u ≡ after_went w s kind.Back)
     × (v ≡ work.Upkeep (upkeep.Read (learning.with_root b (nodes_in w.table []))))
-Learns s w b u v (answers.Ready (ends.Learnt x)) =
+MakesBackRead s w b u v (answers.Ready (ends.Learnt x)) =
     (learning.stage_of b ≡ syncing.Learn)
     × (x ≡ (learned (memory_of w s) b.last b.sweep).head) × (u ≡ after_learn w s b.last b.sweep)
     × (v ≡ work.Rest)
-Learns s w b u v answers.Memory = (u ≡ w) × (v ≡ work.Rest)
-Learns s w b u v _ = ⊥
+MakesBackRead s w b u v answers.Memory = (u ≡ w) × (v ≡ work.Rest)
+MakesBackRead s w b u v _ = ⊥
 
 -- a step of background work, or on the settings
 abbrev pub MakesUpkeep : ℕ → State → Upkeep → State → Work → StepOut → Type 0
@@ -146,9 +146,9 @@ MakesUpkeep s w upkeep.Write u v (answers.Went kind.Back) = (n : Pending)
     × IsPending (memory_of w s) n × (u ≡ after_pending w s) × (v ≡ work.Upkeep (upkeep.Noted n))
 MakesUpkeep s w upkeep.Write u v answers.Memory = (u ≡ w) × (v ≡ work.Rest)
 MakesUpkeep s w upkeep.Write u v _ = ⊥
-MakesUpkeep s w (upkeep.Noted n) u v o = PublishesFirst s w n u v o
-MakesUpkeep s w (upkeep.Publish b) u v o = Publishes s w b u v o
-MakesUpkeep s w (upkeep.Read b) u v o = Learns s w b u v o
+MakesUpkeep s w (upkeep.Noted n) u v o = BeginsBackWrite s w n u v o
+MakesUpkeep s w (upkeep.Publish b) u v o = MakesBackWrite s w b u v o
+MakesUpkeep s w (upkeep.Read b) u v o = MakesBackRead s w b u v o
 MakesUpkeep s w (upkeep.Checkpoint i) u v (answers.Ready (ends.Set None)) = (pin : Pin)
     × (pin_of (memory_of w s) s ≡ Some pin) × (u ≡ after_checkpoint w s i pin) × (v ≡ work.Rest)
 MakesUpkeep s w (upkeep.Checkpoint i) u v answers.Memory = (u ≡ w) × (v ≡ work.Rest)
