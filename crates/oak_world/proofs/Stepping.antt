@@ -219,7 +219,7 @@ module _ {L : Type 0} (w : WorldOf L) (s : ℕ) (there : s < length w.actors) (q
     publishes b _ h = absurd h
 
     publishes_first : (n : Pending) (o : StepOut) → PublishesFirst s node (parts_at w s) n q v o → BeginsBackWrite s (state_of w) n now v o
-    publishes_first n o (inl h) = inl (h.0, nothing h.1 h.2, h.2)
+    publishes_first n o (inl h) = inl (h.0, nothing h.1.0 h.1.1, h.1.1)
     publishes_first n o (inr h) = inr (h.0, h.1, h.2, publishes h.1 o h.3)
 
     learns : (b : BackRead) (o : StepOut) → LearnsOn s node (parts_at w s) b q v o → MakesBackRead s (state_of w) b now v o
