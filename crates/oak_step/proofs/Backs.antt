@@ -1,5 +1,6 @@
 -- What background writes and reads ask of the documents, and are answered.
-use Rattle.std.proofs.Common.{◌≡◌, ◌≢◌, [], ◌∷◌, Option, Some, None, refl, ap, ◌∙◌}
+use Rattle.std.proofs.Common.{◌≡◌, ◌≢◌, Bool, true, false, cond, [], length, Option, Some, None, refl, sym, ap, subst, ◌∙◌}
+use Rattle.std.specs.Prelude.{◌==◌}
 use Rattle.std.specs.declared.alloc.Global.{Global}
 use Rattle.jr_path.specs.declared.path.DocId.TheVariants as id
 use Rattle.jr_path.specs.declared.path.Path.{Path}
@@ -14,17 +15,18 @@ use Rattle.oak_sync.specs.declared.back_read.BackRead.{BackRead}
 use Rattle.oak_sync.specs.declared.back_write.BackWrite.{BackWrite}
 use Rattle.oak_sync.specs.declared.stage.Stage.TheVariants as stage
 use Rattle.oak_sync.proofs.Standing.{IsPathDue, begun_due, finds_root, path_due, reads_root}
-use Rattle.oak_step.specs.Parts.{IsPublishing, after_ask, answered, learned_on, published_on, replied}
+use Rattle.oak_acts.specs.Acts.{replied}
+use Rattle.oak_step.specs.Parts.{IsPublishing, after_ask, answered, learned_on, published_on}
 
 -- ---- a background write
 
 -- a stage with a document due
 pub publishing_at : (b : BackWrite) → stage_of b ≢ stage.Done → IsPublishing (stage_of b)
-publishing_at b busy = let it = path_due b busy in by it.0 it.1
+publishing_at b busy = let it = path_due b busy in subst IsPublishing (sym (it.1).stage) (by (length (it.0) == 0))
   where
-    by : (p : Path) → IsPathDue b p → IsPublishing (stage_of b)
-    by [] is = rw is.stage tt
-    by (n ∷ p) is = rw is.stage tt
+    by : (c : Bool) → IsPublishing (cond c stage.Publish stage.Write)
+    by true = tt
+    by false = tt
 
 pub publishing_first : (a : Global) (n : Pending) (b : BackWrite) → IsBegun a n b → IsPublishing (stage_of b)
 publishing_first a n b is = publishing_at b (begun_due a n b is)

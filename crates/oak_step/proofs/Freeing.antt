@@ -21,7 +21,7 @@ module _ (s k : ℕ) (p q : Parts) (v : Work) where
   publishes_free b _ h = absurd h
 
   begins_free : (n : Pending) (o : StepOut) → PublishesFirst s k p n q v o → needed v ≡ 0
-  begins_free n o (inl h) = ap needed h.2
+  begins_free n o (inl h) = ap needed h.1.1
   begins_free n o (inr h) = publishes_free h.1 o h.3
 
   learns_free : (b : BackRead) (o : StepOut) → LearnsOn s k p b q v o → needed v ≡ 0

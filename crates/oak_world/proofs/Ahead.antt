@@ -1,5 +1,5 @@
 -- The root is ahead of a background write.
-use Rattle.std.proofs.Common.{◌≡◌, ◌≢◌, ℕ, zero, suc, ◌+◌, ◌<◌, ◌≤◌, Bool, true, false, cond, inl, inr, List, [], ◌∷◌, ◌++◌, length, refl, sym, ap, ◌∙◌, arith}
+use Rattle.std.proofs.Common.{◌≡◌, ◌≢◌, ℕ, zero, suc, ◌+◌, ◌<◌, ◌≤◌, Bool, true, false, cond, inl, inr, List, [], ◌∷◌, ◌++◌, length, length-append, refl, sym, ap, ◌∙◌, arith}
 use Rattle.std.specs.Prelude.{◌==◌, nat_lt, slice_get}
 use Rattle.std.specs.Option.{option_map_or}
 use Rattle.std.specs.declared.alloc.Global.{Global}
@@ -53,7 +53,7 @@ goes_ahead b at is = record { front = is.front; paths = is.paths; ahead = by (na
     ]
 
     by : (c : Bool) → cond c (b.written + 1) b.written ≤ length is.front
-    by true = let less = before in omega (arith, less)
+    by true = let less = before in let k : b.written + 1 ≤ length is.front = omega (arith, less) in k
     by false = is.ahead
 
 pub begins_ahead : (a : Global) (n : Pending) (b : BackWrite) → IsBegun a n b → EndsInRoot b
@@ -66,12 +66,8 @@ begins_ahead a n b is =
 pub is_within : (b : BackWrite) → EndsInRoot b → b.written < length b.paths
 is_within b is =
     let low = is.ahead in
-    let count : length b.paths ≡ length is.front + 1 = ap length is.paths ∙ last_count is.front in
+    let count : length b.paths ≡ length is.front + 1 = ap length is.paths ∙ length-append is.front ([] ∷ []) in
     omega (arith, low, count)
-  where
-    last_count : (front : List Path) → length (front ++ [] ∷ []) ≡ length front + 1
-    last_count [] = refl
-    last_count (p ∷ ps) = let rest = last_count ps in omega (arith, rest)
 
 -- below the root
 pub below_root : (p : Path) → (length p == 0) ≡ false → eq_by_cmp path_cmp [] p ≡ false

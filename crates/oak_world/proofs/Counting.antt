@@ -1,6 +1,7 @@
 -- How many documents a background write tells at most.
 use Rattle.std.proofs.Common.{◌≡◌, ◌⊎◌, inl, inr, ℕ, zero, suc, ◌+◌, ◌<◌, ◌≤◌, Bool, true, false, cond, ◌||◌, List, [], ◌∷◌, ◌++◌, length, length-append, length-map, map, get_or, refl, sym, ap, subst, ◌∙◌, arith}
-use Rattle.std.specs.Prelude.{Contains}
+use Rattle.std.specs.Prelude.{◌==◌, Contains}
+use Rattle.std.proofs.lemmas.Bool.{eqb-true}
 use Rattle.std.specs.List.{AllByRecursion, list_any}
 use Rattle.std.specs.List.Sorted.{IsStrictlySortedBy}
 use Rattle.std.specs.Ordering.{eq_by_cmp, is_eq}
@@ -152,7 +153,12 @@ among_all n q (p ∷ ps) h = by (is_under p (n ∷ q)) refl h (among_all n q ps)
 
 upward_among : (paths : List Path) (p : Path) → is_upward paths p ≡ true → Contains ([] ∷ all_firsts paths) p
 upward_among paths [] h = contains_first [] [] (all_firsts paths) refl
-upward_among paths (n ∷ q) h = contains_behind [] (n ∷ q) (all_firsts paths) (among_all n q paths h)
+upward_among paths (n ∷ q) h =
+    contains_behind [] (n ∷ q) (all_firsts paths) (among_all n q paths (second (length (n ∷ q) == 0) (list_any (λ (r : Path). is_under r (n ∷ q)) paths) h (λ k. absurd (omega (arith, eqb-true (length (n ∷ q)) 0 k)))))
+  where
+    second : (c d : Bool) → (c || d) ≡ true → (c ≡ true → ⊥) → d ≡ true
+    second true d h none = absurd (none refl)
+    second false d h none = h
 
 backward_apart : TellsApart backward_cmp
 backward_apart x y less = by (eq_by_cmp path_cmp x y) refl

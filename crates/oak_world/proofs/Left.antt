@@ -380,7 +380,7 @@ module _ (s : ℕ) (w u : State) (m n : NodeState) (x : Work) where
   learn_less : (b : BackRead) (o : StepOut) → MakesBackRead s w b u x o → now < learn_left (learning.stage_of b)
   learn_less b (answers.Went kind.Back) h =
       subst (λ (at : Stage). now < learn_left at) (sym h.0)
-      (let z : now ≡ 1 = ap (left_of s u.table n) h.2 ∙ one (nodes_in w.table []) in omega (arith, z))
+      (let z : now ≡ 1 = ap (left_of s u.table n) h.2 ∙ one (nodes_in w.table []) in let less : now < 2 = omega (arith, z) in less)
     where
       one : (o : Option Document) → learn_left (learning.stage_of (learning.with_root b o)) ≡ 1
       one None = refl

@@ -193,8 +193,8 @@ module _ {L : Type 0} (w : WorldOf L) (s : ℕ) (there : s < length w.actors) (q
   -- ---- background work, and the settings
 
   module _ (k : Upkeep) (here : work_in w.actors s ≡ work.Upkeep k) where
-    nothing : (o : StepOut) → o ≡ answers.Memory → q ≡ parts_at w s → v ≡ work.Rest → now ≡ state_of w
-    nothing o is same rest = still (work.Upkeep k) work.Rest here rest refl (refl, refl) same
+    nothing : q ≡ parts_at w s → v ≡ work.Rest → now ≡ state_of w
+    nothing same rest = still (work.Upkeep k) work.Rest here rest refl (refl, refl) same
 
     publishes : (b : BackWrite) (o : StepOut) → PublishesOn s node (parts_at w s) b q v o → MakesBackWrite s (state_of w) b now v o
     publishes b (answers.Went kind.Back) h =
@@ -215,11 +215,11 @@ module _ {L : Type 0} (w : WorldOf L) (s : ℕ) (there : s < length w.actors) (q
               ∙ ap (λ (t : Table). record (state_of w) { past = event.Out node b.upto ∷ w.history.past; table = t }) (told_table w.table b [] root),
           h.3,
         )
-    publishes b answers.Memory h = (nothing answers.Memory refl h.0 h.1, h.1)
+    publishes b answers.Memory h = (nothing h.0 h.1, h.1)
     publishes b _ h = absurd h
 
     publishes_first : (n : Pending) (o : StepOut) → PublishesFirst s node (parts_at w s) n q v o → BeginsBackWrite s (state_of w) n now v o
-    publishes_first n o (inl h) = inl (h.0, nothing o h.0 h.1 h.2, h.2)
+    publishes_first n o (inl h) = inl (h.0, nothing h.1.0 h.1.1, h.1.1)
     publishes_first n o (inr h) = inr (h.0, h.1, h.2, publishes h.1 o h.3)
 
     learns : (b : BackRead) (o : StepOut) → LearnsOn s node (parts_at w s) b q v o → MakesBackRead s (state_of w) b now v o
@@ -231,7 +231,7 @@ module _ {L : Type 0} (w : WorldOf L) (s : ℕ) (there : s < length w.actors) (q
     )
     learns b (answers.Ready (ends.Learnt u)) h =
         (h.0, h.1, tells (work.Upkeep k) work.Rest here h.3 refl (refl, refl) (event.In node (learned memory b.last b.sweep).head) (learned memory b.last b.sweep) h.2, h.3)
-    learns b answers.Memory h = (nothing answers.Memory refl h.0 h.1, h.1)
+    learns b answers.Memory h = (nothing h.0 h.1, h.1)
     learns b _ h = absurd h
 
   upkeep_makes : (k : Upkeep) → work_in w.actors s ≡ work.Upkeep k → (o : StepOut) → KeepsUp s node (parts_at w s) k q v o → MakesUpkeep s (state_of w) k now v o
