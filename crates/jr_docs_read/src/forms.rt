@@ -271,16 +271,16 @@ fn is_typed(value: &Value)
 {
     match value {
         Value::Long(number) => {
-            let _ = *number;
+            let _value = *number;
         }
         Value::Date(number) => {
-            let _ = *number;
+            let _value = *number;
         }
         Value::Reference(id) => {
-            let _ = *id;
+            let _value = *id;
         }
         Value::WeakReference(id) => {
-            let _ = *id;
+            let _value = *id;
         }
         _ => {}
     }
