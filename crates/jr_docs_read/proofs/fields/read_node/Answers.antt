@@ -3,6 +3,7 @@ use Rattle.std.specs.Prelude.{filter}
 use Rattle.std.proofs.lemmas.Result.{err_from_is_err_and}
 use Rattle.jr_docs_read.specs.Printed.{has_entries}
 use Rattle.jr_docs_read.specs.Ranges.{IsIdInRange}
+use Rattle.jr_docs_read.specs.Reading.{with_vectors}
 use Rattle.jr_docs_read.proofs.Answered.{memory_only, weaker}
 use Rattle.jr_docs_read.proofs.Built.{node_built, node_not_settings}
 use Rattle.jr_docs_read.proofs.Named.{node_prev}
@@ -10,6 +11,18 @@ use Rattle.oak_doc.specs.declared.document.Document.{Document}
 use Rattle.jr_docs_read.proofs.Ranged.{on_ok}
 use Rattle.jr_docs_read.proofs.Stored.{node_stored}
 use Rattle.jr_docs_read.proofs.fields.read_node.Goals as goal
+
+pub returns-in_err-read_vectors-clause-complete : goal.returns-in_err-read_vectors-clause-complete
+returns-in_err-read_vectors-clause-complete c d p h is json begun =
+    let first = c.in_ok-read_commits.ensures.complete d p h is json (ap (λ (x : Document). x.deleted) begun) (ap (λ (x : Document). x.commit_root) begun) (ap (λ (x : Document). x.revisions) begun) in
+    let second = c.in_ok-read_marks.ensures.complete d p h is json (ap (λ (x : Document). x.collisions) first ∙ ap (λ (x : Document). x.collisions) begun) (ap (λ (x : Document). x.touched) first ∙ ap (λ (x : Document). x.touched) begun) (ap (λ (x : Document). x.guard) first ∙ ap (λ (x : Document). x.guard) begun) in
+    let q = err_from_is_err_and c.from_residual-in_err-read_vectors.result c.from_residual-in_err-read_vectors.ensures.1 in
+    let memory = memory_only (λ (u : Unit {0}). c.read_vectors.new.document ≡ with_vectors p d c.read_marks.new.document) _
+    (c.in_err-read_vectors.ensures.complete d p h is json
+    (ap (λ (x : Document). x.id) second ∙ (ap (λ (x : Document). x.id) first ∙ (ap (λ (x : Document). x.id) begun ∙ is)))
+    (ap (λ (x : Document). x.last_rev) second ∙ (ap (λ (x : Document). x.last_rev) first ∙ ap (λ (x : Document). x.last_rev) begun))
+    (ap (λ (x : Document). x.sweep_rev) second ∙ (ap (λ (x : Document). x.sweep_rev) first ∙ ap (λ (x : Document). x.sweep_rev) begun))) in
+    rw (q.1, q.2, memory) tt
 
 pub returns-in_err-read_listed-clause-complete : goal.returns-in_err-read_listed-clause-complete
 returns-in_err-read_listed-clause-complete c d p h is json begun =

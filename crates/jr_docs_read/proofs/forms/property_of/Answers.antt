@@ -16,4 +16,4 @@ returns-in-Err-ValueFormat-clause-complete c p fits is =
     absurd (h.0 p (subst (λ (d : Data). IsPropertyJson d p) is (property_back p fits)))
 
 pub returns-in-Ok-clause-in_range : goal.returns-in-Ok-clause-in_range
-returns-in-Ok-clause-in_range c = property_readable _ _ c.in-Ok.ensures.value c.are_typed.ensures
+returns-in-Ok-clause-in_range c = property_readable (view c.args.json.now) _ c.in-Ok.ensures.value c.are_typed.ensures
