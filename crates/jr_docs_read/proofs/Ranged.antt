@@ -1,6 +1,6 @@
 -- What is read is in its range.
 use Rattle.std.proofs.Common.{◌≡◌, ◌<◌, ◌^◌, ℕ, List, [], ◌∷◌, Option, None, Some, refl, sym, ap, subst, arith, ◌∙◌}
-use Rattle.std.specs.Prelude.{All, FitsSigned, MatchOption, OnOk, Result, Ok, Err, option_map}
+use Rattle.std.specs.Prelude.{All, MatchOption, OnOk, Result, Ok, Err, option_map}
 use Rattle.std.proofs.lemmas.List.Elements.{All-cons, All-head, All-nil, All-tail}
 use Rattle.std.specs.BTreeMap.{insert_entry}
 use Rattle.std.specs.Cmp.{IsTotalOrder}
@@ -15,7 +15,6 @@ use Rattle.jr_docs_read.specs.Printed.{node_item}
 use Rattle.jr_docs_read.specs.Ranges.{AreTyped, IsListedInRange, IsMapOf, IsNodeCollision, IsPathInRange, IsPinInRange}
 use Rattle.jr_docs_read.specs.Ranges.{IsTyped, IsVectorInRange}
 use Rattle.jr_json.specs.Reading.{tagged_kinds, only_member, IsTagged, IsMember, IsValueJson, AreValuesJson, IsPropertyJson}
-use Rattle.jr_path.specs.Grammar.{IsName}
 use Rattle.jr_path.specs.declared.path.Path.{Path}
 use Rattle.jr_rev.proofs.Digits.{value_most}
 use Rattle.jr_rev.specs.Digits.{Spells}
@@ -23,7 +22,7 @@ use Rattle.jr_rev.specs.Grammar.{FitsFields, IsRevisionText, IsVectorText}
 use Rattle.jr_rev.specs.Vectors.{Entries, revisions_of}
 use Rattle.jr_rev.specs.declared.revision.Revision.{Revision}
 use Rattle.jr_value.specs.Ranges.{AreReadable, IsReadable, IsReadableProperty}
-use Rattle.jr_value.specs.Texts.{IsPathWithin, IsText}
+use Rattle.jr_value.specs.Texts.{IsPathWithin}
 use Rattle.jr_value.specs.Words.{identifier_named, kind_named}
 use Rattle.jr_value.specs.declared.value.Kind.{Kind}
 use Rattle.jr_value.specs.declared.value.Kind.TheVariants as kind

@@ -1,5 +1,5 @@
 -- A store can hold what is read so far.
-use Rattle.std.proofs.Common.{◌≡◌, Bool, List, [], ◌∷◌, ℕ, arith, refl, sym, ap, ◌∙◌}
+use Rattle.std.proofs.Common.{◌≡◌, Bool, List, ℕ, arith, refl, sym, ap, ◌∙◌}
 use Rattle.std.specs.Prelude.{All, None}
 use Rattle.std.proofs.lemmas.List.Elements.{All-nil}
 use Rattle.std.specs.Ordering.{nat_cmp}
@@ -10,7 +10,6 @@ use Rattle.jr_docs_read.proofs.Ranged.{no_map}
 use Rattle.jr_path.specs.Grammar.{IsName}
 use Rattle.jr_path.specs.Names.{name_cmp}
 use Rattle.jr_path.specs.declared.path.DocId.{DocId}
-use Rattle.jr_path.specs.declared.path.DocId.TheVariants.{Prev}
 use Rattle.jr_path.specs.declared.path.Item.{Item}
 use Rattle.jr_rev.specs.Grammar.{FitsFields}
 use Rattle.jr_rev.specs.Revisions.{revision_cmp}
