@@ -238,7 +238,8 @@ module _ (clusters sessions : ℕ) (items : List Document) (openable : AreOpenab
   of_previous p d here e i x there made is made_x is_x named = record {
     named = named;
     plain = ap (λ (y : Document). y.deleted) is_x.made_is
-        ∙ ap (filter (λ (z : Revision × Bool). stays_opened (by_id items) pin x z.0)) (openable.plain e.number p x there);
+        ∙ ap (filter (λ (z : Revision × Bool). stays_opened (by_id items) pin x z.0))
+        (openable.plain x (found_among items (id.Prev e.number p) x there) e.number p (found_named items (id.Prev e.number p) x there));
     done = seen_there made_x x (id.Prev e.number p) there is_x;
     genuine = λ n r ws y h. absurd (false≢true (ap is_some h));
     behind = later;

@@ -1,7 +1,7 @@
 -- What a repository that is opened from documents begins with.
-use Rattle.std.specs.Prelude.{◌≤◌, ◌≡◌, ℕ, List, [], Some, is_some, IsTrue}
-use Rattle.jr_path.specs.declared.path.Path.{Path}
-use Rattle.jr_path.specs.declared.path.DocId.TheVariants.{Node, Prev}
+use Rattle.std.specs.Prelude.{◌≤◌, ℕ, List, [], is_some, IsTrue}
+use Rattle.jr_docs_read.specs.Printed.{IsPlain}
+use Rattle.jr_path.specs.declared.path.DocId.TheVariants.{Node}
 use Rattle.oak_doc.specs.declared.document.Document.{Document}
 use Rattle.oak_machine.specs.declared.event.Start.{Start}
 use Rattle.oak_read.specs.Meaning.{Documents, documents_in}
@@ -34,6 +34,5 @@ pub record AreOpenable (clusters : ℕ) (ds : List Document) : Type 0 where
   pub root : IsTrue (is_some (documents_in (by_id ds) (Node [])))
   -- the names of their properties rise, as those of each document in code do
   pub ordered : (d : Document) → IsIn d ds → IsOrderedDocument d
-  -- no previous document has an entry of `_deleted`: a split moves none
-  pub plain : (k : ℕ) (p : Path) (x : Document) → documents_in (by_id ds) (Prev k p) ≡ Some x
-      → x.deleted ≡ []
+  -- no previous document has an entry of `_deleted`, as none that is read has
+  pub plain : (d : Document) → IsIn d ds → IsPlain d

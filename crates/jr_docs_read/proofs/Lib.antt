@@ -10,5 +10,7 @@ pub mod Left
 pub mod Named
 pub mod Printed
 pub mod Properties
+pub mod Ranged
 pub mod Same
 pub mod Shallow
+pub mod Stored

@@ -1,5 +1,5 @@
 -- What the line of a document tells of it.
-use Rattle.std.specs.Prelude.{ℕ, Bool, true, List, [], ◌∷◌, map, filter, Option, None}
+use Rattle.std.specs.Prelude.{◌≡◌, ℕ, Bool, true, List, [], ◌∷◌, map, filter, Option, None}
 use Rattle.std.specs.List.{list_any}
 use Rattle.jr_path.specs.Names.{item_path}
 use Rattle.jr_path.specs.declared.name.Name.{Name}
@@ -65,6 +65,10 @@ abbrev pub printed_at : DocId → Document → Document
 printed_at (Node p) d = printed_of_node p d
 printed_at (Prev n p) d = printed_of_prev d
 printed_at Settings d = printed_of_settings d
+
+-- no entry of `_deleted` is in a previous document: a split moves none, and none is printed
+abbrev pub IsPlain : Document → Type 0
+IsPlain d = (n : ℕ) (p : Path) → d.id ≡ Prev n p → d.deleted ≡ []
 
 -- the document with what its line tells: the fields of its kind, the properties that have an entry,
 -- and for the item of a collision the node at its path

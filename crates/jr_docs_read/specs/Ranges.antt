@@ -1,11 +1,13 @@
 -- Which documents a store can hold: each id, revision, vector and value is in its range.
-use Rattle.std.specs.Prelude.{◌≡◌, ℕ, ◌<◌, ◌^◌, All, List, length, Option, None, Some}
+use Rattle.std.specs.Prelude.{◌≡◌, ℕ, ◌<◌, ◌^◌, All, FitsSigned, List, length, Option, None, Some}
+use Rattle.std.specs.Int.{w64}
 use Rattle.std.specs.List.Sorted.{IsStrictlySortedBy}
 use Rattle.std.specs.Map.{keys_of}
 use Rattle.std.specs.Ordering.{nat_cmp}
 use Rattle.std.specs.declared.cmp.Ordering.{Ordering}
 use Rattle.jr_path.specs.Grammar.{IsName}
 use Rattle.jr_path.specs.Names.{item_path, name_cmp}
+use Rattle.jr_path.specs.declared.name.Name.{Name}
 use Rattle.jr_path.specs.declared.path.DocId.{DocId}
 use Rattle.jr_path.specs.declared.path.DocId.TheVariants.{Node, Prev, Settings}
 use Rattle.jr_path.specs.declared.path.Item.{Item}
@@ -17,6 +19,9 @@ use Rattle.jr_rev.specs.declared.revision.Revision.{Revision}
 use Rattle.jr_rev.specs.declared.vector.Pin.{Pin}
 use Rattle.jr_value.specs.Ranges.{IsReadableProperty}
 use Rattle.jr_value.specs.declared.value.Property.{Property}
+use Rattle.jr_value.specs.declared.value.Property.TheVariants.{Single, Many}
+use Rattle.jr_value.specs.declared.value.Value.{Value}
+use Rattle.jr_value.specs.declared.value.Value.TheVariants as value
 use Rattle.oak_doc.specs.declared.document.Document.{Document}
 use Rattle.oak_doc.specs.declared.document.PrevEntry.{PrevEntry}
 
@@ -80,6 +85,10 @@ IsAny v = Unit {0}
 abbrev pub IsShort : ℕ → Type 0
 IsShort n = n < 2 ^ 32
 
+-- the properties of a document by name, each with its values by revision
+abbrev pub ArePropsInRange : List (Name × List (Revision × Option Property)) → Type 0
+ArePropsInRange ps = IsMapOf name_cmp IsName (IsByRevision IsHeldInRange) ps
+
 -- a store can hold the document
 pub record IsStorable (d : Document) : Type 0 where
   pub id : IsIdInRange d.id
@@ -92,7 +101,25 @@ pub record IsStorable (d : Document) : Type 0 where
   pub last_rev : IsVectorInRange d.last_rev
   pub sweep_rev : IsVectorInRange d.sweep_rev
   pub prev : All IsListedInRange d.prev
-  pub props : IsMapOf name_cmp IsName (IsByRevision IsHeldInRange) d.props
+  pub props : ArePropsInRange d.props
   pub sessions : IsShort d.sessions
   pub checkpoints : IsMapOf name_cmp IsAny IsPinInRange d.checkpoints
   pub readers : IsMapOf nat_cmp IsShort IsPinInRange d.readers
+
+-- a store can hold the document, and its collisions name nodes, as those that are read do
+pub record IsReadSoFar (d : Document) : Type 0 where
+  pub storable : IsStorable d
+  pub nodes : IsByRevision IsNodeCollision d.collisions
+
+-- the numbers and identifiers of a value fit their types
+abbrev pub IsTyped : Value → Type 0
+IsTyped (value.Long n) = FitsSigned w64 n
+IsTyped (value.Date n) = FitsSigned w64 n
+IsTyped (value.Reference id) = id < 2 ^ 128
+IsTyped (value.WeakReference id) = id < 2 ^ 128
+IsTyped x = Unit {0}
+
+-- each value of a property has numbers and identifiers that fit their types
+abbrev pub AreTyped : Property → Type 0
+AreTyped (Single x) = IsTyped x
+AreTyped (Many k xs) = All IsTyped xs

@@ -1,5 +1,5 @@
 // How keys and values of the maps of a document are read.
-ghost use Rattle.std.specs.Prelude.{◌≡◌, ℕ, List as Seq, map};
+ghost use Rattle.std.specs.Prelude.{◌≡◌, ℕ, All, IfOk, List as Seq, map};
 ghost use Rattle.std.proofs.lemmas.Map.Lookups.{exact_unsigned};
 ghost use Rattle.std.specs.declared.cmp.Ordering.TheVariants.{Equal};
 ghost use Rattle.std.specs.Fmt.{decimal};
@@ -8,8 +8,8 @@ ghost use Rattle.serde_json.specs.View.{items_of, view};
 ghost use Rattle.jr_docs.proofs.Keys.{one_number, one_revision_text};
 ghost use Rattle.jr_docs.specs.Documents.{collision_data, commit_data, held_data, note_data};
 ghost use Rattle.jr_docs.specs.Documents.{number_data, pin_data};
-ghost use Rattle.jr_docs_read.specs.Ranges.{IsAny, IsHeldInRange, IsNodeCollision};
-ghost use Rattle.jr_docs_read.specs.Ranges.{IsPinInRange, IsShort};
+ghost use Rattle.jr_docs_read.specs.Ranges.{AreTyped, IsAny, IsHeldInRange, IsNodeCollision};
+ghost use Rattle.jr_docs_read.specs.Ranges.{IsPinInRange, IsShort, IsTyped};
 ghost use Rattle.jr_docs_read.specs.Reading.{Obtains};
 ghost use Rattle.jr_json.specs.Json.{property_data};
 ghost use Rattle.jr_path.proofs.Maps.{name_exact};
@@ -27,7 +27,7 @@ use crate::texts::{read_path, read_revision, revision_of, text_of, vector_of};
 use jr_json::{ValueFault, read_property};
 use jr_path::{Item, Text};
 use jr_rev::{Pin, Revision};
-use jr_value::Property;
+use jr_value::{Property, Value};
 use serde_json::Value as Json;
 use std::alloc::Global;
 
@@ -38,8 +38,9 @@ pub trait Key: Ord {
     ghost fits: { Self → Type 0 };
 
     fn read(alloc: Global, bytes: &str) -> Result<Self, DocFault>
-        ensures { (k : Self) → fits k → text k ≡ bytes.now
-            → Obtains (λ found. found ≡ k) result };
+        ensures complete { (k : Self) → fits k → text k ≡ bytes.now
+            → Obtains (λ found. found ≡ k) result }
+        ensures in_range { IfOk result fits };
 
     // Each text is that of one key.
     ghost one_text: { (a b : Self) → fits a → fits b → text a ≡ text b → a ≡ b };
@@ -100,8 +101,9 @@ pub trait Form<V> {
     ghost fits: { V → Type 0 };
 
     fn read(alloc: Global, json: &Json) -> Result<V, DocFault>
-        ensures { (v : V) → fits v → shown v ≡ view json.now
-            → Obtains (λ found. found ≡ v) result };
+        ensures complete { (v : V) → fits v → shown v ≡ view json.now
+            → Obtains (λ found. found ≡ v) result }
+        ensures in_range { IfOk result fits };
 }
 
 /// A truth value as itself.
@@ -135,8 +137,9 @@ impl Form<u32> for Number {
 
 /// A whole number of 32 bits.
 pub fn number_of(json: &Json) -> Result<u32, DocFault>
-    ensures { (n : ℕ) → IsShort n → number_data n ≡ view json.now
+    ensures complete { (n : ℕ) → IsShort n → number_data n ≡ view json.now
         → Obtains (λ found. found ≡ n) result }
+    ensures in_range { IfOk result IsShort }
 {
     match u32::try_from(count_of(json)?) {
         Ok(number) => Ok(number),
@@ -197,10 +200,12 @@ impl Form<(Revision, Item)> for Collision {
     }
 }
 
+#[tactic(auto, using(crate::proofs::Ranged::node_fits))]
 fn collision_of(alloc: Global, items: &[Json]) -> Result<(Revision, Item), DocFault>
-    ensures { (c : Revision × Item) → IsNodeCollision c
+    ensures complete { (c : Revision × Item) → IsNodeCollision c
         → collision_data c ≡ array (items_of (map view items.now))
         → Obtains (λ found. found ≡ c) result }
+    ensures in_range { IfOk result IsNodeCollision }
 {
     match items {
         [revision, item] => {
@@ -229,13 +234,55 @@ impl Form<Option<Property>> for Held {
 }
 
 fn property_of(alloc: Global, json: &Json) -> Result<Property, DocFault>
-    ensures { (p : Property) → IsReadableProperty p → property_data p ≡ view json.now
+    ensures complete { (p : Property) → IsReadableProperty p → property_data p ≡ view json.now
         → Obtains (λ found. found ≡ p) result }
+    ensures in_range { IfOk result IsReadableProperty }
 {
     match read_property(alloc, json) {
-        Ok(property) => Ok(property),
+        Ok(property) => {
+            are_typed(&property);
+            Ok(property)
+        }
         Err(ValueFault::ValueFormat(_, _)) => Err(DocFault::NotADocument),
         Err(ValueFault::Memory) => Err(DocFault::Memory),
+    }
+}
+
+// Numbers and identifiers fit their types. It does nothing: callers learn the fact.
+fn are_typed(property: &Property)
+    ensures { AreTyped property.now }
+{
+    match property {
+        Property::Single(value) => is_typed(value),
+        Property::Many(_, values) => all_typed(values.as_slice()),
+    }
+}
+
+fn all_typed(values: &[Value])
+    ensures { All IsTyped values.now }
+{
+    for value in values {
+        is_typed(value);
+    }
+}
+
+fn is_typed(value: &Value)
+    ensures { IsTyped value.now }
+{
+    match value {
+        Value::Long(number) => {
+            let _value = *number;
+        }
+        Value::Date(number) => {
+            let _value = *number;
+        }
+        Value::Reference(id) => {
+            let _value = *id;
+        }
+        Value::WeakReference(id) => {
+            let _value = *id;
+        }
+        _ => {}
     }
 }
 
@@ -255,10 +302,12 @@ impl Form<Pin> for Pair {
     }
 }
 
+#[tactic(auto, using(crate::proofs::Ranged::pin_fits))]
 fn pin_of(items: &[Json]) -> Result<Pin, DocFault>
-    ensures { (p : Pin) → IsPinInRange p
+    ensures complete { (p : Pin) → IsPinInRange p
         → pin_data p ≡ array (items_of (map view items.now))
         → Obtains (λ found. found ≡ p) result }
+    ensures in_range { IfOk result IsPinInRange }
 {
     match items {
         [base, sweep] => {

@@ -1,5 +1,5 @@
 // Maps from their JSON.
-ghost use Rattle.std.specs.Prelude.{◌≡◌, [], List as Seq};
+ghost use Rattle.std.specs.Prelude.{◌≡◌, [], List as Seq, OnOk};
 ghost use Rattle.std.specs.BTreeMap.{insert_entry};
 ghost use Rattle.std.specs.Option.{option_map};
 ghost use Rattle.serde_json.specs.Data.{no_members};
@@ -20,10 +20,12 @@ pub fn read_map<K: Key + Drop, V: Drop, F: Form<V>>(
     json: Option<&Json>,
     map: &mut Keyed<K, V>,
 ) -> Result<(), DocFault>
-    ensures { (es : Seq (K × V)) → IsMapOf K.cmp K.fits F.fits es
+    ensures complete { (es : Seq (K × V)) → IsMapOf K.cmp K.fits F.fits es
         → option_map (λ found. view found.now) json.entry
         ≡ unless_empty (map_data K.text F.shown) es
         → map.old ≡ [] → Obtains (λ _. map.new ≡ es) result }
+    ensures in_range { IsMapOf K.cmp K.fits F.fits map.old
+        → OnOk result (IsMapOf K.cmp K.fits F.fits map.new) }
 {
     match json {
         None => Ok(()),
@@ -37,9 +39,11 @@ pub fn read_object<K: Key + Drop, V: Drop, F: Form<V>>(
     json: &Json,
     map: &mut Keyed<K, V>,
 ) -> Result<(), DocFault>
-    ensures { (es : Seq (K × V)) → IsMapOf K.cmp K.fits F.fits es
+    ensures complete { (es : Seq (K × V)) → IsMapOf K.cmp K.fits F.fits es
         → map_data K.text F.shown es ≡ view json.now
         → map.old ≡ [] → Obtains (λ _. map.new ≡ es) result }
+    ensures in_range { IsMapOf K.cmp K.fits F.fits map.old
+        → OnOk result (IsMapOf K.cmp K.fits F.fits map.new) }
 {
     match json {
         Json::Object(members) => read_members::<K, V, F>(alloc, members, map),
@@ -53,10 +57,12 @@ fn read_members<K: Key + Drop, V: Drop, F: Form<V>>(
     members: &Map<String, Json>,
     map: &mut Keyed<K, V>,
 ) -> Result<(), DocFault>
-    ensures { (es : Seq (K × V)) → IsMapOf K.cmp K.fits F.fits es
+    ensures complete { (es : Seq (K × V)) → IsMapOf K.cmp K.fits F.fits es
         → put_all no_members (members_of_map K.text F.shown es)
         ≡ members_view members.now.entries
         → map.old ≡ [] → Obtains (λ _. map.new ≡ es) result }
+    ensures in_range { IsMapOf K.cmp K.fits F.fits map.old
+        → OnOk result (IsMapOf K.cmp K.fits F.fits map.new) }
 {
     for (name, value) in members {
         read_member::<K, V, F>(alloc, name.as_str(), value, map)?;
@@ -70,9 +76,11 @@ fn read_member<K: Key + Drop, V: Drop, F: Form<V>>(
     json: &Json,
     map: &mut Keyed<K, V>,
 ) -> Result<(), DocFault>
-    ensures { (k : K) (v : V) → K.fits k → F.fits v
+    ensures complete { (k : K) (v : V) → K.fits k → F.fits v
         → K.text k ≡ name.now → F.shown v ≡ view json.now
         → Obtains (λ _. map.new ≡ insert_entry K.cmp map.old k v) result }
+    ensures in_range { IsMapOf K.cmp K.fits F.fits map.old
+        → OnOk result (IsMapOf K.cmp K.fits F.fits map.new) }
 {
     let key = K::read(alloc, name)?;
     let value = F::read(alloc, json)?;

@@ -1,9 +1,9 @@
 // Documents from their JSON.
-ghost use Rattle.std.specs.Prelude.{◌≡◌, ◌↔◌, IfOk, IsTrue, string_bytes};
+ghost use Rattle.std.specs.Prelude.{◌≡◌, ◌↔◌, IfOk, IsTrue, OnOk, string_bytes};
 ghost use Rattle.serde_json.specs.View.{view};
 ghost use Rattle.jr_docs.specs.Documents.{document_data};
-ghost use Rattle.jr_docs_read.specs.Printed.{as_printed, numbered};
-ghost use Rattle.jr_docs_read.specs.Ranges.{IsStorable};
+ghost use Rattle.jr_docs_read.specs.Printed.{IsPlain, as_printed, numbered};
+ghost use Rattle.jr_docs_read.specs.Ranges.{IsReadSoFar, IsStorable};
 ghost use Rattle.jr_docs_read.specs.Reading.{Obtains, document_kind};
 ghost use Rattle.oak_doc.specs.declared.document.Document.{Document};
 
@@ -25,6 +25,9 @@ pub fn read_document(alloc: Global, json: &Json) -> Result<Document, DocFault>
     ensures found { IfOk result (λ d. document_data d ≡ view json.now) }
     ensures complete { (d : Document) → IsStorable d → document_data d ≡ view json.now
         → Obtains (λ found. found ≡ as_printed d) result }
+    ensures storable { IfOk result IsStorable }
+    ensures told { IfOk result (λ d. as_printed d ≡ d) }
+    ensures plain { IfOk result IsPlain }
 {
     let document = found_document(alloc, json)?;
     if is_json_of(alloc, json, &document)? {
@@ -52,8 +55,9 @@ fn is_same_text(a: &String, b: &String) -> bool
 
 // The document that the members say, so far as they are those of one.
 fn found_document(alloc: Global, json: &Json) -> Result<Document, DocFault>
-    ensures { (d : Document) → IsStorable d → document_data d ≡ view json.now
+    ensures complete { (d : Document) → IsStorable d → document_data d ≡ view json.now
         → Obtains (λ found. found ≡ as_printed d) result }
+    ensures storable { IfOk result IsStorable }
 {
     let number = count_of(member(json, "_modCount")?)?;
     let id = id_in(alloc, member(json, "_id")?)?;
@@ -64,9 +68,10 @@ fn found_document(alloc: Global, json: &Json) -> Result<Document, DocFault>
 }
 
 fn read_fields(alloc: Global, json: &Json, document: &mut Document) -> Result<(), DocFault>
-    ensures { (d : Document) → IsStorable d → document_data d ≡ view json.now
+    ensures complete { (d : Document) → IsStorable d → document_data d ≡ view json.now
         → document.old ≡ numbered d.id d.mod_count
         → Obtains (λ _. document.new ≡ as_printed d) result }
+    ensures in_range { IsReadSoFar document.old → OnOk result (IsReadSoFar document.new) }
 {
     match document_kind(&document.id) {
         Kind::Node => read_node(alloc, json, document),

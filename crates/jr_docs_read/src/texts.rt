@@ -1,5 +1,5 @@
 // Texts of JSON, and what they spell.
-ghost use Rattle.std.specs.Prelude.{◌≡◌, ◌<◌, ◌^◌, ◌++◌, All, List as Seq, codes, length, ℕ};
+ghost use Rattle.std.specs.Prelude.{◌≡◌, ◌<◌, ◌^◌, ◌++◌, All, IfOk, List as Seq, codes, length, ℕ};
 ghost use Rattle.std.specs.Fmt.{decimal};
 ghost use Rattle.jr_docs_read.specs.Ranges.{IsIdInRange, IsPathInRange, IsVectorInRange};
 ghost use Rattle.jr_docs_read.specs.Reading.{Obtains};
@@ -35,8 +35,9 @@ pub fn text_of(json: &Json) -> Result<&str, DocFault>
 
 /// The revision of a text.
 pub fn read_revision(text: &str) -> Result<Revision, DocFault>
-    ensures { (r : Revision) → FitsFields r → revision_text r ≡ text.now
+    ensures complete { (r : Revision) → FitsFields r → revision_text r ≡ text.now
         → Obtains (λ found. found ≡ r) result }
+    ensures in_range { IfOk result FitsFields }
 {
     match Revision::parse(text.as_bytes()) {
         Ok(revision) => Ok(revision),
@@ -46,8 +47,9 @@ pub fn read_revision(text: &str) -> Result<Revision, DocFault>
 
 /// The revision of a text in JSON.
 pub fn revision_of(json: &Json) -> Result<Revision, DocFault>
-    ensures { (r : Revision) → FitsFields r → string (revision_text r) ≡ view json.now
+    ensures complete { (r : Revision) → FitsFields r → string (revision_text r) ≡ view json.now
         → Obtains (λ found. found ≡ r) result }
+    ensures in_range { IfOk result FitsFields }
 {
     match json {
         Json::String(text) => read_revision(text.as_str()),
@@ -57,8 +59,9 @@ pub fn revision_of(json: &Json) -> Result<Revision, DocFault>
 
 /// The vector of a text.
 pub fn read_vector(text: &str) -> Result<RevVec, DocFault>
-    ensures { (v : Entries) → IsVectorInRange v → vector_text v ≡ text.now
+    ensures complete { (v : Entries) → IsVectorInRange v → vector_text v ≡ text.now
         → Obtains (λ found. found ≡ v) result }
+    ensures in_range { IfOk result IsVectorInRange }
 {
     match RevVec::parse(text.as_bytes()) {
         Ok(vector) => Ok(vector),
@@ -68,8 +71,9 @@ pub fn read_vector(text: &str) -> Result<RevVec, DocFault>
 
 /// The vector of a text in JSON.
 pub fn vector_of(json: &Json) -> Result<RevVec, DocFault>
-    ensures { (v : Entries) → IsVectorInRange v → string (vector_text v) ≡ view json.now
+    ensures complete { (v : Entries) → IsVectorInRange v → string (vector_text v) ≡ view json.now
         → Obtains (λ found. found ≡ v) result }
+    ensures in_range { IfOk result IsVectorInRange }
 {
     match json {
         Json::String(text) => read_vector(text.as_str()),
@@ -77,21 +81,32 @@ pub fn vector_of(json: &Json) -> Result<RevVec, DocFault>
     }
 }
 
+// The path itself: callers learn that it has fewer than 2^64 names.
+fn counted(path: Path) -> Path
+    ensures same { result ≡ path }
+    ensures depth { length path < 2 ^ 64 }
+{
+    let _ = path.depth();
+    path
+}
+
 /// The path of a text, however long.
 pub fn read_path(alloc: Global, text: &str) -> Result<Path, DocFault>
-    ensures { (p : Path) → All IsName p → path_text p ≡ text.now
+    ensures complete { (p : Path) → All IsName p → path_text p ≡ text.now
         → Obtains (λ found. found ≡ p) result }
+    ensures in_range { IfOk result IsPathInRange }
 {
     match Path::parse_unlimited(alloc, text) {
-        Ok(path) => Ok(path),
+        Ok(path) => Ok(counted(path)),
         Err(fault) => Err(fault_of(fault)),
     }
 }
 
 /// The id of a text.
 pub fn read_id(alloc: Global, text: &str) -> Result<DocId, DocFault>
-    ensures { (id : DocId) → IsIdInRange id → id_text id ≡ text.now
+    ensures complete { (id : DocId) → IsIdInRange id → id_text id ≡ text.now
         → Obtains (λ found. found ≡ id) result }
+    ensures in_range { IfOk result IsIdInRange }
 {
     match text.split_once(':') {
         Some((front, path)) => id_of(alloc, front, path),
@@ -106,6 +121,7 @@ fn id_of(alloc: Global, front: &str, path: &str) -> Result<DocId, DocFault>
     ensures prev { (n : ℕ) (p : Path) → n < 2 ^ 64 → IsPathInRange p
         → codes "p" ++ hexadecimal n ≡ front.now → path_text p ≡ path.now
         → Obtains (λ found. found ≡ Prev n p) result }
+    ensures in_range { IfOk result IsIdInRange }
 {
     let path = read_path(alloc, path)?;
     match front.strip_prefix('p') {
@@ -116,8 +132,9 @@ fn id_of(alloc: Global, front: &str, path: &str) -> Result<DocId, DocFault>
 
 // The number of hexadecimal digits.
 fn number_in(digits: &str) -> Result<u64, DocFault>
-    ensures { (n : ℕ) → n < 2 ^ 64 → hexadecimal n ≡ digits.now
+    ensures complete { (n : ℕ) → n < 2 ^ 64 → hexadecimal n ≡ digits.now
         → Obtains (λ found. found ≡ n) result }
+    ensures in_range { IfOk result (λ n. n < 2 ^ 64) }
 {
     match u64::from_str_radix(digits, 16) {
         Ok(number) => Ok(number),
@@ -127,8 +144,9 @@ fn number_in(digits: &str) -> Result<u64, DocFault>
 
 /// The id of a text in JSON.
 pub fn id_in(alloc: Global, json: &Json) -> Result<DocId, DocFault>
-    ensures { (id : DocId) → IsIdInRange id → string (id_text id) ≡ view json.now
+    ensures complete { (id : DocId) → IsIdInRange id → string (id_text id) ≡ view json.now
         → Obtains (λ found. found ≡ id) result }
+    ensures in_range { IfOk result IsIdInRange }
 {
     match json {
         Json::String(text) => read_id(alloc, text.as_str()),

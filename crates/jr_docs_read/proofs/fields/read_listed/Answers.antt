@@ -9,7 +9,7 @@ use Rattle.jr_docs_read.proofs.Items.{filled}
 use Rattle.oak_doc.specs.declared.document.PrevEntry.{PrevEntry}
 use Rattle.jr_docs_read.proofs.fields.read_listed.Goals as goal
 
-pub returns-in-Some : goal.returns-in-Some
-returns-in-Some c p es path listed is none =
+pub returns-in-Some-clause-complete : goal.returns-in-Some-clause-complete
+returns-in-Some-clause-complete c p es path listed is none =
     weaker (λ (u : Unit {0}). c.read_list.new.prev ≡ c.args.prev.now ++ es) _ c.read_list.result (λ u read. read ∙ ap (λ (xs : List PrevEntry). xs ++ es) none)
-    (c.read_list.ensures p es path listed (filled (listed_data p) es _ (sym (ap (option_map (λ (found : Bor Value). view found.now)) c.in-Some.is) ∙ is)))
+    (c.read_list.ensures.complete p es path listed (filled (listed_data p) es _ (sym (ap (option_map (λ (found : Bor Value). view found.now)) c.in-Some.is) ∙ is)))

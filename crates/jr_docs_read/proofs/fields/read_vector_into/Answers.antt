@@ -6,5 +6,5 @@ use Rattle.serde_json.specs.declared.value.Value.{Value}
 use Rattle.jr_docs_read.proofs.Items.{no_vector}
 use Rattle.jr_docs_read.proofs.fields.read_vector_into.Goals as goal
 
-pub returns-in_default : goal.returns-in_default
-returns-in_default c v h is none = none ∙ no_vector v h (sym (ap (option_map (λ (found : Bor Value). view found.now)) c.in_default.is) ∙ is)
+pub returns-in_default-clause-complete : goal.returns-in_default-clause-complete
+returns-in_default-clause-complete c v h is none = none ∙ no_vector v h (sym (ap (option_map (λ (found : Bor Value). view found.now)) c.in_default.is) ∙ is)

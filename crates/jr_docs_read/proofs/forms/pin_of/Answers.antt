@@ -4,7 +4,7 @@ use Rattle.jr_docs_read.proofs.Items.{pin_length}
 use Rattle.jr_docs_read.proofs.forms.pin_of.Goals as goal
 use Rattle.jr_docs_read.proofs.forms.pin_of.Goals.{in_default-via-then-items-lt2, in_default-via-else-items-lt2+else-items-lt3}
 
-pub returns-in_default : goal.returns-in_default
-returns-in_default c x range is =
+pub returns-in_default-clause-complete : goal.returns-in_default-clause-complete
+returns-in_default-clause-complete c x range is =
     let size = pin_length x c.args.items.now is in
     elim c.in_default.branch [ in_default-via-then-items-lt2 w ↦ grind (arith, nat_tests, size) | in_default-via-else-items-lt2+else-items-lt3 w ↦ grind (arith, nat_tests, size) ]

@@ -13,37 +13,41 @@ use Rattle.jr_docs_read.proofs.Named.{id_found, number_found}
 use Rattle.jr_path.specs.Ids.{id_text}
 use Rattle.jr_path.specs.declared.path.DocId.{DocId}
 use Rattle.oak_doc.specs.declared.document.Document.{Document}
+use Rattle.jr_docs_read.proofs.Stored.{begun_stored}
 use Rattle.jr_docs_read.proofs.reading.found_document.Goals as goal
 
-pub returns-in_err-member : goal.returns-in_err-member
-returns-in_err-member c d h json =
+pub returns-in_err-member-clause-complete : goal.returns-in_err-member-clause-complete
+returns-in_err-member-clause-complete c d h json =
     let q = err_from_is_err_and c.from_residual.result c.from_residual.ensures.1 in
     rw (q.1, q.2) (handed (λ (m : Bor Value). view m.now ≡ number_data d.mod_count) (λ (found : Document). found ≡ as_printed d) _ (c.in_err-member.ensures (number_data d.mod_count) (number_found d _ json)))
 
-pub returns-in_err-number : goal.returns-in_err-number
-returns-in_err-number c d h json =
+pub returns-in_err-number-clause-complete : goal.returns-in_err-number-clause-complete
+returns-in_err-number-clause-complete c d h json =
     let q = err_from_is_err_and c.from_residual-in_err-number.result c.from_residual-in_err-number.ensures.1 in
     rw (q.1, q.2) (handed (λ (n : ℕ). n ≡ d.mod_count) (λ (found : Document). found ≡ as_printed d) _ (c.in_err-number.ensures d.mod_count (sym (c.in_ok-member.ensures (number_data d.mod_count) (number_found d _ json)))))
 
-pub returns-in_err-member-2 : goal.returns-in_err-member-2
-returns-in_err-member-2 c d h json =
+pub returns-in_err-member-2-clause-complete : goal.returns-in_err-member-2-clause-complete
+returns-in_err-member-2-clause-complete c d h json =
     let q = err_from_is_err_and c.from_residual-in_err-member-2.result c.from_residual-in_err-member-2.ensures.1 in
     rw (q.1, q.2) (handed (λ (m : Bor Value). view m.now ≡ string (id_text d.id)) (λ (found : Document). found ≡ as_printed d) _ (c.in_err-member-2.ensures (string (id_text d.id)) (id_found d _ json)))
 
-pub returns-in_err-id : goal.returns-in_err-id
-returns-in_err-id c d h json =
+pub returns-in_err-id-clause-complete : goal.returns-in_err-id-clause-complete
+returns-in_err-id-clause-complete c d h json =
     let q = err_from_is_err_and c.from_residual-in_err-id.result c.from_residual-in_err-id.ensures.1 in
-    rw (q.1, q.2) (handed (λ (k : DocId). k ≡ d.id) (λ (found : Document). found ≡ as_printed d) _ (c.in_err-id.ensures d.id h.id (sym (c.in_ok-member-2.ensures (string (id_text d.id)) (id_found d _ json)))))
+    rw (q.1, q.2) (handed (λ (k : DocId). k ≡ d.id) (λ (found : Document). found ≡ as_printed d) _ (c.in_err-id.ensures.complete d.id h.id (sym (c.in_ok-member-2.ensures (string (id_text d.id)) (id_found d _ json)))))
 
-pub returns-in_err-read_fields : goal.returns-in_err-read_fields
-returns-in_err-read_fields c d h json =
+pub returns-in_err-read_fields-clause-complete : goal.returns-in_err-read_fields-clause-complete
+returns-in_err-read_fields-clause-complete c d h json =
     let number = c.in_ok-number.ensures d.mod_count (sym (c.in_ok-member.ensures (number_data d.mod_count) (number_found d _ json))) in
-    let id = c.in_ok-id.ensures d.id h.id (sym (c.in_ok-member-2.ensures (string (id_text d.id)) (id_found d _ json))) in
+    let id = c.in_ok-id.ensures.complete d.id h.id (sym (c.in_ok-member-2.ensures (string (id_text d.id)) (id_found d _ json))) in
     let q = err_from_is_err_and c.from_residual-in_err-read_fields.result c.from_residual-in_err-read_fields.ensures.1 in
-    rw (q.1, q.2) (handed (λ (u : Unit {0}). c.read_fields.new.document ≡ as_printed d) (λ (found : Document). found ≡ as_printed d) _ (c.in_err-read_fields.ensures d h json (begun_with c.empty-document.result d _ _ c.empty-document.ensures id number)))
+    rw (q.1, q.2) (handed (λ (u : Unit {0}). c.read_fields.new.document ≡ as_printed d) (λ (found : Document). found ≡ as_printed d) _ (c.in_err-read_fields.ensures.complete d h json (begun_with c.empty-document.result d _ _ c.empty-document.ensures id number)))
 
-pub returns : goal.returns
-returns c d h json =
+pub returns-clause-complete : goal.returns-clause-complete
+returns-clause-complete c d h json =
     let number = c.in_ok-number.ensures d.mod_count (sym (c.in_ok-member.ensures (number_data d.mod_count) (number_found d _ json))) in
-    let id = c.in_ok-id.ensures d.id h.id (sym (c.in_ok-member-2.ensures (string (id_text d.id)) (id_found d _ json))) in
-    c.in_ok-read_fields.ensures d h json (begun_with c.empty-document.result d _ _ c.empty-document.ensures id number)
+    let id = c.in_ok-id.ensures.complete d.id h.id (sym (c.in_ok-member-2.ensures (string (id_text d.id)) (id_found d _ json))) in
+    c.in_ok-read_fields.ensures.complete d h json (begun_with c.empty-document.result d _ _ c.empty-document.ensures id number)
+
+pub returns-clause-storable : goal.returns-clause-storable
+returns-clause-storable c = (c.in_ok-read_fields.ensures.in_range (begun_stored c.empty-document.result _ _ c.empty-document.ensures c.in_ok-id.ensures.in_range)).storable
