@@ -8,10 +8,15 @@ use Rattle.repo_top.specs.declared.words.Words.{Words}
 use Rattle.repo_top.proofs.Faulty.{asks_all, does_ends, none_left, does_run, meaningless, run_does, taken_alone, wordless}
 use Rattle.repo_top.proofs.top.repo_main.Goals as goal
 
-pub run-requires : goal.run-requires
-run-requires g c κs within =
+pub run-ran-requires-clause-some : goal.run-ran-requires-clause-some
+run-ran-requires-clause-some g c κs within =
     let range = subst (λ (m : Words). IsInRange m) c.in-Run.is (meant_in_range (map string_bytes c.args.words.now) c.in-Some.meaning c.in-Some.ensures) in
-    record { some = range.0; few = range.1 }
+    range.0
+
+pub run-ran-requires-clause-few : goal.run-ran-requires-clause-few
+run-ran-requires-clause-few g c κs within =
+    let range = subst (λ (m : Words). IsInRange m) c.in-Run.is (meant_in_range (map string_bytes c.args.words.now) c.in-Some.meaning c.in-Some.ensures) in
+    range.1
 
 pub alone-requires : goal.alone-requires
 alone-requires g c = record {
@@ -27,8 +32,8 @@ returns-in_default g c =
 
 pub returns-in-Run : goal.returns-in-Run
 returns-in-Run g c =
-    let e = effect (input_of g.S.Source c.args.source.now) (input_of g.S.Source c.run.new.source) (output_of g.K.Sink c.args.sink.now) (output_of g.K.Sink c.told.new.sink) c.told.new.left in
-    let did = run_does c.in-Run.documents e c.told.result c.in-Run.workers c.run.result c.run.ensures.ran c.run.ensures.unread (c.told.ensures.ok, c.told.ensures.err) in
+    let e = effect (input_of g.S.Source c.args.source.now) (input_of g.S.Source c.run-ran.new.source) (output_of g.K.Sink c.args.sink.now) (output_of g.K.Sink c.told.new.sink) c.told.new.left in
+    let did = run_does c.in-Run.documents e c.told.result c.in-Run.workers c.run-ran.result c.run-ran.ensures.ran c.run-ran.ensures.unread (c.told.ensures.ok, c.told.ensures.err) in
     record { ends = does_run (call true (map string_bytes c.args.words.now) e) c.told.result c.in-Some.meaning c.in-Run.workers c.in-Run.documents c.in-Run.is (asks_all _ e c.in-Some.meaning c.in-Some.ensures) did }
 
 pub returns-in_default-meaning : goal.returns-in_default-meaning
