@@ -1,9 +1,14 @@
 pub mod Calling
+pub mod Changing
 pub mod Coming
 pub mod Committing
 pub mod Cursors
+pub mod Fetching
 pub mod Lawful
 pub mod Lengths
+pub mod Loads
+pub mod Looking
+pub mod Nearing
 pub mod Nexts
 pub mod Others
 pub mod Reading

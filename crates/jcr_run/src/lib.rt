@@ -1,16 +1,18 @@
 //! A session of a script: where it stands (`SessionRun`), what is to be done for its next command
-//! (`Due`), and what it answers. What it reads before that is `jcr_fetch`'s, and its turns are
+//! (`Due`), what it reads before that, and what it answers. Its turns are
 //! `jcr_session`'s.
 #![tactic(auto)]
 
 mod limits;
 mod next;
+mod reads;
 mod run;
 mod say;
 mod turn;
 
 pub use limits::MOST_COMMANDS;
 pub use next::Due;
+pub use reads::read;
 pub use run::{Fetch, Phase, Pledge, SessionRun};
 pub use say::MEMORY_REPLY;
 pub use turn::Turn;

@@ -31,7 +31,7 @@ use Rattle.jcr_session.specs.Phases.{phase_by, phase_came, turn_by, turn_came}
 use Rattle.jcr_run.specs.Nearing.{ComesNearer, EndsOrStays, EndsSooner, IsReply, ReadsOn, StaysBehindStep, StepsOn, WorksSooner}
 use Rattle.jcr_run.specs.Nearing.{turns_left, stages_left}
 use Rattle.jcr_run.specs.Standing.{HasCounted, HasTurned, IsSame, Stands, is_committing, is_detaching, is_on_errand, is_working}
-use Rattle.jcr_fetch.proofs.Nearing.{memory_sooner, sooner_by}
+use Rattle.jcr_run.proofs.Nearing.{memory_sooner, sooner_by}
 
 -- ---- what is left
 

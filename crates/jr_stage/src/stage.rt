@@ -21,9 +21,8 @@ ghost use Rattle.jr_stage.specs.Seats.{AreNew, IsNewSeat};
 
 use crate::flight::Flight;
 use core_obeys::the_product_obeys;
-use jcr_fetch::read;
 use jcr_law::JcrLaw;
-use jcr_run::{SessionRun, Turn};
+use jcr_run::{SessionRun, Turn, read};
 use jcr_trans::{Command, SessionScript};
 use jr_path::{DeepCopy, List};
 use jr_rev::Revision;

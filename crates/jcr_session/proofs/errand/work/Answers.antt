@@ -5,7 +5,7 @@ use Rattle.jcr_run.specs.Nearing.{EndsSooner}
 use Rattle.jcr_run.proofs.Calling.{forgo_law}
 use Rattle.jcr_session.proofs.Errands.{errand_busy, errand_comes, errand_may, errand_turned, memory_is, refused_forgoes, refused_room, refused_turns}
 use Rattle.jcr_session.proofs.Nearer.{nears_by, reply_ends, unwaiting}
-use Rattle.jcr_fetch.proofs.Nearing.{sooner_by}
+use Rattle.jcr_run.proofs.Nearing.{sooner_by}
 use Rattle.jcr_session.proofs.errand.work.Goals as goal
 
 pub step-requires : goal.step-requires

@@ -1,7 +1,7 @@
 use Rattle.std.proofs.Common.{subst, sym, ap}
 use Rattle.jcr_run.specs.declared.run.Phase.{Phase}
 use Rattle.jcr_run.specs.Standing.{HasEnded, is_committing, is_detaching, is_on_errand, is_told}
-use Rattle.jcr_fetch.proofs.Looking.{over_ends}
+use Rattle.jcr_run.proofs.Looking.{over_ends}
 use Rattle.jcr_session.proofs.Nearer.{reply_steps, steps_sooner}
 use Rattle.jcr_session.proofs.Undrawn.{reply_undrawn}
 use Rattle.jcr_session.proofs.turns.counted.Goals as goal

@@ -1,7 +1,7 @@
 use Rattle.std.proofs.Common.{ℕ, sym, subst, false, ◌∙◌}
 use Rattle.jcr_run.proofs.Calling.{forgo_law, stands_law, turned_law}
 use Rattle.jcr_run.proofs.Lawful.{idle_by}
-use Rattle.jcr_fetch.proofs.Looking.{looked_reads, refused_forgoes, turned_behind}
+use Rattle.jcr_run.proofs.Looking.{looked_reads, refused_forgoes, turned_behind}
 use Rattle.jcr_run.proofs.Nexts.{reads_between, reads_unbegun, reads_unmoved, reads_unsaving}
 use Rattle.jcr_session.proofs.Nearer.{counted_reads, counted_turns, left_looked, reply_steps, steps_sooner, turn_nearer}
 use Rattle.jcr_run.specs.Nearing.{EndsSooner, StepsOn, WorksSooner, turns_left}

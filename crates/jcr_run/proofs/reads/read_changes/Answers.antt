@@ -1,9 +1,9 @@
 use Rattle.std.proofs.Common.{refl, sym, ◌∙◌}
 use Rattle.jcr_law.specs.Lasting.{says_of, starts_of}
 use Rattle.jcr_run.specs.Nearing.{EndsSooner}
-use Rattle.jcr_fetch.proofs.Changing.{changes_found, changes_going, changes_is, changes_near, changes_refused, changes_stop}
-use Rattle.jcr_fetch.proofs.Nearing.{changes_sooner}
-use Rattle.jcr_fetch.proofs.fetch.read_changes.Goals as goal
+use Rattle.jcr_run.proofs.Changing.{changes_found, changes_going, changes_is, changes_near, changes_refused, changes_stop}
+use Rattle.jcr_run.proofs.Nearing.{changes_sooner}
+use Rattle.jcr_run.proofs.reads.read_changes.Goals as goal
 
 pub changes_came-requires : goal.changes_came-requires
 changes_came-requires g c = changes_is (g.P.Port.law c.args.port.now) (g.P.Port.shown c.args.port.now) (g.P.Port.shown c.step.new.self)

@@ -1,14 +1,14 @@
 use Rattle.jcr_run.proofs.Lawful.{asks_of}
-use Rattle.jcr_fetch.proofs.Fetching.{fetch_asked, fetch_begins}
+use Rattle.jcr_run.proofs.Fetching.{fetch_asked, fetch_begins}
 use Rattle.jcr_run.proofs.Calling.{stands_law}
-use Rattle.jcr_fetch.proofs.Loads.{begun_looked, unbegun_looked}
-use Rattle.jcr_fetch.proofs.Looking.{looked_both}
+use Rattle.jcr_run.proofs.Loads.{begun_looked, unbegun_looked}
+use Rattle.jcr_run.proofs.Looking.{looked_both}
 use Rattle.jcr_run.proofs.Calling.{made_if}
-use Rattle.jcr_fetch.proofs.Nearing.{begun_nears}
+use Rattle.jcr_run.proofs.Nearing.{begun_nears}
 use Rattle.jcr_run.proofs.Waiting.{by_waits}
 use Rattle.oak_port.specs.Ports.{Starting}
 use Rattle.jcr_run.specs.Nearing.{EndsSooner}
-use Rattle.jcr_fetch.proofs.fetch.read_first.Goals as goal
+use Rattle.jcr_run.proofs.reads.read_first.Goals as goal
 
 pub start-requires-clause-may : goal.start-requires-clause-may
 start-requires-clause-may g c = fetch_begins (g.P.Port.law c.args.port.now) (g.P.Port.shown c.args.port.now) c.args.run.now c.requires.stands c.requires.reads c.in_ok-task.task c.args.fetch c.in_ok-task.ensures c.requires.suits

@@ -1,12 +1,12 @@
 use Rattle.std.proofs.Common.{Option, refl, subst}
 use mathlib.Core.Bool.{false≢true}
-use Rattle.jcr_fetch.proofs.Loads.{held_looked, read_none, read_made}
-use Rattle.jcr_fetch.proofs.Looking.{looked_both}
+use Rattle.jcr_run.proofs.Loads.{held_looked, read_none, read_made}
+use Rattle.jcr_run.proofs.Looking.{looked_both}
 use Rattle.jcr_run.proofs.Calling.{made_if}
-use Rattle.jcr_fetch.proofs.Nearing.{holds_called, next_nears}
+use Rattle.jcr_run.proofs.Nearing.{holds_called, next_nears}
 use Rattle.jcr_run.specs.declared.run.Fetch.{Fetch}
 use Rattle.jcr_run.specs.Standing.{IsWantedNext}
-use Rattle.jcr_fetch.proofs.fetch.read_next.Goals as goal
+use Rattle.jcr_run.proofs.reads.read_next.Goals as goal
 
 pub returns-in_err-fetch-clause-looked : goal.returns-in_err-fetch-clause-looked
 returns-in_err-fetch-clause-looked g c = (held_looked (g.P.Port.law c.args.port.now) (g.P.Port.shown c.args.port.now) c.args.run.now c.requires.stands c.requires.reads c.next_fetch.new.run c.requires.none c.next_fetch.ensures.same c.next_fetch.ensures.holds).0

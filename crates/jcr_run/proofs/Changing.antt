@@ -29,9 +29,9 @@ use Rattle.jcr_run.specs.Nearing.{HasNeared, unread_of}
 use Rattle.jcr_run.specs.Standing.{AreSince, HasLooked, IsBeside, IsBetween, IsCalled, IsIn, IsReading, IsRefused, Stands}
 use Rattle.jcr_run.specs.Standing.{due_for, is_events, lacks_changes, may_read}
 use Rattle.jcr_run.proofs.Lawful.{at_between}
-use Rattle.jcr_fetch.proofs.Loads.{unfetched}
-use Rattle.jcr_fetch.proofs.Looking.{read_looked, read_refused}
-use Rattle.jcr_fetch.proofs.Nearing.{less_unread, same_call, unread_is}
+use Rattle.jcr_run.proofs.Loads.{unfetched}
+use Rattle.jcr_run.proofs.Looking.{read_looked, read_refused}
+use Rattle.jcr_run.proofs.Nearing.{less_unread, same_call, unread_is}
 use Rattle.jcr_run.proofs.Nexts.{reads_between, reads_next, unwanted}
 use Rattle.jcr_run.proofs.Reading.{makes_it, step_beside, step_called, step_shown}
 use Rattle.jcr_run.proofs.Since.{since_beside}

@@ -2,9 +2,9 @@ use Rattle.std.proofs.Common.{◌∙◌, Option, refl, subst, sym, arith}
 use Rattle.std.specs.Prelude.{IfSome}
 use Rattle.jcr_run.specs.declared.run.Fetch.{Fetch}
 use Rattle.jcr_run.specs.Standing.{IsFetchFor, IsOneFetch, IsWantedNext}
-use Rattle.jcr_fetch.proofs.Fetching.{changes_one, changes_ready, changes_suit, changes_wanted}
+use Rattle.jcr_run.proofs.Fetching.{changes_one, changes_ready, changes_suit, changes_wanted}
 use Rattle.jcr_run.proofs.Readying.{not_events}
-use Rattle.jcr_fetch.proofs.fetch.next_fetch.Goals as goal
+use Rattle.jcr_run.proofs.reads.next_fetch.Goals as goal
 
 pub returns-in-Events : goal.returns-in-Events
 returns-in-Events c =

@@ -35,7 +35,7 @@ use Rattle.jcr_steps.specs.Answered.{IsListAnswer, IsLoadAnswer, listed_by, load
 use Rattle.jcr_run.specs.Standing.{AreSince, HasLooked, HasRead, IsCalled, IsFetchFor, IsIn, IsReading, IsReadyNext, IsRefused, IsSame, IsWantedNext, Stands, may_read}
 use Rattle.jcr_run.proofs.Coming.{list_comes, load_comes}
 use Rattle.jcr_run.proofs.Lawful.{at_between}
-use Rattle.jcr_fetch.proofs.Looking.{read_looked, read_refused}
+use Rattle.jcr_run.proofs.Looking.{read_looked, read_refused}
 use Rattle.jcr_run.proofs.Nexts.{reads_between, unwanted}
 use Rattle.jcr_run.proofs.Since.{since_beside}
 use Rattle.jcr_run.proofs.Reading.{HasStepped, beside_itself, list_found, list_refused, list_went, node_found, node_refused, node_went}

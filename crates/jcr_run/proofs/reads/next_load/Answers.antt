@@ -3,9 +3,9 @@ use Rattle.jcr_held.specs.Holds.{IsReady}
 use Rattle.jcr_trans.specs.declared.command.Command.{Command}
 use Rattle.jcr_run.proofs.Calling.{made_if}
 use Rattle.jcr_run.proofs.Readying.{ready_tree}
-use Rattle.jcr_fetch.proofs.Nearing.{no_more_unread, wanted_by}
+use Rattle.jcr_run.proofs.Nearing.{no_more_unread, wanted_by}
 use Rattle.jcr_run.proofs.Nexts.{next_there, none_there, reads_due, reads_next, same_next}
-use Rattle.jcr_fetch.proofs.fetch.next_load.Goals as goal
+use Rattle.jcr_run.proofs.reads.next_load.Goals as goal
 
 pub returns-clause-ready : goal.returns-clause-ready
 returns-clause-ready c = made_if c.next_load.result _ _

@@ -13,8 +13,9 @@ ghost use Rattle.jcr_run.specs.Standing.{IsReading, IsReadyNext, IsRefused, IsWa
 ghost use Rattle.jcr_run.specs.Standing.{due_for, is_events, may_read};
 ghost use Rattle.jcr_run.specs.declared.run.Fetch.TheVariants as fetch;
 
+use crate::next::Due;
+use crate::run::{Fetch, SessionRun};
 use jcr_law::JcrLaw;
-use jcr_run::{Due, Fetch, SessionRun};
 use jcr_steps::{Changed, Listed, Loaded, changes_came, list_came, load_came};
 use jr_part::Need;
 use jr_path::{DeepCopy, Path};

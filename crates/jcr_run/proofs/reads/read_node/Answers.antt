@@ -1,14 +1,14 @@
 use Rattle.std.proofs.Common.{refl, sym, subst, ◌∙◌}
-use Rattle.jcr_fetch.proofs.Loads.{load_found, load_going, load_refused}
+use Rattle.jcr_run.proofs.Loads.{load_found, load_going, load_refused}
 use Rattle.jcr_held.specs.Holds.{Holds}
 use Rattle.jcr_held.specs.declared.held.Held.{Held}
 use Rattle.jcr_held.proofs.Unread.{node_read}
 use Rattle.jcr_law.specs.Lasting.{says_of, starts_of}
-use Rattle.jcr_fetch.proofs.Nearing.{found_nears, load_sooner}
+use Rattle.jcr_run.proofs.Nearing.{found_nears, load_sooner}
 use Rattle.jr_part.specs.Parts.{with_node}
 use Rattle.jr_part.specs.declared.need.Need.TheVariants as need
 use Rattle.jcr_run.specs.Nearing.{EndsSooner}
-use Rattle.jcr_fetch.proofs.fetch.read_node.Goals as goal
+use Rattle.jcr_run.proofs.reads.read_node.Goals as goal
 
 pub returns-in-Going-clause-looked : goal.returns-in-Going-clause-looked
 returns-in-Going-clause-looked g c = load_going (g.P.Port.law c.args.port.now) (g.P.Port.shown c.args.port.now) (g.P.Port.shown c.step.new.self) c.args.run.now c.args.path c.requires.stands c.requires.reads c.requires.none c.step.result c.step.ensures.steps (sym c.load_came.ensures ∙ c.in-Going.is)

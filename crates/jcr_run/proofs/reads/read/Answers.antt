@@ -1,11 +1,11 @@
 use Rattle.std.proofs.Common.{◌≡◌, Option, IfOk, true, subst, sym, ◌∙◌}
 use Rattle.jcr_run.specs.declared.run.Fetch.{Fetch}
 use Rattle.jcr_run.specs.Standing.{HasLooked, HasRead, Stands}
-use Rattle.jcr_fetch.proofs.Loads.{err_with, read_made}
+use Rattle.jcr_run.proofs.Loads.{err_with, read_made}
 use Rattle.jcr_run.specs.Nearing.{EndsSooner, HasNeared}
 use Rattle.jcr_run.proofs.Calling.{made_if}
-use Rattle.jcr_fetch.proofs.Nearing.{nears_sooner}
-use Rattle.jcr_fetch.proofs.fetch.read.Goals as goal
+use Rattle.jcr_run.proofs.Nearing.{nears_sooner}
+use Rattle.jcr_run.proofs.reads.read.Goals as goal
 
 -- what is being read is known to be so
 pub read_on-requires-clause-stands : goal.read_on-requires-clause-stands

@@ -25,7 +25,7 @@ use Rattle.jcr_run.specs.declared.run.Fetch.TheVariants as fetch
 use Rattle.jcr_run.specs.declared.run.SessionRun.{SessionRun}
 use Rattle.jcr_run.specs.Standing.{IsBetween, IsFetchFor, IsIn, IsOneFetch, IsReading, IsReadyFor, IsReadyNext, IsWantedBy, IsWantedNext, Stands, due_for}
 use Rattle.jcr_run.specs.Standing.{is_events, lacks_changes, may_read}
-use Rattle.jcr_fetch.proofs.Changing.{standing}
+use Rattle.jcr_run.proofs.Changing.{standing}
 use Rattle.jcr_run.proofs.Lawful.{at_between}
 use Rattle.jcr_run.proofs.Nexts.{reads_between, same_next}
 use Rattle.jcr_run.proofs.Readying.{events_next, lacks_due}

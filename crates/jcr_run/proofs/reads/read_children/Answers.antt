@@ -1,14 +1,14 @@
 use Rattle.std.proofs.Common.{refl, sym, subst, ◌∙◌}
-use Rattle.jcr_fetch.proofs.Loads.{list_going, names_found, names_refused, names_rise}
+use Rattle.jcr_run.proofs.Loads.{list_going, names_found, names_refused, names_rise}
 use Rattle.jcr_held.specs.Holds.{Holds}
 use Rattle.jcr_held.specs.declared.held.Held.{Held}
 use Rattle.jcr_held.proofs.Unread.{children_read}
 use Rattle.jcr_law.specs.Lasting.{says_of, starts_of}
-use Rattle.jcr_fetch.proofs.Nearing.{found_nears, list_sooner}
+use Rattle.jcr_run.proofs.Nearing.{found_nears, list_sooner}
 use Rattle.jr_part.specs.Parts.{with_children}
 use Rattle.jr_part.specs.declared.need.Need.TheVariants as need
 use Rattle.jcr_run.specs.Nearing.{EndsSooner}
-use Rattle.jcr_fetch.proofs.fetch.read_children.Goals as goal
+use Rattle.jcr_run.proofs.reads.read_children.Goals as goal
 
 pub put_children-requires : goal.put_children-requires
 put_children-requires g c = record { rising = names_rise (g.P.Port.law c.args.port.now) (g.P.Port.shown c.args.port.now) (g.P.Port.shown c.step.new.self) c.args.run.now c.args.path c.requires.stands c.requires.reads c.requires.none c.step.result c.step.ensures.steps c.in-Names.names (sym c.list_came.ensures ∙ c.in-Names.is) }

@@ -2,8 +2,8 @@ use Rattle.std.proofs.Common.{◌∙◌, Option, subst, sym}
 use Rattle.std.specs.Prelude.{IfSome}
 use Rattle.jcr_run.specs.declared.run.Fetch.{Fetch}
 use Rattle.jcr_run.specs.Standing.{IsFetchFor, IsOneFetch, IsWantedNext}
-use Rattle.jcr_fetch.proofs.Fetching.{one_tree, suits_tree, none_tree}
-use Rattle.jcr_fetch.proofs.fetch.next_tree.Goals as goal
+use Rattle.jcr_run.proofs.Fetching.{one_tree, suits_tree, none_tree}
+use Rattle.jcr_run.proofs.reads.next_tree.Goals as goal
 
 pub returns : goal.returns
 returns c =

@@ -1,5 +1,0 @@
-pub mod Changing
-pub mod Fetching
-pub mod Loads
-pub mod Looking
-pub mod Nearing
