@@ -1,8 +1,6 @@
 // The steps of a background write and of a background read: each makes the operation for which its
 // automaton asks, and feeds it the reply.
 ghost use Rattle.std.specs.Prelude.{◌≡◌, ◌∷◌, ◌++◌, [], ℕ, IfOk, OnErr, OnOk};
-ghost use Rattle.oak_doc.specs.declared.asks.Ask.TheVariants as ask;
-ghost use Rattle.oak_doc.specs.declared.asks.MemoryAsk.TheVariants as memory_ask;
 ghost use Rattle.oak_machine.specs.declared.event.Event.TheVariants as event;
 ghost use Rattle.oak_machine.specs.declared.event.StepKind.TheVariants as kind;
 ghost use Rattle.oak_node.specs.Memory.{NodeState};
@@ -19,7 +17,7 @@ ghost use Rattle.oak_step.specs.declared.work.Work.TheVariants as work;
 use crate::upkeep::Upkeep;
 use crate::work::Work;
 use oak_acts::ask;
-use oak_doc::{Ask, MemoryAsk, Reply};
+use oak_doc::Reply;
 use oak_machine::{Event, Events, StepKind};
 use oak_node::{NodeMem, Pending};
 use oak_port::{StepOut, TaskEnd};
@@ -60,7 +58,6 @@ fn take(memory: &mut NodeMem, events: &mut Events, s: u32) -> Result<Pending, Al
 }
 
 // A background write begins with the notes that it took, and makes its first update.
-#[tactic(auto, using(crate::proofs::Backs::publishing_first))]
 pub(crate) fn begin(
     alloc: Global,
     table: &mut DocTable,
@@ -125,7 +122,6 @@ fn told_write(write: BackWrite, reply: Reply) -> Work
 }
 
 // What a background read has due: the root's document is read, or the memory learns what that told.
-#[tactic(auto, using(oak_sync::proofs::Standing::learns_both))]
 pub(crate) fn read(
     table: &mut DocTable,
     memory: &mut NodeMem,
@@ -178,20 +174,15 @@ fn told_read(read: BackRead, reply: Reply) -> Work
 
 // The memory learns what the root told, and the background read ends.
 fn learn(memory: &mut NodeMem, events: &mut Events, node: u32, read: &BackRead) -> (Work, StepOut)
-    requires stage { learning.stage_of read.now ≡ stage.Learn }
-    requires due { learning.due read.now
-        ≡ ask.Memory (memory_ask.Learn read.now.last read.now.sweep) }
+    requires { learning.stage_of read.now ≡ stage.Learn }
     ensures made { (s : ℕ) (t : Table) → LearnsOn s node (parts t memory.old events.old.list)
         read.now (parts t memory.new events.new.list) result.0 result.1 }
     ensures places { events.new.places ≡ events.old.places }
 {
-    let Ok(Ask::Memory(MemoryAsk::Learn(last, sweep))) = read.next() else {
-        unreachable!()
-    };
     if events.keep(1).is_err() {
         return (Work::Rest, StepOut::Memory);
     }
-    memory.learn(&last, &sweep);
+    memory.learn(read.last(), read.sweep());
     let head = memory.head();
     events.push_kept(Event::In(node, head));
     (Work::Rest, StepOut::Ready(TaskEnd::Learnt(head)))

@@ -101,6 +101,20 @@ impl BackRead {
         Ok(())
     }
 
+    /// The `_lastRev` that was read; no entries before. The memory is to learn it.
+    pub fn last(&self) -> &RevVec
+        ensures { result.now ≡ self.now.last }
+    {
+        &self.last
+    }
+
+    /// The `_sweepRev` that was read; no entries before. The memory is to learn it.
+    pub fn sweep(&self) -> &RevVec
+        ensures { result.now ≡ self.now.sweep }
+    {
+        &self.sweep
+    }
+
     /// The `_lastRev` and the `_sweepRev` that were read.
     pub fn end(self) -> (RevVec, RevVec)
         requires { due self ≡ ask.Done }
