@@ -6,4 +6,4 @@ pub publish-requires-clause-due : goal.publish-requires-clause-due
 publish-requires-clause-due c = publishing_first c.args.alloc c.args.pending c.in-Ok.write c.in-Ok.ensures
 
 pub returns-in-Ok-clause-made : goal.returns-in-Ok-clause-made
-returns-in-Ok-clause-made c = λ m. inr (c.args.alloc, (c.in-Ok.write, (c.in-Ok.ensures, c.publish.ensures.made m)))
+returns-in-Ok-clause-made c = λ m. inr (c.args.alloc, c.in-Ok.write, c.in-Ok.ensures, c.publish.ensures.made m)
