@@ -106,7 +106,10 @@ names_total (p ∷ ps) = ap (λ (n : ℕ). length p + n) (names_total ps)
 
 count_total : (ps : List Path) → total (λ p. 1) ps ≡ length ps
 count_total [] = refl
-count_total (p ∷ ps) = ap suc (count_total ps)
+count_total (p ∷ ps) = one_each (total (λ q. 1) ps) (length ps) (count_total ps)
+  where
+    one_each : (a b : ℕ) → a ≡ b → 1 + a ≡ suc b
+    one_each a b h = omega (arith, h)
 
 -- ---- the paths above others
 
