@@ -105,16 +105,16 @@ module _ {L : Type 0} (w : WorldOf L) (s : ℕ) (there : s < length w.actors) (q
 
   -- a reader alone
   module _ (r : Reader) (here : work_in w.actors s ≡ work.Read r) where
-    reads_on : (y : Work) → v ≡ y → running_of s y ≡ None → observing_of y ≡ None → q ≡ parts_at w s → now ≡ with_reader (state_of w) s (reading_of y)
-    reads_on y is none unobserved same =
+    reader_on : (y : Work) → v ≡ y → running_of s y ≡ None → observing_of y ≡ None → q ≡ parts_at w s → now ≡ with_reader (state_of w) s (reading_of y)
+    reader_on y is none unobserved same =
         ap (λ (p : Parts). state_of (with_parts w s p a)) same
         ∙ (reads_is w s there a (ap (running_of s) here ∙ sym (running_now y is ∙ none)) (ap observing_of here ∙ sym (observing_now y is ∙ unobserved))
         ∙ ap (λ (x : Option Reader). with_reader (state_of w) s x) (reading_now y is))
 
     read_makes : (o : StepOut) → Steps s node (parts_at w s) (work.Read r) q v o → Makes s (state_of w) (work.Read r) now v o
-    read_makes (answers.Went kind.Read) h = (reads_on (work.Read (read_on w.table r)) h.1.0 refl refl h.0, h.1.0, h.1.1)
-    read_makes (answers.Ready e) h = (reads_on work.Rest h.1.0 refl refl h.0, h.1.0, h.1.1)
-    read_makes answers.Memory h = (reads_on work.Rest h.1 refl refl h.0, h.1)
+    read_makes (answers.Went kind.Read) h = (reader_on (work.Read (read_on w.table r)) h.1.0 refl refl h.0, h.1.0, h.1.1)
+    read_makes (answers.Ready e) h = (reader_on work.Rest h.1.0 refl refl h.0, h.1.0, h.1.1)
+    read_makes answers.Memory h = (reader_on work.Rest h.1 refl refl h.0, h.1)
     read_makes (answers.Went _) h = absurd h.1
     read_makes (answers.Wait o) h = absurd h.1
     read_makes (answers.Stopped position) h = absurd h.1
