@@ -31,11 +31,13 @@ is_marked p ms = list_any (λ m. eq_by_cmp path_cmp p m.path) ms
 
 -- the parent of each node that the edit adds or removes is marked
 abbrev pub MarkParents : List MarkAt → List Write → Type 0
-MarkParents ms ws = (p q : Path) → parent_of p ≡ Some q → IsTrue (writes_node p ws) → IsTrue (is_marked q ms)
+MarkParents ms ws =
+    (p q : Path) → parent_of p ≡ Some q → IsTrue (writes_node p ws) → IsTrue (is_marked q ms)
 
 -- an edit that may start marks the parent of each node that it adds or removes
 abbrev pub StartsMarkingParents : Starts → Type 0
-StartsMarkingParents starts = (h : History) (s : ℕ) (edit : Edit) (marks : List MarkAt) → starts h s edit marks → MarkParents marks edit.writes
+StartsMarkingParents starts = (h : History) (s : ℕ) (edit : Edit) (marks : List MarkAt)
+    → starts h s edit marks → MarkParents marks edit.writes
 
 -- a run of one to eight cluster nodes, from whatever it begins with, by a law that lets only such
 -- edits start
@@ -44,14 +46,20 @@ pub record IsMergingRun (starts : Starts) (says : Says) (h : History) : Type 0 w
   pub run : IsRun starts says h
   pub marking : StartsMarkingParents starts
 
--- two edits write no item both; and where one adds or removes a node, the other writes no property of it and neither adds nor removes its parent
+-- two edits write no item both; and where one adds or removes a node, the other writes no property
+-- of it and neither adds nor removes its parent
 pub record AreIndependent (ws us : List Write) : Type 0 where
   pub nodes : (p : Path) → IsTrue (writes_node p ws) → IsFalse (writes_node p us)
-  pub properties : (p : Path) (n : Name) → IsTrue (writes_property p n ws) → IsFalse (writes_property p n us)
-  pub of_node : (p : Path) (n : Name) → IsTrue (writes_node p ws) → IsFalse (writes_property p n us)
-  pub of_property : (p : Path) (n : Name) → IsTrue (writes_property p n ws) → IsFalse (writes_node p us)
-  pub below : (p q : Path) → parent_of p ≡ Some q → IsTrue (writes_node p ws) → IsFalse (writes_node q us)
-  pub above : (p q : Path) → parent_of p ≡ Some q → IsTrue (writes_node p us) → IsFalse (writes_node q ws)
+  pub properties : (p : Path) (n : Name) → IsTrue (writes_property p n ws)
+      → IsFalse (writes_property p n us)
+  pub of_node : (p : Path) (n : Name) → IsTrue (writes_node p ws)
+      → IsFalse (writes_property p n us)
+  pub of_property : (p : Path) (n : Name) → IsTrue (writes_property p n ws)
+      → IsFalse (writes_node p us)
+  pub below : (p q : Path) → parent_of p ≡ Some q → IsTrue (writes_node p ws)
+      → IsFalse (writes_node q us)
+  pub above : (p q : Path) → parent_of p ≡ Some q → IsTrue (writes_node p us)
+      → IsFalse (writes_node q ws)
 
 -- each committed edit is independent of each earlier one that its base doesn't see
 abbrev pub AreMergeable : Past → Type 0

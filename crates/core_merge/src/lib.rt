@@ -1,4 +1,5 @@
-//! Merging: whatever commits a reader sees together, it sees a tree, since commits of which neither saw the other are independent.
+//! Merging: whatever commits a reader sees together, it sees a tree, since commits of which neither
+//! saw the other are independent.
 #![tactic(auto)]
 
 ghost use Rattle.std.specs.Prelude.{◌≡◌, ◌⊎◌, ℕ, Some, IsTrue, IsFalse};
@@ -22,10 +23,10 @@ ghost use Rattle.core_merge.specs.Orders.{tree_by_commits};
 use oak_machine::Law;
 
 /// In each run by a law whose edits mark the parents of the nodes that they add or remove, from
-/// whatever it begins with, what a closed vector sees is a tree. So it is at each node's head, at the
-/// base of each session and of each draw, and at each checkpoint. All commits, in the order in which
-/// they were made, leave a tree too, and a closed vector that sees them all sees that tree: their
-/// order doesn't matter.
+/// whatever it begins with, what a closed vector sees is a tree. So it is at each node's head, at
+/// the base of each session and of each draw, and at each checkpoint. All commits, in the order in
+/// which they were made, leave a tree too, and a closed vector that sees them all sees that tree:
+/// their order doesn't matter.
 pub fn merged_trees_are_trees<L: Law>(law: &L)
     ensures closed { (h : History) (v : RevVec)
         → IsMergingRun (L.may_start law.now) (L.may_say law.now) h
@@ -50,8 +51,9 @@ pub fn merged_trees_are_trees<L: Law>(law: &L)
         → tree_at h.begin h.past v ≡ tree_by_commits h.begin h.past }
 {}
 
-/// There each edit is proper wherever it is applied: on the tree at its base, on the tree of what a closed vector that
-/// sees it sees below it, and, when it is committed, on the tree of all commits so far.
+/// There each edit is proper wherever it is applied: on the tree at its base, on the tree of what a
+/// closed vector that sees it sees below it, and, when it is committed, on the tree of all commits
+/// so far.
 pub fn merged_edits_stay_proper<L: Law>(law: &L)
     ensures base { (h : History) (r : Revision) (d : Draw)
         → IsMergingRun (L.may_start law.now) (L.may_say law.now) h
@@ -66,8 +68,8 @@ pub fn merged_edits_stay_proper<L: Law>(law: &L)
         → IsProper (tree_by_commits h.begin h.past) d.edit.writes }
 {}
 
-/// Of two commits that clash, the base of one sees the other. So two commits of which neither base sees the other are
-/// independent.
+/// Of two commits that clash, the base of one sees the other. So two commits of which neither base
+/// sees the other are independent.
 pub fn unseen_commits_are_independent<L: Law>(law: &L)
     ensures seen { (h : History) (r o : Revision)
         → IsNodesRun (L.may_start law.now) (L.may_say law.now) h

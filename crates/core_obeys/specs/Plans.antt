@@ -26,11 +26,13 @@ base_tree h s = option_map_or (tree_at h.begin h.past) (base_of h.past s) (begin
 
 -- an edit that may start is a plan on the tree at its session's base, for the tokens that it holds
 abbrev pub StartsPlans : List TypeDef → Tokens → Starts → Type 0
-StartsPlans types tokens starts = (h : History) (s : ℕ) (edit : Edit) (marks : List MarkAt) → starts h s edit marks → PlanOk types (base_tree h s) (tokens h s) edit.writes marks
+StartsPlans types tokens starts = (h : History) (s : ℕ) (edit : Edit) (marks : List MarkAt)
+    → starts h s edit marks → PlanOk types (base_tree h s) (tokens h s) edit.writes marks
 
 -- a run of one to eight cluster nodes, by a law that lets only plans start, from whatever it begins
 -- with, whose tree meets the rules of these types
-pub record IsObeyingRun (types : List TypeDef) (tokens : Tokens) (starts : Starts) (says : Says) (h : History) : Type 0 where
+pub record IsObeyingRun (types : List TypeDef) (tokens : Tokens) (starts : Starts) (says : Says)
+    (h : History) : Type 0 where
   pub nodes : AreNodes h.clusters h.sessions
   pub run : IsRun starts says h
   pub plans : StartsPlans types tokens starts

@@ -23,7 +23,8 @@ use Rattle.core_merge.specs.Orders.{tree_by_commits}
 
 -- no two nodes have the same `jcr:uuid`
 abbrev pub HasDistinctIds : Nodes → Type 0
-HasDistinctIds t = (p q : Path) (id : List ℕ) → one_text (property_at t p uuid) ≡ Some id → one_text (property_at t q uuid) ≡ Some id → p ≡ q
+HasDistinctIds t = (p q : Path) (id : List ℕ) → one_text (property_at t p uuid) ≡ Some id
+    → one_text (property_at t q uuid) ≡ Some id → p ≡ q
 
 -- a mark is one of a node as a whole: of its existence, or a guard
 abbrev pub is_of_node : Mark → Bool
@@ -35,11 +36,15 @@ is_of_node _ = false
 abbrev pub is_node_marked : Path → List MarkAt → Bool
 is_node_marked p ms = list_any (λ m. eq_by_cmp path_cmp p m.path && is_of_node m.mark) ms
 
--- an edit on the tree at its base: identifiers stand once there, and change under a mark of their node; no node that stays ceases to be an `nt:frozenNode`
+-- an edit on the tree at its base: identifiers stand once there, and change under a mark of their
+-- node; no node that stays ceases to be an `nt:frozenNode`
 pub record IsTidyEdit (t : Nodes) (d : Draw) : Type 0 where
   pub distinct : HasDistinctIds t
-  pub marked : (p : Path) → IsTrue (writes_property p uuid d.edit.writes) → IsTrue (is_node_marked p d.marks)
-  pub frozen : (p : Path) → IsTrue (stays t (applied None t d.edit.writes) p) → IsTrue (is_of_type t frozen_type p) → IsTrue (is_of_type (applied None t d.edit.writes) frozen_type p)
+  pub marked : (p : Path) → IsTrue (writes_property p uuid d.edit.writes)
+      → IsTrue (is_node_marked p d.marks)
+  pub frozen : (p : Path) → IsTrue (stays t (applied None t d.edit.writes) p)
+      → IsTrue (is_of_type t frozen_type p)
+      → IsTrue (is_of_type (applied None t d.edit.writes) frozen_type p)
 
 -- in the tree of a start each reference names a node; what there is before any commit has none
 abbrev pub BeginsTidy : Begin → Type 0

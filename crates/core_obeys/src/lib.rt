@@ -1,6 +1,7 @@
-//! Each commit obeys: in each run by a law that lets only plans start, the tree of all commits, in the order in which they were made,
-//! meets the rules of node types; no commit changes what is locked against its session or covered by a checked-in node; and references
-//! hold. Each edit is checked on the tree of its own base alone.
+//! Each commit obeys: in each run by a law that lets only plans start, the tree of all commits, in
+//! the order in which they were made, meets the rules of node types; no commit changes what is
+//! locked against its session or covered by a checked-in node; and references hold. Each edit is
+//! checked on the tree of its own base alone.
 #![tactic(auto)]
 
 ghost use Rattle.std.specs.Prelude.{◌≡◌, ℕ, List, Some};
@@ -32,8 +33,9 @@ pub use product::{
     the_product_obeys, the_product_obeys_throughout, what_clashes_with_nothing_is_not_refused,
 };
 
-/// After each commit the tree of all commits meets the rules of node types, at each node and item (JSR 283, 3.7 Node Types). So
-/// does what a closed vector sees, and with it what a session sees at its base.
+/// After each commit the tree of all commits meets the rules of node types, at each node and item
+/// (JSR 283, 3.7 Node Types). So does what a closed vector sees, and with it what a session sees at
+/// its base.
 pub fn commits_obey_types<L: Law>(law: &L)
     ensures order { (types : List TypeDef) (tokens : Tokens) (h : History)
         → IsObeyingRun types tokens (L.may_start law.now) (L.may_say law.now) h
@@ -46,8 +48,9 @@ pub fn commits_obey_types<L: Law>(law: &L)
         → base_of h.past s ≡ Some v → TypesOk types (tree_at h.begin h.past v) }
 {}
 
-/// When a commit is made, no node that it changes is locked against the tokens that its session held when it was drawn, and none is
-/// covered by a checked-in node, in the tree of all commits before it (JSR 283, 17 Locking and 15 Versioning).
+/// When a commit is made, no node that it changes is locked against the tokens that its session
+/// held when it was drawn, and none is covered by a checked-in node, in the tree of all commits
+/// before it (JSR 283, 17 Locking and 15 Versioning).
 pub fn commits_find_their_nodes_free<L: Law>(law: &L)
     ensures { (types : List TypeDef) (tokens : Tokens) (h : History) (r : Revision) (d : Draw)
         → IsObeyingRun types tokens (L.may_start law.now) (L.may_say law.now) h
@@ -56,15 +59,19 @@ pub fn commits_find_their_nodes_free<L: Law>(law: &L)
         d.edit.writes }
 {}
 
-/// After each commit of a run that keeps identifiers apart, each reference of the tree of all commits
-/// names a node, where each of what the run begins with does (JSR 283, 3.8 Referential Integrity).
+/// After each commit of a run that keeps identifiers apart, each reference of the tree of all
+/// commits names a node, where each of what the run begins with does (JSR 283, 3.8 Referential
+/// Integrity).
 pub fn commits_keep_references<L: Law>(law: &L)
     ensures { (types : List TypeDef) (tokens : Tokens) (h : History)
         → IsObeyingRun types tokens (L.may_start law.now) (L.may_say law.now) h
         → IsTidy h.begin h.past → ReferencesOk (tree_by_commits h.begin h.past) }
 {}
 
-/// A plan marks the parent of each node that it adds or removes. So a law that lets only plans start merges trees.
+/// A plan marks the parent of each node that it adds or removes. So a law that lets only plans
+/// start merges trees.
 pub fn plans_mark_parents()
-    ensures { (types : List TypeDef) (tokens : List (List ℕ)) (t : Nodes) (edit : Edit) (marks : List MarkAt) → PlanOk types t tokens edit.writes marks → MarkParents marks edit.writes }
+    ensures { (types : List TypeDef) (tokens : List (List ℕ)) (t : Nodes) (edit : Edit)
+        (marks : List MarkAt) → PlanOk types t tokens edit.writes marks
+        → MarkParents marks edit.writes }
 {}

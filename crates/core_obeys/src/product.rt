@@ -30,12 +30,12 @@ ghost use Rattle.core_obeys.specs.Product.{IsProductRun, tokens_by};
 ghost use Rattle.core_obeys.specs.Tidy.{IsTidy};
 
 /// In each run by the law of the product, from whatever it begins with, the tree of all commits, in
-/// the order in which they were made, is a tree and meets the rules of node types (JSR 283, 3.7 Node
-/// Types), where what it begins with meets them, and so does what a session sees at its base, which
-/// is a tree whether or not what it begins with meets them; no commit changes what is locked against
-/// the tokens that its session held when it was drawn, or what a checked-in node covers (17 Locking,
-/// 15 Versioning); and where identifiers stand once, and each REFERENCE of what it begins with names
-/// a node, each REFERENCE names a node (3.8 Referential Integrity).
+/// the order in which they were made, is a tree and meets the rules of node types (JSR 283, 3.7
+/// Node Types), where what it begins with meets them, and so does what a session sees at its base,
+/// which is a tree whether or not what it begins with meets them; no commit changes what is locked
+/// against the tokens that its session held when it was drawn, or what a checked-in node covers (17
+/// Locking, 15 Versioning); and where identifiers stand once, and each REFERENCE of what it begins
+/// with names a node, each REFERENCE names a node (3.8 Referential Integrity).
 pub fn the_product_obeys()
     ensures trees { (law : JcrLaw) (h : History) → IsProductRun law h
         → IsTree (tree_by_commits h.begin h.past) }
@@ -56,16 +56,17 @@ pub fn the_product_obeys()
         → ReferencesOk (tree_by_commits h.begin h.past) }
 {}
 
-/// In each run by the law of the product all this holds at each time, as each run was a run at each time before.
+/// In each run by the law of the product all this holds at each time, as each run was a run at each
+/// time before.
 pub fn the_product_obeys_throughout()
     ensures { (law : JcrLaw) (h : History) → IsProductRun law h → ObeysThroughout law h }
 {
     the_product_obeys();
 }
 
-/// Where a commit of a run clashes with no other draw outside its base, it isn't refused, and the next reply of its session is
-/// no 10 (JSR 283, 10.11 Saving). The machine by itself lets a refusal name the commit that it refuses; in a run in which each
-/// names another that isn't so.
+/// Where a commit of a run clashes with no other draw outside its base, it isn't refused, and the
+/// next reply of its session is no 10 (JSR 283, 10.11 Saving). The machine by itself lets a refusal
+/// name the commit that it refuses; in a run in which each names another that isn't so.
 pub fn what_clashes_with_nothing_is_not_refused()
     ensures refusal { (law : JcrLaw) (h : History) (r : Revision)
         → IsNodesRun (starts_of law) (says_of law) h → NameOthers h.past → IsUnclashing h.past r
