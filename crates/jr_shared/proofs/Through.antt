@@ -155,7 +155,7 @@ module _ {L : Type 0} (law : Ghosts L) (old new : Known L) (s : ℕ) (made : Wor
     over_is r d none =
         let left_got : left_in got s ≡ 0 =
         subst (λ (v : Work). left_of s got.table (memory_of (state_of got) s) v ≡ 0) (ap (λ (a : ActorState). a.work) actor_got)
-        (none_left s (state_by old).table got.table (memory_of (state_by old) s) (memory_of (state_of got) s) (actor_by old s).work none) in
+        (none_left s (state_by old) (state_of got) (actor_by old s).work none) in
         ap (λ (a : ActorState). shown_work a.work) actor_got ∙ ap shown_work (d.over left_got)
 
     module _ (told : IsTold old) (framed : is_some old.frame ≡ true) (name : GName) where
