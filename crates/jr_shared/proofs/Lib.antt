@@ -5,5 +5,6 @@ pub mod Calm
 pub mod Acts
 pub mod Got
 pub mod Holding
+pub mod Over
 pub mod Through
 pub mod Handing

@@ -26,7 +26,6 @@ use Rattle.oak_world.specs.Seen.{shown_at, shown_work}
 use Rattle.oak_step.specs.Works.{Begins, kind_due}
 use Rattle.oak_world.specs.Worlds.{ActorState, WorldOf, actor_in, idle, live, said_in, state_of, with_reply, with_work, work_in}
 use Rattle.oak_world.proofs.Keeping.{begins_shown}
-use Rattle.oak_world.proofs.Left.{over}
 use Rattle.oak_world.proofs.Porting.{busy_shown, reserve_left}
 use Rattle.oak_world.proofs.States.{actor_set}
 use Rattle.seat_lock.specs.declared.rule.Round.TheVariants as round
@@ -38,6 +37,7 @@ use Rattle.jr_shared.proofs.Acts.{step_grows}
 use Rattle.jr_shared.proofs.Got
 use Rattle.jr_shared.proofs.Got.{blank, some_within, the_is}
 use Rattle.jr_shared.proofs.Lists.{found_part, found_retold}
+use Rattle.jr_shared.proofs.Over.{none_left}
 use Rattle.jr_shared.proofs.Shapes.{none_between, shaped}
 
 -- lists that end alike begin alike
@@ -50,10 +50,6 @@ cancel (x ∷ xs) (y ∷ ys) zs h =
     let rest : xs ++ zs ≡ ys ++ zs = cc in
     let same = cancel xs ys zs rest in
     λ i. first i ∷ same i
-
--- where no step is left nothing is being done
-pub over_by : {L : Type 0} (v : Known L) (s : ℕ) → left_by v s ≡ 0 → shown_work (actor_by v s).work ≡ Idle
-over_by v s none = ap shown_work (over s (state_by v).table (memory_of (state_by v) s) (actor_by v s).work none)
 
 module _ {L : Type 0} (law : Ghosts L) (old new : Known L) (s : ℕ) (made : WorldOf L → WorldOf L → Type 0) (h : OneHold law old new s made) where
   abbrev got : WorldOf L
@@ -153,6 +149,14 @@ module _ {L : Type 0} (law : Ghosts L) (old new : Known L) (s : ℕ) (made : Wor
 
     pub busy_is : (r : Option StepKind) → DueIs got s r left → (is_some r ≡ true) ↔ (shown_work (actor_by old s).work ≢ Idle)
     busy_is r d = subst (λ (v : Work). (is_some r ≡ true) ↔ (shown_work v ≢ Idle)) (sym (ap (λ (a : ActorState). a.work) actor_got)) (busy_shown r (work_in got.actors s) d.busy)
+
+    -- where no step is left nothing is being done
+    pub over_is : (r : Option StepKind) → DueIs got s r left → left_by old s ≡ 0 → shown_work (actor_by old s).work ≡ Idle
+    over_is r d none =
+        let left_got : left_in got s ≡ 0 =
+        subst (λ (v : Work). left_of s got.table (memory_of (state_of got) s) v ≡ 0) (ap (λ (a : ActorState). a.work) actor_got)
+        (none_left s (state_by old) (state_of got) (actor_by old s).work none) in
+        ap (λ (a : ActorState). shown_work a.work) actor_got ∙ ap shown_work (d.over left_got)
 
     module _ (told : IsTold old) (framed : is_some old.frame ≡ true) (name : GName) where
       others : AreOthers s more (reverse old.seen)

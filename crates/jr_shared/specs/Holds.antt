@@ -130,11 +130,13 @@ module _ {L : Type 0} where
     pub told : (name : GName) → Steps (law.may_start w.law) (law.may_say w.law) (shown_at name w s) (shown_at name u s) o
     pub lowers : IsWait o ⊎ (left_in u s < left_in w s)
 
-  -- it is asked, and nothing changes: for the kind of the next step, or for the session's pin
+  -- the kind of the session's next step was told, and the world is as it was; where no step is left,
+  -- the session does nothing
   pub record DueIs (w : WorldOf L) (s : ℕ) (r : Option StepKind) (u : WorldOf L) : Type 0 where
     pub same : u ≡ w
     pub due : r ≡ kind_due (work_in w.actors s)
     pub busy : IsSome r ↔ (work_in w.actors s ≢ work.Rest)
+    pub over : left_in w s ≡ 0 → work_in w.actors s ≡ work.Rest
 
   -- the pin at which the session reads was told, and the world is as it was
   pub record PinIs (w : WorldOf L) (s : ℕ) (r : Option Pin) (u : WorldOf L) : Type 0 where

@@ -1,7 +1,7 @@
 use Rattle.std.proofs.Common.{sym, ◌∙◌}
 use Rattle.atomic_table.specs.Seated.{TableId}
 use Rattle.seat_lock.specs.Passes.{view_of}
-use Rattle.jr_shared.proofs.Through.{busy_is, due_is, framed_new, has_new, left_same, law_stays, others_new, over_by, rest_new, stays_so, told_new, weight_new}
+use Rattle.jr_shared.proofs.Through.{busy_is, due_is, framed_new, has_new, left_same, law_stays, others_new, over_is, rest_new, stays_so, told_new, weight_new}
 use Rattle.jr_shared.proofs.port.SharedPortPort.due.Goals as goal
 
 pub invariant_of-self : goal.invariant_of-self
@@ -32,4 +32,4 @@ pub returns-clause-left : goal.returns-clause-left
 returns-clause-left g c = left_same g.L.Law (view_of c.args.self.now.pass.now) (view_of c.due.new.pass) c.args.self.now.actor _ c.due.ensures.hold c.args.self.now.seat c.args.self.now.told c.args.self.now.framed c.args.self.now.pass.ghost_name c.due.ensures.hold.made_is.same
 
 pub returns-clause-over : goal.returns-clause-over
-returns-clause-over g c = over_by (view_of c.args.self.now.pass.now) c.args.self.now.actor
+returns-clause-over g c = over_is g.L.Law (view_of c.args.self.now.pass.now) (view_of c.due.new.pass) c.args.self.now.actor _ c.due.ensures.hold c.args.self.now.seat c.due.result c.due.ensures.hold.made_is

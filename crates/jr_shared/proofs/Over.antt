@@ -1,0 +1,40 @@
+-- Where no step is left of what a session does, none is left at other documents and memories.
+use Rattle.std.proofs.Common.{◌≡◌, ℕ, Option, Some, None, refl, arith}
+use Rattle.oak_commit.specs.Committing.{Committing}
+use Rattle.oak_commit.specs.declared.outcome.CommitEnd.{CommitEnd}
+use Rattle.core_world.specs.States.{State, memory_of}
+use Rattle.oak_step.specs.declared.upkeep.Upkeep.{Upkeep}
+use Rattle.oak_step.specs.declared.upkeep.Upkeep.TheVariants as upkeep
+use Rattle.oak_step.specs.declared.work.Work.{Work}
+use Rattle.oak_step.specs.declared.work.Work.TheVariants as work
+use Rattle.oak_world.specs.Left.{commit_left, left_of, upkeep_left}
+
+-- a commit always has a step left
+going : (w : State) (c : Committing) (o : Option CommitEnd) → commit_left w.table c o ≡ 0 → ⊥
+going w c None h = omega (arith, h)
+going w c (Some e) h = omega (arith, h)
+
+-- where a session has no step left at one state, none is left at another
+pub none_left : (s : ℕ) (w u : State) (v : Work) → left_of s w.table (memory_of w s) v ≡ 0 → left_of s u.table (memory_of u s) v ≡ 0
+none_left s w u work.Rest h = refl
+none_left s w u work.Login h = absurd (omega (arith, h))
+none_left s w u work.End h = absurd (omega (arith, h))
+none_left s w u work.Refresh h = absurd (omega (arith, h))
+none_left s w u (work.Read r) h = absurd (omega (arith, h))
+none_left s w u (work.Changes r) h = absurd (omega (arith, h))
+none_left s w u (work.Plan edit marks) h = absurd (omega (arith, h))
+none_left s w u (work.Commit c) h = absurd (going w c c.outcome h)
+none_left s w u (work.Move r) h = absurd (omega (arith, h))
+none_left s w u (work.Upkeep k) h = by k h
+  where
+    by : (k : Upkeep) → upkeep_left (memory_of w s) k ≡ 0 → upkeep_left (memory_of u s) k ≡ 0
+    by upkeep.Write h = absurd (omega (arith, h))
+    by (upkeep.Noted p) h = h
+    by (upkeep.Publish b) h = h
+    by (upkeep.Read b) h = h
+    by (upkeep.Checkpoint i) h = h
+    by (upkeep.Release i) h = h
+    by (upkeep.Attach i) h = h
+    by upkeep.Detach h = h
+    by (upkeep.Detaching pin) h = h
+    by upkeep.Observe h = h
