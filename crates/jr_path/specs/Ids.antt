@@ -51,7 +51,7 @@ abbrev pub node_path : DocId → Option Path
 node_path (Node p) = Some p
 node_path _ = None
 
--- a previous document's number; of any other document 0
+-- a previous document's number, and 0 of each other document
 abbrev pub number_of : DocId → ℕ
 number_of (Prev n p) = n
 number_of _ = 0
