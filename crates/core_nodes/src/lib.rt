@@ -45,66 +45,75 @@ pub fn memories_follow_the_journal<L: Law>(law: &L)
     ensures next { (begin : Begin) (clusters : ℕ) (past : Past) (k : ℕ) (s : NodeState)
         → IsMemoryOf begin clusters past k s
         → next_draw s ≡ Rattle.oak_machine.specs.Heads.next_draw clusters begin past k }
-    ensures drawn { (begin : Begin) (clusters : ℕ) (sessions : List ℕ) (past : Past) (d : Draw)
+    ensures drawn { let runs = IsRunOf (L.may_start law.now) (L.may_say law.now) in
+        (begin : Begin) (clusters : ℕ) (sessions : List ℕ) (past : Past) (d : Draw)
         (s : NodeState) → AreNodes clusters sessions
-        → IsRunOf (L.may_start law.now) (L.may_say law.now) clusters sessions begin
+        → runs clusters sessions begin
         (event.Draw d ∷ past) → IsMemoryOf begin clusters past d.revision.cluster s
         → IsMemoryOf begin clusters (event.Draw d ∷ past) d.revision.cluster
         (with_draw s (next_draw s)) }
-    ensures flies { (begin : Begin) (clusters : ℕ) (sessions : List ℕ) (past : Past) (r : Revision)
+    ensures flies { let runs = IsRunOf (L.may_start law.now) (L.may_say law.now) in
+        (begin : Begin) (clusters : ℕ) (sessions : List ℕ) (past : Past) (r : Revision)
         (s : NodeState) → AreNodes clusters sessions
-        → IsRunOf (L.may_start law.now) (L.may_say law.now) clusters sessions begin
+        → runs clusters sessions begin
         (event.End r ∷ past) → IsMemoryOf begin clusters past r.cluster s → IsInFlight s r }
-    ensures ended { (begin : Begin) (clusters : ℕ) (sessions : List ℕ) (past : Past) (r : Revision)
+    ensures ended { let runs = IsRunOf (L.may_start law.now) (L.may_say law.now) in
+        (begin : Begin) (clusters : ℕ) (sessions : List ℕ) (past : Past) (r : Revision)
         (s : NodeState) → AreNodes clusters sessions
-        → IsRunOf (L.may_start law.now) (L.may_say law.now) clusters sessions begin
+        → runs clusters sessions begin
         (event.End r ∷ past) → IsMemoryOf begin clusters past r.cluster s
         → IsMemoryOf begin clusters (event.End r ∷ past) r.cluster (finished s r) }
-    ensures moved { (begin : Begin) (clusters : ℕ) (sessions : List ℕ) (past : Past) (r : Revision)
+    ensures moved { let runs = IsRunOf (L.may_start law.now) (L.may_say law.now) in
+        (begin : Begin) (clusters : ℕ) (sessions : List ℕ) (past : Past) (r : Revision)
         (s : NodeState) → AreNodes clusters sessions
-        → IsRunOf (L.may_start law.now) (L.may_say law.now) clusters sessions begin
+        → runs clusters sessions begin
         (event.End r ∷ past) → IsMemoryOf begin clusters past r.cluster s
         → IsTrue (is_before (own_entry s) (own_entry (finished s r)))
         ↔ (head_of clusters begin past r.cluster
         ≢ head_of clusters begin (event.End r ∷ past) r.cluster) }
-    ensures told { (begin : Begin) (clusters : ℕ) (sessions : List ℕ) (past : Past) (k : ℕ)
-        (s : NodeState) → IsRunOf (L.may_start law.now)
-        (L.may_say law.now) clusters sessions begin past → IsFalse (is_stopped past k)
+    ensures told { let runs = IsRunOf (L.may_start law.now) (L.may_say law.now) in
+        (begin : Begin) (clusters : ℕ) (sessions : List ℕ) (past : Past) (k : ℕ)
+        (s : NodeState) → runs clusters sessions begin past → IsFalse (is_stopped past k)
         → IsMemoryOf begin clusters past k s
-        → IsRunOf (L.may_start law.now) (L.may_say law.now) clusters sessions begin
+        → runs clusters sessions begin
         (event.Head k s.head ∷ past) }
-    ensures learned { (begin : Begin) (clusters : ℕ) (sessions : List ℕ) (past : Past) (k n : ℕ)
+    ensures learned { let runs = IsRunOf (L.may_start law.now) (L.may_say law.now) in
+        (begin : Begin) (clusters : ℕ) (sessions : List ℕ) (past : Past) (k n : ℕ)
         (s : NodeState) (last sweep : RevVec) → AreNodes clusters sessions
-        → IsRunOf (L.may_start law.now) (L.may_say law.now) clusters sessions begin past
+        → runs clusters sessions begin past
         → IsNode clusters k → IsFalse (is_stopped past k) → IsMemoryOf begin clusters past k s
         → IsOnRoot begin clusters (drop n past) last sweep
-        → IsRunOf (L.may_start law.now) (L.may_say law.now) clusters sessions begin
+        → runs clusters sessions begin
         (event.In k (learned s last sweep).head ∷ past)
         × IsMemoryOf begin clusters (event.In k (learned s last sweep).head ∷ past) k
         (learned s last sweep) }
-    ensures apart { (begin : Begin) (clusters : ℕ) (sessions : List ℕ) (past : Past) (e : Event)
+    ensures apart { let runs = IsRunOf (L.may_start law.now) (L.may_say law.now) in
+        (begin : Begin) (clusters : ℕ) (sessions : List ℕ) (past : Past) (e : Event)
         (k : ℕ) (s : NodeState) → AreNodes clusters sessions
-        → IsRunOf (L.may_start law.now) (L.may_say law.now) clusters sessions begin (e ∷ past)
+        → runs clusters sessions begin (e ∷ past)
         → IsTrue (leaves_memory k e) → IsMemoryOf begin clusters past k s
         → IsMemoryOf begin clusters (e ∷ past) k s }
     ensures stopped { (begin : Begin) (clusters : ℕ) (past : Past) (k : ℕ) (s : NodeState)
         → IsMemoryOf begin clusters past k s
         → IsMemoryOf begin clusters (event.Stop k ∷ past) k (with_stop s) }
-    ensures in_flight { (begin : Begin) (clusters : ℕ) (sessions : List ℕ) (past : Past) (k : ℕ)
+    ensures in_flight { let runs = IsRunOf (L.may_start law.now) (L.may_say law.now) in
+        (begin : Begin) (clusters : ℕ) (sessions : List ℕ) (past : Past) (k : ℕ)
         (s : NodeState) → AreNodes clusters sessions
-        → IsRunOf (L.may_start law.now) (L.may_say law.now) clusters sessions begin past
+        → runs clusters sessions begin past
         → IsNode clusters k → IsMemoryOf begin clusters past k s
         → flying_in s.above ≡ reverse (flying past k) }
-    ensures recovered { (begin : Begin) (clusters : ℕ) (sessions : List ℕ) (past : Past) (k : ℕ)
+    ensures recovered { let runs = IsRunOf (L.may_start law.now) (L.may_say law.now) in
+        (begin : Begin) (clusters : ℕ) (sessions : List ℕ) (past : Past) (k : ℕ)
         (s : NodeState) → AreNodes clusters sessions
-        → IsRunOf (L.may_start law.now) (L.may_say law.now) clusters sessions begin past
+        → runs clusters sessions begin past
         → IsNode clusters k → IsTrue (is_stopped past k) → IsMemoryOf begin clusters past k s
-        → IsRunOf (L.may_start law.now) (L.may_say law.now) clusters sessions begin
+        → runs clusters sessions begin
         (after_recovery past k) × IsMemoryOf begin clusters (after_recovery past k) k
         (with_recovery s) }
-    ensures recovered_apart { (begin : Begin) (clusters : ℕ) (sessions : List ℕ) (past : Past)
+    ensures recovered_apart { let runs = IsRunOf (L.may_start law.now) (L.may_say law.now) in
+        (begin : Begin) (clusters : ℕ) (sessions : List ℕ) (past : Past)
         (m k : ℕ) (s : NodeState) → AreNodes clusters sessions
-        → IsRunOf (L.may_start law.now) (L.may_say law.now) clusters sessions begin
+        → runs clusters sessions begin
         (after_recovery past m) → IsFalse (m == k) → IsMemoryOf begin clusters past k s
         → IsMemoryOf begin clusters (after_recovery past m) k s }
     ensures noted { (begin : Begin) (clusters : ℕ) (past : Past) (k : ℕ) (s : NodeState)
@@ -184,15 +193,17 @@ pub fn pins_follow_the_journal<L: Law>(law: &L)
         (v : RevVec) → slice_get sessions owner ≡ None → ArePinsOf sessions past k s
         → IsCursorAt sessions past k owner v
         → (pin : Pin) × (pin_of s owner ≡ Some pin) × (pin.base ≡ v) }
-    ensures login { (begin : Begin) (clusters : ℕ) (sessions : List ℕ) (past : Past) (k : ℕ)
+    ensures login { let runs = IsRunOf (L.may_start law.now) (L.may_say law.now) in
+        (begin : Begin) (clusters : ℕ) (sessions : List ℕ) (past : Past) (k : ℕ)
         (s : NodeState) (session : ℕ) (v : RevVec) → AreNodes clusters sessions
-        → IsRunOf (L.may_start law.now) (L.may_say law.now) clusters sessions begin
+        → runs clusters sessions begin
         (event.Login session v ∷ past) → slice_get sessions session ≡ Some k
         → IsMemoryOf begin clusters past k s → ArePinsOf sessions past k s
         → ArePinsOf sessions (event.Login session v ∷ past) k (with_pin s session (pin_now s)) }
-    ensures refresh { (begin : Begin) (clusters : ℕ) (sessions : List ℕ) (past : Past) (k : ℕ)
+    ensures refresh { let runs = IsRunOf (L.may_start law.now) (L.may_say law.now) in
+        (begin : Begin) (clusters : ℕ) (sessions : List ℕ) (past : Past) (k : ℕ)
         (s : NodeState) (session : ℕ) (v : RevVec) → AreNodes clusters sessions
-        → IsRunOf (L.may_start law.now) (L.may_say law.now) clusters sessions begin
+        → runs clusters sessions begin
         (event.Refresh session v ∷ past) → slice_get sessions session ≡ Some k
         → IsFalse (has_left past session) → IsMemoryOf begin clusters past k s
         → ArePinsOf sessions past k s
@@ -236,23 +247,27 @@ pub fn pins_follow_the_journal<L: Law>(law: &L)
 /// past says. So is what is awaited: nothing where the head sees the revision, and else the
 /// earliest one of the node in flight.
 pub fn waiting_follows_the_journal<L: Law>(law: &L)
-    ensures above { (begin : Begin) (clusters : ℕ) (sessions : List ℕ) (past : Past) (k : ℕ)
+    ensures above { let runs = IsRunOf (L.may_start law.now) (L.may_say law.now) in
+        (begin : Begin) (clusters : ℕ) (sessions : List ℕ) (past : Past) (k : ℕ)
         (s : NodeState) (r : Revision) (e : Bool) → AreNodes clusters sessions
-        → IsRunOf (L.may_start law.now) (L.may_say law.now) clusters sessions begin past
+        → runs clusters sessions begin past
         → IsNode clusters k → IsMemoryOf begin clusters past k s
         → Contains s.above (record { revision = r; ended = e }) ↔ IsAboveOf begin past k r e }
-    ensures flying { (begin : Begin) (clusters : ℕ) (sessions : List ℕ) (past : Past) (k : ℕ)
+    ensures flying { let runs = IsRunOf (L.may_start law.now) (L.may_say law.now) in
+        (begin : Begin) (clusters : ℕ) (sessions : List ℕ) (past : Past) (k : ℕ)
         (s : NodeState) (r : Revision) → AreNodes clusters sessions
-        → IsRunOf (L.may_start law.now) (L.may_say law.now) clusters sessions begin past
+        → runs clusters sessions begin past
         → IsNode clusters k → IsMemoryOf begin clusters past k s
         → IsInFlight s r ↔ ((r.cluster ≡ k) × IsTrue (is_in_flight past r)) }
-    ensures ended { (begin : Begin) (clusters : ℕ) (sessions : List ℕ) (past : Past) (r : Revision)
+    ensures ended { let runs = IsRunOf (L.may_start law.now) (L.may_say law.now) in
+        (begin : Begin) (clusters : ℕ) (sessions : List ℕ) (past : Past) (r : Revision)
         (s : NodeState) → AreNodes clusters sessions
-        → IsRunOf (L.may_start law.now) (L.may_say law.now) clusters sessions begin past
+        → runs clusters sessions begin past
         → IsMemoryOf begin clusters past r.cluster s → IsTrue (is_ended past r) → HasEnded s r }
-    ensures awaited { (begin : Begin) (clusters : ℕ) (sessions : List ℕ) (past : Past) (k : ℕ)
+    ensures awaited { let runs = IsRunOf (L.may_start law.now) (L.may_say law.now) in
+        (begin : Begin) (clusters : ℕ) (sessions : List ℕ) (past : Past) (k : ℕ)
         (s : NodeState) (r : Revision) (answer : Awaits) → AreNodes clusters sessions
-        → IsRunOf (L.may_start law.now) (L.may_say law.now) clusters sessions begin past
+        → runs clusters sessions begin past
         → IsNode clusters k → IsMemoryOf begin clusters past k s
         → IsAwaited s r answer ↔ IsAwaitedAt begin clusters past k r answer }
 {}
@@ -260,14 +275,16 @@ pub fn waiting_follows_the_journal<L: Law>(law: &L)
 /// No cluster node knows a time that is greater than the greatest at the beginning with the number
 /// of draws so far, nor with that of events.
 pub fn times_are_counted<L: Law>(law: &L)
-    ensures draws { (begin : Begin) (clusters : ℕ) (sessions : List ℕ) (past : Past) (k : ℕ)
+    ensures draws { let runs = IsRunOf (L.may_start law.now) (L.may_say law.now) in
+        (begin : Begin) (clusters : ℕ) (sessions : List ℕ) (past : Past) (k : ℕ)
         (s : NodeState) → AreNodes clusters sessions
-        → IsRunOf (L.may_start law.now) (L.may_say law.now) clusters sessions begin past
+        → runs clusters sessions begin past
         → IsNode clusters k → IsMemoryOf begin clusters past k s
         → known_time s ≤ begin_time begin + draws_made past }
-    ensures events { (begin : Begin) (clusters : ℕ) (sessions : List ℕ) (past : Past) (k : ℕ)
+    ensures events { let runs = IsRunOf (L.may_start law.now) (L.may_say law.now) in
+        (begin : Begin) (clusters : ℕ) (sessions : List ℕ) (past : Past) (k : ℕ)
         (s : NodeState) → AreNodes clusters sessions
-        → IsRunOf (L.may_start law.now) (L.may_say law.now) clusters sessions begin past
+        → runs clusters sessions begin past
         → IsNode clusters k → IsMemoryOf begin clusters past k s
         → known_time s ≤ begin_time begin + length past }
 {}

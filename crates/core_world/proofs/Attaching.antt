@@ -34,7 +34,7 @@ use Rattle.core_clash.proofs.Basics.{same_name}
 use Rattle.core_nodes.specs.Nodes.{IsPair, base_of_pin}
 use Rattle.core_world.specs.Kept.{AreSettingsKept, AreLayersKept, live_base, reader_at, has_written}
 use Rattle.core_world.specs.States.{State, actor_pin, memory_of, node_of, reader_pin, origin}
-use Rattle.core_world.specs.Steps.{after_attach, after_detach, after_unfound, after_update, settings_op}
+use Rattle.core_world.specs.Steps.{after_attach, after_detach, after_unfound, after_update, setting_op}
 use Rattle.core_world.proofs.Backs.{with_table}
 use Rattle.core_world.proofs.Checkpoints.{name_total, nodes_same, previous_same, root_same, settings_there}
 use Rattle.core_world.proofs.Draws.{base_is, its_pair}
@@ -92,13 +92,13 @@ number_test q s = by (s == q) refl
 module _ (sessions : List ℕ) (past : Past) (t : Table) (set : AreSettingsKept sessions past t) (s : ℕ) where
   module _ (i : Text) (v : RevVec) (h : kept_checkpoint past i ≡ Some v) where
     abbrev made : Document
-    made = after_changes (Some set.document) (settings_op (change.Attach s i)) (next_number t)
+    made = after_changes (Some set.document) (setting_op (change.Attach s i)) (next_number t)
 
     module _ (pin : Pin) (e : lookup (is_at (name_cmp i)) set.document.checkpoints ≡ Some pin) where
-      readers_are : (after_changes (Some set.document) (settings_op (change.Attach s i)) (next_number t)).readers ≡ insert_entry nat_cmp set.document.readers s pin
+      readers_are : (after_changes (Some set.document) (setting_op (change.Attach s i)) (next_number t)).readers ≡ insert_entry nat_cmp set.document.readers s pin
       readers_are = ap (λ (o : Option Pin). option_map_or (λ pin. insert_entry nat_cmp set.document.readers s pin) o set.document.readers) e
 
-      found_then : (q : ℕ) → lookup (is_at (nat_cmp q)) (after_changes (Some set.document) (settings_op (change.Attach s i)) (next_number t)).readers ≡ cond (s == q) (Some pin) (lookup (is_at (nat_cmp q)) set.document.readers)
+      found_then : (q : ℕ) → lookup (is_at (nat_cmp q)) (after_changes (Some set.document) (setting_op (change.Attach s i)) (next_number t)).readers ≡ cond (s == q) (Some pin) (lookup (is_at (nat_cmp q)) set.document.readers)
       found_then q =
           ap (λ (es : List (ℕ × Pin)). lookup (is_at (nat_cmp q)) es) readers_are
           ∙ (lookup-insert_entry nat_cmp nat_cmp_total q s pin set.document.readers
@@ -119,9 +119,9 @@ module _ (sessions : List ℕ) (past : Past) (t : Table) (set : AreSettingsKept 
       pair_then q x true k = subst (λ (p : Pin). IsPair p.base p.sweep) (ap (λ o. unwrap_or o pin) k) (set.checkpoint_pairs i pin e)
       pair_then q x false k = set.reader_pairs q x k
 
-      attach_with : AreSettingsKept sessions (event.Attach s i ∷ past) (after_update t (settings_op (change.Attach s i)))
+      attach_with : AreSettingsKept sessions (event.Attach s i ∷ past) (after_update t (setting_op (change.Attach s i)))
       attach_with = record {
-        document = after_changes (Some set.document) (settings_op (change.Attach s i)) (next_number t);
+        document = after_changes (Some set.document) (setting_op (change.Attach s i)) (next_number t);
         there = settings_there t set.document set.there (change.Attach s i);
         ordered = set.ordered;
         numbered = subst (λ (es : List (ℕ × Pin)). is_sorted nat_cmp es ≡ true) (sym readers_are) (sorted_insert nat_cmp nat_cmp_total s pin set.document.readers set.numbered);
@@ -132,10 +132,10 @@ module _ (sessions : List ℕ) (past : Past) (t : Table) (set : AreSettingsKept 
         reader_pairs = λ q x k. pair_then q x (s == q) (sym (found_then q) ∙ k);
       }
 
-    pub attach_set : AreSettingsKept sessions (event.Attach s i ∷ past) (after_update t (settings_op (change.Attach s i)))
+    pub attach_set : AreSettingsKept sessions (event.Attach s i ∷ past) (after_update t (setting_op (change.Attach s i)))
     attach_set = by (lookup (is_at (name_cmp i)) set.document.checkpoints) refl (set.checkpoints i ∙ h)
       where
-        by : (o : Option Pin) → lookup (is_at (name_cmp i)) set.document.checkpoints ≡ o → base_of_pin o ≡ Some v → AreSettingsKept sessions (event.Attach s i ∷ past) (after_update t (settings_op (change.Attach s i)))
+        by : (o : Option Pin) → lookup (is_at (name_cmp i)) set.document.checkpoints ≡ o → base_of_pin o ≡ Some v → AreSettingsKept sessions (event.Attach s i ∷ past) (after_update t (setting_op (change.Attach s i)))
         by None e k = absurd (false≢true (ap is_some k))
         by (Some pin) e k = attach_with pin e
 
@@ -148,12 +148,12 @@ module _ (sessions : List ℕ) (past : Past) (t : Table) (set : AreSettingsKept 
         by None h = refl
         by (Some pin) h = absurd (false≢true (sym (ap is_some h)))
 
-    same_readers : (after_changes (Some set.document) (settings_op (change.Attach s i)) (next_number t)).readers ≡ set.document.readers
+    same_readers : (after_changes (Some set.document) (setting_op (change.Attach s i)) (next_number t)).readers ≡ set.document.readers
     same_readers = ap (λ (o : Option Pin). option_map_or (λ pin. insert_entry nat_cmp set.document.readers s pin) o set.document.readers) none_there
 
-    pub attach_unfound : AreSettingsKept sessions (event.Went s kind.Settings ∷ past) (after_update t (settings_op (change.Attach s i)))
+    pub attach_unfound : AreSettingsKept sessions (event.Went s kind.Settings ∷ past) (after_update t (setting_op (change.Attach s i)))
     attach_unfound = record {
-      document = after_changes (Some set.document) (settings_op (change.Attach s i)) (next_number t);
+      document = after_changes (Some set.document) (setting_op (change.Attach s i)) (next_number t);
       there = settings_there t set.document set.there (change.Attach s i);
       ordered = set.ordered;
       numbered = subst (λ (es : List (ℕ × Pin)). is_sorted nat_cmp es ≡ true) (sym same_readers) set.numbered;
@@ -171,9 +171,9 @@ module _ (sessions : List ℕ) (past : Past) (t : Table) (set : AreSettingsKept 
         by true e = sym (ap (λ (x : Text). lookup (is_at (name_cmp x)) set.document.checkpoints) (same_name q i e) ∙ none_there)
         by false e = refl
 
-    pub release_unfound : AreSettingsKept sessions (event.Went s kind.Settings ∷ past) (after_update t (settings_op (change.Release i)))
+    pub release_unfound : AreSettingsKept sessions (event.Went s kind.Settings ∷ past) (after_update t (setting_op (change.Release i)))
     release_unfound = record {
-      document = after_changes (Some set.document) (settings_op (change.Release i)) (next_number t);
+      document = after_changes (Some set.document) (setting_op (change.Release i)) (next_number t);
       there = settings_there t set.document set.there (change.Release i);
       ordered = sorted_remove name_cmp (is_at (name_cmp i)) set.document.checkpoints set.ordered;
       numbered = set.numbered;
@@ -199,9 +199,9 @@ module _ (sessions : List ℕ) (past : Past) (t : Table) (set : AreSettingsKept 
   pair_left q x true k = absurd (false≢true (ap is_some k))
   pair_left q x false k = set.reader_pairs q x k
 
-  pub detach_set : AreSettingsKept sessions (event.Detach s ∷ past) (after_update t (settings_op (change.Detach s)))
+  pub detach_set : AreSettingsKept sessions (event.Detach s ∷ past) (after_update t (setting_op (change.Detach s)))
   detach_set = record {
-    document = after_changes (Some set.document) (settings_op (change.Detach s)) (next_number t);
+    document = after_changes (Some set.document) (setting_op (change.Detach s)) (next_number t);
     there = settings_there t set.document set.there (change.Detach s);
     ordered = set.ordered;
     numbered = sorted_remove nat_cmp (is_at (nat_cmp s)) set.document.readers set.numbered;
@@ -221,7 +221,7 @@ module _ (starts : Starts) (says : Says) (proper : StartsProper starts) (w : Sta
       let e : Event = event.Attach s i in
       let same = nodes_same w.table kept.settings.document kept.settings.there c in
       let previous = previous_same w.table kept.settings.document kept.settings.there c in
-      let u : Table = after_update w.table (settings_op c) in
+      let u : Table = after_update w.table (setting_op c) in
       let run : IsRunOf starts says w.clusters w.sessions w.begin (e ∷ w.past) = ((subst (λ (o : Option RevVec). IsSome o) (sym there) refl, detached, on), kept.sessions.run) in
       let t = told starts says proper w kept.sessions in
       record {
@@ -249,7 +249,7 @@ module _ (starts : Starts) (says : Says) (proper : StartsProper starts) (w : Sta
       let e : Event = event.Detach s in
       let same = nodes_same w.table kept.settings.document kept.settings.there c in
       let previous = previous_same w.table kept.settings.document kept.settings.there c in
-      let u : Table = after_update w.table (settings_op c) in
+      let u : Table = after_update w.table (setting_op c) in
       record {
         sessions = with_table starts says proper w kept.sessions e (detached, reads) refl (λ k. refl) (λ r. refl) refl refl (λ q. refl) refl (λ j. refl) refl u
             (nodes_commit (origin w) w.past w.table u w.running kept.sessions.committing (told starts says proper w kept.sessions) same previous)
@@ -258,12 +258,12 @@ module _ (starts : Starts) (says : Says) (proper : StartsProper starts) (w : Sta
         settings = detach_set w.sessions w.past w.table kept.settings s;
       }
 
-  unfound : (c : Change) → AreSettingsKept w.sessions (event.Went s kind.Settings ∷ w.past) (after_update w.table (settings_op c)) → AreLayersKept starts says (after_unfound w s c)
+  unfound : (c : Change) → AreSettingsKept w.sessions (event.Went s kind.Settings ∷ w.past) (after_update w.table (setting_op c)) → AreLayersKept starts says (after_unfound w s c)
   unfound c set =
       let e : Event = event.Went s kind.Settings in
       let same = nodes_same w.table kept.settings.document kept.settings.there c in
       let previous = previous_same w.table kept.settings.document kept.settings.there c in
-      let u : Table = after_update w.table (settings_op c) in
+      let u : Table = after_update w.table (setting_op c) in
       record {
         sessions = with_table starts says proper w kept.sessions e (login, stays) refl (λ k. refl) (λ r. refl) refl refl (λ q. refl) refl (λ j. refl) refl u
             (nodes_commit (origin w) w.past w.table u w.running kept.sessions.committing (told starts says proper w kept.sessions) same previous)

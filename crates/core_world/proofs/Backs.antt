@@ -40,7 +40,9 @@ use Rattle.core_nodes.proofs.Memories.{own_is}
 use Rattle.core_nodes.proofs.Pins.{leaves_both}
 use Rattle.core_nodes.specs.Nodes.{IsMemoryOf, IsOnRoot, is_of_node, leaves_memory, moved_pin}
 use Rattle.core_world.specs.States.{State, history_in, memory_of, node_of, nodes_in, origin}
-use Rattle.core_world.specs.Steps.{after_back, after_learn, after_learn_swept, after_out, after_pending, after_sweep, after_update, back_op, sweep_op, with_result}
+use Rattle.core_world.specs.Steps.{after_back, after_learn, after_learn_swept, after_out, after_pending, after_sweep, after_update, with_result}
+use Rattle.oak_sync.specs.Publishing.{back_op}
+use Rattle.oak_sweep.specs.Sweeping.{sweep_op}
 use Rattle.core_world.specs.Kept.{has_written, AreCommitting, AreSessionsKept, AreLayersKept, IsRootKept, WereOnRoot}
 use Rattle.core_world.proofs.Finishing.{quiet_commits}
 use Rattle.core_world.proofs.Flights.{draws_nothing, work_quiet}

@@ -33,7 +33,8 @@ use Rattle.core_read.proofs.Entries.{lookup-remove, sorted_insert, sorted_remove
 use Rattle.core_nodes.specs.Nodes.{IsPair, base_of_pin}
 use Rattle.core_world.specs.Kept.{AreSettingsKept, AreLayersKept, IsRootKept}
 use Rattle.core_world.specs.States.{State, memory_of, nodes_in, origin}
-use Rattle.core_world.specs.Steps.{after_checkpoint, after_release, after_update, settings_op, settings_ops}
+use Rattle.core_world.specs.Steps.{after_checkpoint, after_release, after_update, setting_op}
+use Rattle.oak_checkpoint.specs.Settings.{settings_op}
 use Rattle.core_world.proofs.Backs.{done_at, update_is, with_table}
 use Rattle.core_world.proofs.Draws.{base_is, its_pair}
 use Rattle.core_world.proofs.Lives.{node_alive, session_there, told}
@@ -58,32 +59,32 @@ same_text a b = ap is_eq (name_total.antisymm a b) ∙ turned (name_cmp b a)
 
 module _ (t : Table) (d : Document) (there : documents_in t.documents id.Settings ≡ Some d) (cs : List Change) where
   abbrev made : Document
-  made = after_changes (Some d) (settings_ops cs) (next_number t)
+  made = after_changes (Some d) (settings_op cs) (next_number t)
 
   abbrev now : Table
-  now = with_document t id.Settings (after_changes (Some d) (settings_ops cs) (next_number t)) (next_number t)
+  now = with_document t id.Settings (after_changes (Some d) (settings_op cs) (next_number t)) (next_number t)
 
-  changed_is : after_update t (settings_ops cs) ≡ with_document t id.Settings (after_changes (Some d) (settings_ops cs) (next_number t)) (next_number t)
-  changed_is = update_is t id.Settings (settings_ops cs) refl refl refl ∙ ap (done_at t id.Settings (settings_ops cs)) there
+  changed_is : after_update t (settings_op cs) ≡ with_document t id.Settings (after_changes (Some d) (settings_op cs) (next_number t)) (next_number t)
+  changed_is = update_is t id.Settings (settings_op cs) refl refl refl ∙ ap (done_at t id.Settings (settings_op cs)) there
 
-  pub changed_there : documents_in (after_update t (settings_ops cs)).documents id.Settings ≡ Some (after_changes (Some d) (settings_ops cs) (next_number t))
+  pub changed_there : documents_in (after_update t (settings_op cs)).documents id.Settings ≡ Some (after_changes (Some d) (settings_op cs) (next_number t))
   changed_there = ap (λ (u : Table). documents_in u.documents id.Settings) changed_is ∙ (put_is t id.Settings made (next_number t) id.Settings ∙ ap (λ b. cond b (Some made) (documents_in t.documents id.Settings)) (id_itself id.Settings))
 
-  pub nodes_left : (p : Path) → nodes_in (after_update t (settings_ops cs)) p ≡ nodes_in t p
+  pub nodes_left : (p : Path) → nodes_in (after_update t (settings_op cs)) p ≡ nodes_in t p
   nodes_left p = ap (λ (u : Table). nodes_in u p) changed_is ∙ put_is t id.Settings made (next_number t) (id.Node p)
 
-  pub previous_left : (k : ℕ) (p : Path) → documents_in (after_update t (settings_ops cs)).documents (id.Prev k p) ≡ documents_in t.documents (id.Prev k p)
+  pub previous_left : (k : ℕ) (p : Path) → documents_in (after_update t (settings_op cs)).documents (id.Prev k p) ≡ documents_in t.documents (id.Prev k p)
   previous_left k p = ap (λ (u : Table). documents_in u.documents (id.Prev k p)) changed_is ∙ put_is t id.Settings made (next_number t) (id.Prev k p)
 
 -- and after that for one change
 module _ (t : Table) (d : Document) (there : documents_in t.documents id.Settings ≡ Some d) (c : Change) where
-  pub settings_there : documents_in (after_update t (settings_op c)).documents id.Settings ≡ Some (after_changes (Some d) (settings_op c) (next_number t))
+  pub settings_there : documents_in (after_update t (setting_op c)).documents id.Settings ≡ Some (after_changes (Some d) (setting_op c) (next_number t))
   settings_there = changed_there t d there (c ∷ [])
 
-  pub nodes_same : (p : Path) → nodes_in (after_update t (settings_op c)) p ≡ nodes_in t p
+  pub nodes_same : (p : Path) → nodes_in (after_update t (setting_op c)) p ≡ nodes_in t p
   nodes_same = nodes_left t d there (c ∷ [])
 
-  pub previous_same : (k : ℕ) (p : Path) → documents_in (after_update t (settings_op c)).documents (id.Prev k p) ≡ documents_in t.documents (id.Prev k p)
+  pub previous_same : (k : ℕ) (p : Path) → documents_in (after_update t (setting_op c)).documents (id.Prev k p) ≡ documents_in t.documents (id.Prev k p)
   previous_same = previous_left t d there (c ∷ [])
 
 module _ (sessions : List ℕ) (past : Past) (t : Table) (set : AreSettingsKept sessions past t) where
@@ -103,9 +104,9 @@ module _ (sessions : List ℕ) (past : Past) (t : Table) (set : AreSettingsKept 
     pair_then q x true h = subst (λ (p : Pin). IsPair p.base p.sweep) (ap (λ o. unwrap_or o pin) h) pair
     pair_then q x false h = set.checkpoint_pairs q x h
 
-    pub checkpoint_set : AreSettingsKept sessions (event.Checkpoint i pin.base ∷ past) (after_update t (settings_op (change.Checkpoint i pin)))
+    pub checkpoint_set : AreSettingsKept sessions (event.Checkpoint i pin.base ∷ past) (after_update t (setting_op (change.Checkpoint i pin)))
     checkpoint_set = record {
-      document = after_changes (Some set.document) (settings_op (change.Checkpoint i pin)) (next_number t);
+      document = after_changes (Some set.document) (setting_op (change.Checkpoint i pin)) (next_number t);
       there = settings_there t set.document set.there (change.Checkpoint i pin);
       ordered = sorted_insert name_cmp name_total i pin set.document.checkpoints set.ordered;
       numbered = set.numbered;
@@ -129,9 +130,9 @@ module _ (sessions : List ℕ) (past : Past) (t : Table) (set : AreSettingsKept 
     pair_left q x true h = absurd (false≢true (ap is_some h))
     pair_left q x false h = set.checkpoint_pairs q x h
 
-    pub release_set : AreSettingsKept sessions (event.Release i ∷ past) (after_update t (settings_op (change.Release i)))
+    pub release_set : AreSettingsKept sessions (event.Release i ∷ past) (after_update t (setting_op (change.Release i)))
     release_set = record {
-      document = after_changes (Some set.document) (settings_op (change.Release i)) (next_number t);
+      document = after_changes (Some set.document) (setting_op (change.Release i)) (next_number t);
       there = settings_there t set.document set.there (change.Release i);
       ordered = sorted_remove name_cmp (is_at (name_cmp i)) set.document.checkpoints set.ordered;
       numbered = set.numbered;
@@ -156,7 +157,7 @@ module _ (starts : Starts) (says : Says) (proper : StartsProper starts) (w : Sta
       let e : Event = event.Checkpoint i pin.base in
       let same = nodes_same w.table kept.settings.document kept.settings.there c in
       let previous = previous_same w.table kept.settings.document kept.settings.there c in
-      let u : Table = after_update w.table (settings_op c) in
+      let u : Table = after_update w.table (setting_op c) in
       let base = base_is starts says proper w kept.sessions s (node_alive starts says proper w kept.sessions s (session_there starts says proper w kept.sessions s login) on) login stays detached ∙ ap (λ o. Some (Rattle.std.specs.Option.option_map_or (λ (p : Pin). p.base) o (memory_of w s).head)) has in
       record {
         sessions = with_table starts says proper w kept.sessions e (s, base, detached, on) refl (λ k. refl) (λ r. refl) refl refl (λ q. refl) refl (λ j. refl) refl u
@@ -172,7 +173,7 @@ module _ (starts : Starts) (says : Says) (proper : StartsProper starts) (w : Sta
       let e : Event = event.Release i in
       let same = nodes_same w.table kept.settings.document kept.settings.there c in
       let previous = previous_same w.table kept.settings.document kept.settings.there c in
-      let u : Table = after_update w.table (settings_op c) in
+      let u : Table = after_update w.table (setting_op c) in
       record {
         sessions = with_table starts says proper w kept.sessions e there refl (λ k. refl) (λ r. refl) refl refl (λ q. refl) refl (λ j. refl) refl u
             (nodes_commit (origin w) w.past w.table u w.running kept.sessions.committing (told starts says proper w kept.sessions) same previous)

@@ -31,7 +31,8 @@ use Rattle.core_nodes.specs.Nodes.{IsPair, base_of_pin}
 use Rattle.core_world.specs.Held.{holding_in}
 use Rattle.core_world.specs.Kept.{AreLayersKept, AreSettingsKept, IsKept, IsPinned, reader_at}
 use Rattle.core_world.specs.States.{State, memory_at, origin}
-use Rattle.core_world.specs.Steps.{after_drop_readers, after_update, settings_ops}
+use Rattle.core_world.specs.Steps.{after_drop_readers, after_update}
+use Rattle.oak_checkpoint.specs.Settings.{settings_op}
 use Rattle.core_world.proofs.Attaching.{number_test}
 use Rattle.core_world.proofs.Backs.{with_table}
 use Rattle.core_world.proofs.Checkpoints.{changed_there, nodes_left, previous_left, root_same}
@@ -120,20 +121,20 @@ module _ (starts : Starts) (says : Says) (proper : StartsProper starts) (w : Sta
   cs = map change.Detach ss
 
   abbrev u : Table
-  u = after_update w.table (settings_ops (map change.Detach ss))
+  u = after_update w.table (settings_op (map change.Detach ss))
 
   module _ (kept : AreLayersKept starts says w) where
     abbrev d : Document
     d = kept.settings.document
 
-    made : documents_in (after_update w.table (settings_ops (map change.Detach ss))).documents id.Settings ≡ Some (after_changes (Some kept.settings.document) (settings_ops (map change.Detach ss)) (next_number w.table))
+    made : documents_in (after_update w.table (settings_op (map change.Detach ss))).documents id.Settings ≡ Some (after_changes (Some kept.settings.document) (settings_op (map change.Detach ss)) (next_number w.table))
     made = changed_there w.table kept.settings.document kept.settings.there (map change.Detach ss)
 
-    set : AreSettingsKept w.sessions (event.Went s kind.Recover ∷ w.past) (after_update w.table (settings_ops (map change.Detach ss)))
+    set : AreSettingsKept w.sessions (event.Went s kind.Recover ∷ w.past) (after_update w.table (settings_op (map change.Detach ss)))
     set =
         let is = all_dropped w.sessions w.past ss stopped kept.settings.document (set_of w.sessions w.past w.table kept.settings) in
         record {
-          document = after_changes (Some kept.settings.document) (settings_ops (map change.Detach ss)) (next_number w.table);
+          document = after_changes (Some kept.settings.document) (settings_op (map change.Detach ss)) (next_number w.table);
           there = made;
           ordered = is.ordered;
           numbered = is.numbered;
@@ -149,10 +150,10 @@ module _ (starts : Starts) (says : Says) (proper : StartsProper starts) (w : Sta
         let same = nodes_left w.table kept.settings.document kept.settings.there (map change.Detach ss) in
         let previous = previous_left w.table kept.settings.document kept.settings.there (map change.Detach ss) in
         record {
-          sessions = with_table starts says proper w kept.sessions (event.Went s kind.Recover) (login, stays_in) refl (λ k. refl) (λ r. refl) refl refl (λ q. refl) refl (λ j. refl) refl (after_update w.table (settings_ops (map change.Detach ss)))
-              (nodes_commit (origin w) w.past w.table (after_update w.table (settings_ops (map change.Detach ss))) w.running kept.sessions.committing (told starts says proper w kept.sessions) same previous)
-              (nodes_let (origin w) w.past w.table (after_update w.table (settings_ops (map change.Detach ss))) w.running kept.sessions.committing (told starts says proper w kept.sessions) same previous);
-          root = root_quiet w.clusters w.begin w.past (after_update w.table (settings_ops (map change.Detach ss))) (event.Went s kind.Recover) refl (root_same w.clusters w.begin w.past w.table (after_update w.table (settings_ops (map change.Detach ss))) same kept.root);
+          sessions = with_table starts says proper w kept.sessions (event.Went s kind.Recover) (login, stays_in) refl (λ k. refl) (λ r. refl) refl refl (λ q. refl) refl (λ j. refl) refl (after_update w.table (settings_op (map change.Detach ss)))
+              (nodes_commit (origin w) w.past w.table (after_update w.table (settings_op (map change.Detach ss))) w.running kept.sessions.committing (told starts says proper w kept.sessions) same previous)
+              (nodes_let (origin w) w.past w.table (after_update w.table (settings_op (map change.Detach ss))) w.running kept.sessions.committing (told starts says proper w kept.sessions) same previous);
+          root = root_quiet w.clusters w.begin w.past (after_update w.table (settings_op (map change.Detach ss))) (event.Went s kind.Recover) refl (root_same w.clusters w.begin w.past w.table (after_update w.table (settings_op (map change.Detach ss))) same kept.root);
           settings = set;
         }
 

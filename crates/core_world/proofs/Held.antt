@@ -44,7 +44,7 @@ use Rattle.core_nodes.specs.Nodes.{IsPair, cursor_owner, without_session}
 use Rattle.core_world.specs.Held.{holding_in, is_node_in, kept_in, no_pin}
 use Rattle.core_world.specs.Kept.{AreLayersKept}
 use Rattle.core_world.specs.States.{State, memory_at, memory_of, node_of}
-use Rattle.core_world.specs.Steps.{after_notes, after_update, memories_with, pinned, settings_op, swept_to}
+use Rattle.core_world.specs.Steps.{after_notes, after_update, memories_with, pinned, setting_op, swept_to}
 use Rattle.core_world.proofs.Checkpoints.{settings_there}
 use Rattle.core_world.proofs.Lives.{its_node}
 use Rattle.core_world.proofs.Memories.{at_memory}
@@ -219,10 +219,10 @@ module _ (starts : Starts) (says : Says) (proper : StartsProper starts) (w : Sta
 
   module _ (c : Change) where
     abbrev made : Document
-    made = after_changes (Some kept.settings.document) (settings_op c) (next_number w.table)
+    made = after_changes (Some kept.settings.document) (setting_op c) (next_number w.table)
 
     -- what is kept then is kept by the settings after the change
-    pub set_kept : KeepsOrPins (kept_pairs made) → KeepsOrPins (kept_in (after_update w.table (settings_op c)))
+    pub set_kept : KeepsOrPins (kept_pairs made) → KeepsOrPins (kept_in (after_update w.table (setting_op c)))
     set_kept f x i = f x (subst (λ (o : Option Document). IsIn x (option_map_or kept_pairs o [])) (settings_there w.table kept.settings.document kept.settings.there c) i)
 
   abbrev d : Document
@@ -238,17 +238,17 @@ module _ (starts : Starts) (says : Says) (proper : StartsProper starts) (w : Sta
   reader_in : (x : Pin) → IsIn x (values_of kept.settings.document.readers) → IsIn x (kept_in w.table)
   reader_in x i = kept_now x (in_back x (values_of kept.settings.document.checkpoints) (values_of kept.settings.document.readers) i)
 
-  pub checkpoint_kept : (i : Text) (pin : Pin) (s : ℕ) → is_some (slice_get w.sessions s) ≡ true → pin_of (memory_of w s) s ≡ Some pin → KeepsOrPins (kept_in (after_update w.table (settings_op (change.Checkpoint i pin))))
+  pub checkpoint_kept : (i : Text) (pin : Pin) (s : ℕ) → is_some (slice_get w.sessions s) ≡ true → pin_of (memory_of w s) s ≡ Some pin → KeepsOrPins (kept_in (after_update w.table (setting_op (change.Checkpoint i pin))))
   checkpoint_kept i pin s there has = set_kept (change.Checkpoint i pin) (λ x h. elim (in_whole x (values_of (insert_entry name_cmp kept.settings.document.checkpoints i pin)) (values_of kept.settings.document.readers) h) [ inl j ↦ put x (in_put name_cmp i pin kept.settings.document.checkpoints x j) | inr j ↦ inl (reader_in x j) ])
     where
       put : (x : Pin) → IsIn x (values_of kept.settings.document.checkpoints) ⊎ (x ≡ pin) → IsIn x (kept_in w.table) ⊎ ((k : ℕ) × IsNode w.clusters k × IsIn x (values_of (memory_at w.memories k).pins))
       put x (inl j) = inl (checkpoint_in x j)
       put x (inr e) = inr (node_of w s, its_node starts says proper w kept.sessions s there, subst (λ (y : Pin). IsIn y (values_of (memory_of w s).pins)) (sym e) (found_in (is_at (nat_cmp s)) (memory_of w s).pins pin has))
 
-  pub release_kept : (i : Text) → KeepsOrPins (kept_in (after_update w.table (settings_op (change.Release i))))
+  pub release_kept : (i : Text) → KeepsOrPins (kept_in (after_update w.table (setting_op (change.Release i))))
   release_kept i = set_kept (change.Release i) (λ x h. elim (in_whole x (values_of (remove_entry (is_at (name_cmp i)) kept.settings.document.checkpoints)) (values_of kept.settings.document.readers) h) [ inl j ↦ inl (checkpoint_in x (in_taken (is_at (name_cmp i)) kept.settings.document.checkpoints x j)) | inr j ↦ inl (reader_in x j) ])
 
-  pub attach_kept : (s : ℕ) (i : Text) → KeepsOrPins (kept_in (after_update w.table (settings_op (change.Attach s i))))
+  pub attach_kept : (s : ℕ) (i : Text) → KeepsOrPins (kept_in (after_update w.table (setting_op (change.Attach s i))))
   attach_kept s i = set_kept (change.Attach s i) (λ x h. inl (by x (lookup (is_at (name_cmp i)) kept.settings.document.checkpoints) refl h))
     where
       at_readers : (x : Pin) (pin : Pin) → lookup (is_at (name_cmp i)) kept.settings.document.checkpoints ≡ Some pin → IsIn x (values_of kept.settings.document.readers) ⊎ (x ≡ pin) → IsIn x (kept_in w.table)
@@ -259,7 +259,7 @@ module _ (starts : Starts) (says : Says) (proper : StartsProper starts) (w : Sta
       by x None e h = kept_now x h
       by x (Some pin) e h = elim (in_whole x (values_of kept.settings.document.checkpoints) (values_of (insert_entry nat_cmp kept.settings.document.readers s pin)) h) [ inl j ↦ checkpoint_in x j | inr j ↦ at_readers x pin e (in_put nat_cmp s pin kept.settings.document.readers x j) ]
 
-  pub detach_kept : (s : ℕ) → KeepsOrPins (kept_in (after_update w.table (settings_op (change.Detach s))))
+  pub detach_kept : (s : ℕ) → KeepsOrPins (kept_in (after_update w.table (setting_op (change.Detach s))))
   detach_kept s = set_kept (change.Detach s) (λ x h. elim (in_whole x (values_of kept.settings.document.checkpoints) (values_of (remove_entry (is_at (nat_cmp s)) kept.settings.document.readers)) h) [ inl j ↦ inl (checkpoint_in x j) | inr j ↦ inl (reader_in x (in_taken (is_at (nat_cmp s)) kept.settings.document.readers x j)) ])
 
   -- ---- a step

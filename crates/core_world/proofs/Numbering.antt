@@ -21,7 +21,11 @@ use Rattle.core_clash.specs.Sessions.{Running}
 use Rattle.core_world.specs.Collecting.{after_copied, after_pruned, after_removed, after_split, split_now}
 use Rattle.core_world.specs.Numbers.{last_number, IsNumberStep}
 use Rattle.core_world.specs.States.{State}
-use Rattle.core_world.specs.Steps.{after_back, after_last, after_mark, after_out, after_sweep, after_undoing, after_update, after_write, after_write_in_want, back_op, publish_op, settings_op, settings_ops, sweep_op}
+use Rattle.core_world.specs.Steps.{after_back, after_last, after_mark, after_out, after_sweep, after_undoing, after_update, after_write, after_write_in_want, setting_op}
+use Rattle.oak_sync.specs.Publishing.{back_op}
+use Rattle.oak_recover.specs.Recovering.{publish_op}
+use Rattle.oak_checkpoint.specs.Settings.{settings_op}
+use Rattle.oak_sweep.specs.Sweeping.{sweep_op}
 use Rattle.core_world.proofs.Numbers.{put_step, removed_step, undo_step, update_step}
 use Rattle.core_world.proofs.Tabled.{last_table, mark_table}
 
@@ -47,11 +51,11 @@ module _ (w : State) (low : w.table.number ≤ last_number) where
   pub publish_numbers : (r : Revision) → IsNumberStep w.table (after_update w.table (publish_op r))
   publish_numbers r = update_step w.table (publish_op r) low
 
-  pub drop_numbers : (cs : List Change) → IsNumberStep w.table (after_update w.table (settings_ops cs))
-  drop_numbers cs = update_step w.table (settings_ops cs) low
+  pub drop_numbers : (cs : List Change) → IsNumberStep w.table (after_update w.table (settings_op cs))
+  drop_numbers cs = update_step w.table (settings_op cs) low
 
-  pub settings_numbers : (c : Change) → IsNumberStep w.table (after_update w.table (settings_op c))
-  settings_numbers c = update_step w.table (settings_op c) low
+  pub settings_numbers : (c : Change) → IsNumberStep w.table (after_update w.table (setting_op c))
+  settings_numbers c = update_step w.table (setting_op c) low
 
   pub split_numbers : (s : ℕ) (read : Documents) (pin : Pin) (p : Path) (old : Document) (e : PrevEntry) → IsNumberStep w.table (after_split w s read pin p old e).table
   split_numbers s read pin p old e = put_step w.table (id.Node p) (split_now w read pin old e) low refl

@@ -12,7 +12,8 @@ use Rattle.core_keep.specs.Holding.{IsHoldingStep}
 use Rattle.core_world.specs.Held.{holding_in}
 use Rattle.core_world.specs.Kept.{AreLayersKept, AreSessionsKept, IsKept, IsPinned}
 use Rattle.core_world.specs.States.{State, memory_at, origin}
-use Rattle.core_world.specs.Steps.{after_publish, after_update, publish_op}
+use Rattle.core_world.specs.Steps.{after_publish, after_update}
+use Rattle.oak_recover.specs.Recovering.{publish_op}
 use Rattle.core_world.proofs.Backs.{told_root, with_table, with_vectors}
 use Rattle.core_world.proofs.Held.{holding, memory_still, same_kept}
 use Rattle.core_world.proofs.Letting.{lets_still}

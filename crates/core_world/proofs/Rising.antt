@@ -67,7 +67,9 @@ use Rattle.core_world.proofs.Lives.{told}
 use Rattle.core_world.proofs.Memories.{aside}
 use Rattle.core_world.specs.Kept.{AreLayersKept, WereOnRoot}
 use Rattle.core_world.specs.States.{State, history_in, memory_of, node_of, nodes_in}
-use Rattle.core_world.specs.Steps.{IsThrough, after_attach, after_back, after_checkpoint, after_detach, after_draw, after_finish, after_last, after_learn, after_learn_swept, after_leave, after_login, after_mark, after_notes, after_observe, after_out, after_pending, after_refresh, after_release, after_said, after_sweep, after_undoing, after_unfound, after_want, after_went, after_write, after_write_in_want, back_op, draw_in, lasted_by, marked_by, pinned, sweep_op, swept_to, with_reader, with_result, with_observer}
+use Rattle.core_world.specs.Steps.{IsThrough, after_attach, after_back, after_checkpoint, after_detach, after_draw, after_finish, after_last, after_learn, after_learn_swept, after_leave, after_login, after_mark, after_notes, after_observe, after_out, after_pending, after_refresh, after_release, after_said, after_sweep, after_undoing, after_unfound, after_want, after_went, after_write, after_write_in_want, draw_in, lasted_by, marked_by, pinned, swept_to, with_reader, with_result, with_observer}
+use Rattle.oak_sync.specs.Publishing.{back_op}
+use Rattle.oak_sweep.specs.Sweeping.{sweep_op}
 use Rattle.core_world.proofs.Attaching.{attach_keeps, attach_unfound_keeps, detach_keeps, release_unfound_keeps}
 use Rattle.core_world.proofs.Backs.{back_keeps, learn_keeps, learn_swept_keeps, out_keeps, pending_keeps, sweep_keeps}
 use Rattle.core_world.proofs.Checkpoints.{checkpoint_keeps, release_keeps}

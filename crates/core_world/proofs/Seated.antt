@@ -39,7 +39,7 @@ use Rattle.core_nodes.proofs.Pins.{lookup_beside, lookup_left}
 use Rattle.core_watch.proofs.Moments.{fed_keeps}
 use Rattle.core_world.specs.Kept.{AreLayersKept, IsPinned}
 use Rattle.core_world.specs.States.{State, actor_pin, memory_at, memory_of, node_of, nodes_in, reader_pin, origin}
-use Rattle.core_world.specs.Steps.{after_attach, after_checkpoint, after_detach, after_finish, after_last, after_mark, after_notes, after_release, after_unfound, after_update, lasted_by, marked_by, memories_with, pinned as pinned_now, settings_op, with_reader, with_result, with_observer}
+use Rattle.core_world.specs.Steps.{after_attach, after_checkpoint, after_detach, after_finish, after_last, after_mark, after_notes, after_release, after_unfound, after_update, lasted_by, marked_by, memories_with, pinned as pinned_now, setting_op, with_reader, with_result, with_observer}
 use Rattle.core_world.proofs.Checkpoints.{settings_there}
 use Rattle.core_world.proofs.Committers.{at_others, at_session}
 use Rattle.core_world.proofs.Flights.{same_number}
@@ -184,9 +184,9 @@ module _ (starts : Starts) (says : Says) (proper : StartsProper starts) (w : Sta
 
   -- what they keep for sessions that read stays
   settled_pinned : (c : Change) (past : Past) → ((q : ℕ) (r : Reader) → w.reading q ≡ Some r → is_attached past q ≡ is_attached w.past q)
-      → ((q : ℕ) (r : Reader) → w.reading q ≡ Some r → lookup (is_at (nat_cmp q)) (after_changes (Some kept.settings.document) (settings_op c) (next_number w.table)).readers ≡ lookup (is_at (nat_cmp q)) kept.settings.document.readers)
-      → IsPinned (record w { past = past; table = after_update w.table (settings_op c) })
-  settled_pinned c past attached same = same_pinned (record w { past = past; table = after_update w.table (settings_op c) }) refl refl (λ q r h. alike (record w { past = past; table = after_update w.table (settings_op c) }) q (attached q r h)
+      → ((q : ℕ) (r : Reader) → w.reading q ≡ Some r → lookup (is_at (nat_cmp q)) (after_changes (Some kept.settings.document) (setting_op c) (next_number w.table)).readers ≡ lookup (is_at (nat_cmp q)) kept.settings.document.readers)
+      → IsPinned (record w { past = past; table = after_update w.table (setting_op c) })
+  settled_pinned c past attached same = same_pinned (record w { past = past; table = after_update w.table (setting_op c) }) refl refl (λ q r h. alike (record w { past = past; table = after_update w.table (setting_op c) }) q (attached q r h)
       (ap (λ (o : Option Document). option_and_then (λ d. lookup (is_at (nat_cmp q)) d.readers) o) (settings_there w.table kept.settings.document kept.settings.there c)
       ∙ (same q r h
       ∙ sym (ap (λ (o : Option Document). option_and_then (λ d. lookup (is_at (nat_cmp q)) d.readers) o) kept.settings.there)))

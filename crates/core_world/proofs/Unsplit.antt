@@ -34,7 +34,9 @@ use Rattle.oak_commit.specs.Looking.{whole}
 use Rattle.core_clash.specs.Sessions.{Running}
 use Rattle.core_keep.proofs.Garbage.{same_parts}
 use Rattle.core_world.specs.States.{State, listed_at, moved_in, nodes_in}
-use Rattle.core_world.specs.Steps.{after_last, after_mark, after_undoing, after_update, after_write, after_write_in_want, back_op, lasted_by, marked_by, settings_op, sweep_op, with_result}
+use Rattle.core_world.specs.Steps.{after_last, after_mark, after_undoing, after_update, after_write, after_write_in_want, lasted_by, marked_by, setting_op, with_result}
+use Rattle.oak_sync.specs.Publishing.{back_op}
+use Rattle.oak_sweep.specs.Sweeping.{sweep_op}
 use Rattle.core_world.proofs.Tables.{lists_stay, put_is, put_main, undo_main, undo_none}
 use Rattle.core_world.proofs.Writing.{all_append}
 
@@ -97,13 +99,13 @@ module _ (t : Table) where
       by false false = refl
 
   -- the settings are no node's document
-  pub settings_lists : (c : Change) → listed_at (after_update t (settings_op c)) ≡ listed_at t
+  pub settings_lists : (c : Change) → listed_at (after_update t (setting_op c)) ≡ listed_at t
   settings_lists c = by (is_none (found t id.Settings) && true)
     where
-      made : listed_at (with_document t id.Settings (after_changes (found t id.Settings) (settings_op c) (next_number t)) (next_number t)) ≡ listed_at t
-      made = fun_ext (λ p. ap (λ (o : Option Document). option_map_or (λ d. d.prev) o []) (put_is t id.Settings (after_changes (found t id.Settings) (settings_op c) (next_number t)) (next_number t) (id.Node p)))
+      made : listed_at (with_document t id.Settings (after_changes (found t id.Settings) (setting_op c) (next_number t)) (next_number t)) ≡ listed_at t
+      made = fun_ext (λ p. ap (λ (o : Option Document). option_map_or (λ d. d.prev) o []) (put_is t id.Settings (after_changes (found t id.Settings) (setting_op c) (next_number t)) (next_number t) (id.Node p)))
 
-      by : (a : Bool) → listed_at (with_result t id.Settings (cond a (Err fault.Absent) (Ok (after_changes (found t id.Settings) (settings_op c) (next_number t))))) ≡ listed_at t
+      by : (a : Bool) → listed_at (with_result t id.Settings (cond a (Err fault.Absent) (Ok (after_changes (found t id.Settings) (setting_op c) (next_number t))))) ≡ listed_at t
       by true = refl
       by false = made
 

@@ -4,7 +4,9 @@ use Rattle.core_nodes.specs.Nodes.{cursor_owner, base_of_pin}
 use Rattle.core_world.specs.Kept.{AreLayersKept, IsAboveBounds, WereOnRoot, IsBetweenPins, SeesStarts}
 use Rattle.core_world.specs.Start.{start_state}
 use Rattle.core_world.specs.States.{State, actor_pin, base_in, history_in, memory_of, node_of, reader_pin, memory_at, origin}
-use Rattle.core_world.specs.Steps.{IsThrough, after_attach, after_back, after_checkpoint, after_detach, after_draw, after_finish, after_last, after_learn, after_learn_swept, after_leave, after_login, after_mark, after_observe, after_out, after_pending, after_refresh, after_release, after_said, after_sweep, after_undoing, after_unfound, after_want, after_went, after_write, after_write_in_want, back_op, draw_in, sweep_op, with_reader, with_observer}
+use Rattle.core_world.specs.Steps.{IsThrough, after_attach, after_back, after_checkpoint, after_detach, after_draw, after_finish, after_last, after_learn, after_learn_swept, after_leave, after_login, after_mark, after_observe, after_out, after_pending, after_refresh, after_release, after_said, after_sweep, after_undoing, after_unfound, after_want, after_went, after_write, after_write_in_want, draw_in, with_reader, with_observer}
+use Rattle.oak_sync.specs.Publishing.{back_op}
+use Rattle.oak_sweep.specs.Sweeping.{sweep_op}
 use Rattle.jr_path.specs.Names.{path_cmp}
 use Rattle.jr_path.specs.declared.path.Path.{Path}
 use Rattle.jr_path.specs.Lists.{Text}

@@ -17,6 +17,7 @@ use Rattle.oak_clash.specs.Clashes.{commit_root}
 use Rattle.oak_changes.specs.declared.changes.ChangesReader.{ChangesReader}
 use Rattle.oak_commit.specs.Clashing.{Met, Writer, found, mark_op}
 use Rattle.oak_commit.specs.Writing.{last_op, write_op, written_ids}
+use Rattle.oak_checkpoint.specs.Settings.{settings_op}
 use Rattle.oak_doc.specs.declared.document.Document.{Document}
 use Rattle.oak_doc.specs.declared.update.UpdateOp.{UpdateOp}
 use Rattle.oak_doc.specs.declared.update.OpFault.{OpFault}
@@ -40,6 +41,9 @@ use Rattle.oak_store.specs.Tables.{Table, after_undo, next_number, with_document
 use Rattle.core_clash.specs.Core.{root_of}
 use Rattle.oak_commit.specs.Looking.{whole}
 use Rattle.core_clash.specs.Sessions.{Running}
+use Rattle.oak_recover.specs.Recovering.{publish_op}
+use Rattle.oak_sweep.specs.Sweeping.{sweep_op}
+use Rattle.oak_sync.specs.Publishing.{back_op}
 use Rattle.core_nodes.specs.Nodes.{after_recovery, cursor_owner, is_of_node, without_session}
 use Rattle.oak_node.specs.Stops.{with_recovery, with_stop}
 use Rattle.core_world.specs.States.{State, base_in, memory_at, memory_of, node_of, nodes_in, with_memory, with_session, moved_in}
@@ -268,24 +272,6 @@ IsThrough x = (x.committed ≡ true) ⊎ ((x.writer.undoing ≡ true) × (x.writ
 
 -- ---- background work
 
--- the document of the node at p, where there is one, is told that r is published
-abbrev pub back_op : Path → Revision → UpdateOp
-back_op p r = record {
-  id = id.Node p;
-  create = false;
-  cond = None;
-  changes = change.LastRev r ∷ [];
-}
-
--- the root is told that r is swept
-abbrev pub sweep_op : Revision → UpdateOp
-sweep_op r = record {
-  id = id.Node [];
-  create = false;
-  cond = None;
-  changes = change.SweepRev r ∷ [];
-}
-
 -- a background write of session s takes from memory the notes that its node's head sees
 abbrev pub after_pending : State → ℕ → State
 after_pending w s = record w {
@@ -334,33 +320,29 @@ after_learn_swept w s r = record w {
 
 -- ---- checkpoints
 
--- the settings' update for some changes
-abbrev pub settings_ops : List Change → UpdateOp
-settings_ops cs = record { id = id.Settings; create = false; cond = None; changes = cs }
-
 -- the settings' update for one change
-abbrev pub settings_op : Change → UpdateOp
-settings_op c = settings_ops (c ∷ [])
+abbrev pub setting_op : Change → UpdateOp
+setting_op c = settings_op (c ∷ [])
 
 -- session s makes a checkpoint of that id, at its pin
 abbrev pub after_checkpoint : State → ℕ → Text → Pin → State
 after_checkpoint w s id pin = record w {
   past = event.Checkpoint id pin.base ∷ w.past;
-  table = after_update w.table (settings_op (change.Checkpoint id pin));
+  table = after_update w.table (setting_op (change.Checkpoint id pin));
 }
 
 -- a checkpoint that is kept is released
 abbrev pub after_release : State → Text → State
 after_release w id = record w {
   past = event.Release id ∷ w.past;
-  table = after_update w.table (settings_op (change.Release id));
+  table = after_update w.table (setting_op (change.Release id));
 }
 
 -- session s attaches to a checkpoint that is kept: the settings copy it under the session's number
 abbrev pub after_attach : State → ℕ → Text → State
 after_attach w s id = record w {
   past = event.Attach s id ∷ w.past;
-  table = after_update w.table (settings_op (change.Attach s id));
+  table = after_update w.table (setting_op (change.Attach s id));
 }
 
 -- session s asks the settings to attach to, or to release, a checkpoint that they don't have: no
@@ -368,14 +350,14 @@ after_attach w s id = record w {
 abbrev pub after_unfound : State → ℕ → Change → State
 after_unfound w s c = record w {
   past = event.Went s kind.Settings ∷ w.past;
-  table = after_update w.table (settings_op c);
+  table = after_update w.table (setting_op c);
 }
 
 -- session s, which was pinned at its node's head, is no reader any more
 abbrev pub after_detach : State → ℕ → State
 after_detach w s = record w {
   past = event.Detach s ∷ w.past;
-  table = after_update w.table (settings_op (change.Detach s));
+  table = after_update w.table (setting_op (change.Detach s));
 }
 
 -- ---- stops and recoveries
@@ -408,15 +390,6 @@ after_recover w k = record w {
   memories = with_memory w.memories k (with_recovery (memory_at w.memories k));
 }
 
--- the root is told what is published of cluster node k, and that it is swept
-abbrev pub publish_op : Revision → UpdateOp
-publish_op r = record {
-  id = id.Node [];
-  create = false;
-  cond = None;
-  changes = change.LastRev r ∷ change.SweepRev r ∷ [];
-}
-
 -- what a recovery published for a cluster node is told, and swept up to there
 abbrev pub after_publish : State → ℕ → Revision → State
 after_publish w k r = record w {
@@ -428,7 +401,7 @@ after_publish w k r = record w {
 abbrev pub after_drop_readers : State → ℕ → List ℕ → State
 after_drop_readers w s sessions = record w {
   past = event.Went s kind.Recover ∷ w.past;
-  table = after_update w.table (settings_ops (map change.Detach sessions));
+  table = after_update w.table (settings_op (map change.Detach sessions));
 }
 
 -- ---- a step is one session's

@@ -192,19 +192,19 @@ says_of law = λ h s i text. SaysBy law h s i text
 
 -- what the law lets a session start it lets start after events of other sessions
 pub starts_last : (law : JcrLaw) → StartsLast (starts_of law) (says_of law)
-starts_last law h added s edit marks nodes run later others may =
+starts_last law h added s edit marks beside may =
     starts_grow law h.clusters h.sessions h.begin s h.past (added ++ h.past)
-    (grows_by_others h.clusters h.sessions nodes h.begin (starts_of law) (says_of law) s law added h.past later others) edit marks may
+    (grows_by_others h.clusters h.sessions beside.nodes h.begin (starts_of law) (says_of law) s law added h.past beside.later beside.others) edit marks may
 
 -- what the law lets a session say it lets be said after events of other sessions
 pub says_last : (law : JcrLaw) → SaysLast (starts_of law) (says_of law)
-says_last law h added s i text nodes run later others (m, command, may) =
-    let grows : HasAllOf law h.begin s h.past (added ++ h.past) = grows_by_others h.clusters h.sessions nodes h.begin (starts_of law) (says_of law) s law added h.past later others in
+says_last law h added s i text beside (m, command, may) =
+    let grows : HasAllOf law h.begin s h.past (added ++ h.past) = grows_by_others h.clusters h.sessions beside.nodes h.begin (starts_of law) (says_of law) s law added h.past beside.later beside.others in
     (m, command, said_at law h.clusters h.sessions h.begin s h.past (added ++ h.past) grows m text may)
 
 -- what the law lets a session say after the end of its split or collection it lets be said with
 -- events of other sessions before that end
 pub says_last_behind : (law : JcrLaw) → SaysLastBehind (starts_of law) (says_of law)
-says_last_behind law h added e s i text nodes end run later others (m, command, may) =
-    let grows : HasAllOf law h.begin s h.past (added ++ h.past) = grows_by_others h.clusters h.sessions nodes h.begin (starts_of law) (says_of law) s law added h.past later.1 others in
+says_last_behind law h added e s i text beside end run later (m, command, may) =
+    let grows : HasAllOf law h.begin s h.past (added ++ h.past) = grows_by_others h.clusters h.sessions beside.nodes h.begin (starts_of law) (says_of law) s law added h.past beside.later beside.others in
     (m, command, said_at law h.clusters h.sessions h.begin s (e ∷ h.past) (e ∷ (added ++ h.past)) (grows_under law h.begin s h.past (added ++ h.past) grows e end) m text may)

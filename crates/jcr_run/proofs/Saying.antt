@@ -88,8 +88,12 @@ module _ (law : JcrLaw) (m : Command) (c : Call) where
 
     pub says_waits : (text : Text) → SaysBy law old.history old.session run.index text → SaysBy law new.history new.session run.index text
     says_waits text says = shown_beside law old new beside (λ h s. SaysBy law h s run.index text)
-        (says_last law old.history beside.others old.session run.index text asked.inside.nodes asked.inside.run
-        (subst (λ (h : History). IsRun (starts_of law) (says_of law) h) beside.grows.grown beside.grows.run) beside.grows.theirs says)
+        (says_last law old.history beside.others old.session run.index text (record {
+          nodes = asked.inside.nodes;
+          run = asked.inside.run;
+          later = subst (λ (h : History). IsRun (starts_of law) (says_of law) h) beside.grows.grown beside.grows.run;
+          others = beside.grows.theirs
+        }) says)
 
 -- ---- a reply is said
 

@@ -221,7 +221,8 @@ module _ (law : JcrLaw) (old new : Shown) (beside : IsBeside law old new) where
     -- what the law lets be said it lets still
     pub says_beside : IsRun (starts_of law) (says_of law) old.history → (i : ℕ) (text : Text) → SaysBy law old.history old.session i text → SaysBy law new.history new.session i text
     says_beside run i text says = shown_beside (λ h n. SaysBy law h n i text)
-        (says_last law old.history beside.others old.session i text nodes run later beside.grows.theirs says)
+        (says_last law old.history beside.others old.session i text
+        (record { nodes = nodes; run = run; later = later; others = beside.grows.theirs }) says)
 
     -- a detach whose second step isn't made
     abbrev pub half_beside : (run : SessionRun) (v : RevVec) → new.room ≡ old.room → IsHalfDetached law old run v → IsHalfDetached law new run v

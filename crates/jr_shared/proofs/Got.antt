@@ -9,7 +9,7 @@ use Rattle.jr_path.specs.Lists.{Text}
 use Rattle.oak_machine.specs.declared.law.Law.{Ghosts}
 use Rattle.oak_machine.specs.History.{History, Past}
 use Rattle.oak_machine.specs.Laws.{AreOthers, Asks, after}
-use Rattle.oak_machine.specs.Runs.{AreNodes, IsRunOf}
+use Rattle.oak_machine.specs.Runs.{AreNodes, IsRunOf, OnlyOthersActed}
 use Rattle.oak_machine.specs.Sessions.{base_of, has_left, has_login, is_attached, next_index}
 use Rattle.oak_machine.proofs.Induction.{base_stays}
 use Rattle.core_heads.proofs.Passing.{next_stays}
@@ -138,6 +138,9 @@ module _ {L : Type 0} (law : Ghosts L) (old : Known L) (got : WorldOf L) (g : Is
       pub others : AreOthers s more (reverse old.seen)
       others = are_others got.history.clusters got.history.sessions nodes None (law.may_start got.law) (law.may_say got.law) s more (reverse old.seen) run_got (sym (ap (λ (xs : Past). own_events xs s) past_got) ∙ same_events)
 
+      beside : OnlyOthersActed (law.may_start got.law) (law.may_say got.law) s before more
+      beside = record { nodes = nodes; run = run_old; later = run_got; others = others }
+
       login_same : has_login (more ++ reverse old.seen) s ≡ has_login (reverse old.seen) s
       login_same = login_left s more (reverse old.seen) others
 
@@ -159,7 +162,7 @@ module _ {L : Type 0} (law : Ghosts L) (old : Known L) (got : WorldOf L) (g : Is
 
       begins : (t : Task) → MayBegin (law.may_start got.law) before s t → MayBegin (law.may_start got.law) (after more before) s t
       begins task.Login m = login_same ∙ m
-      begins (task.Commit edit marks) m = (login_same ∙ m.0, left_same ∙ m.1, attached_same ∙ m.2, law.starts_last got.law before more s edit marks nodes run_old run_got others m.3)
+      begins (task.Commit edit marks) m = (login_same ∙ m.0, left_same ∙ m.1, attached_same ∙ m.2, law.starts_last got.law before more s edit marks beside m.3)
       begins (task.Checkpoint i) m = (login_same ∙ m.0, left_same ∙ m.1, attached_same ∙ m.2)
       begins task.Refresh m = (login_same ∙ m.0, left_same ∙ m.1, attached_same ∙ m.2)
       begins (task.Split p) m = absurd m
@@ -185,7 +188,7 @@ module _ {L : Type 0} (law : Ghosts L) (old : Known L) (got : WorldOf L) (g : Is
       -- what may be said by the history seen may be said still
       pub may_say : (i : ℕ) (text : Text) → law.may_say got.law (history_by old) s i text → law.may_say got.law (live got.history) s i text
       may_say i text m = subst (λ (h : History). law.may_say got.law h s i text) after_is
-          (law.says_last got.law before more s i text nodes run_old run_got others (subst (λ (h : History). law.may_say got.law h s i text) before_is m))
+          (law.says_last got.law before more s i text beside (subst (λ (h : History). law.may_say got.law h s i text) before_is m))
 
       pub next_same : next_index got.history.past s ≡ next_index (reverse old.seen) s
       next_same = ap (λ (xs : Past). next_index xs s) past_got ∙ next_stays (more ++ reverse old.seen) more (reverse old.seen) s others

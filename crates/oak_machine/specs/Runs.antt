@@ -189,13 +189,25 @@ pub record Follows (h : History) (e : Event) : Type 0 where
   pub of_node : IsOfNode h.clusters e
   pub may : MayFollow any_start any_said h e
 
+-- these cluster nodes and sessions ran, and since a history only sessions other than s acted
+pub record OnlyOthersActed
+    (starts : Starts) (says : Says) (s : ℕ) (h : History) (added : Past) : Type 0 where
+  pub nodes : AreNodes h.clusters h.sessions
+  pub run : IsRun starts says h
+  pub later : IsRun starts says (after added h)
+  pub others : AreOthers s added h.past
+
 -- what may start may still start, after events of others
 abbrev pub StartsLast : Starts → Says → Type 0
-StartsLast starts says = (h : History) (added : Past) (s : ℕ) (edit : Edit) (marks : List MarkAt) → AreNodes h.clusters h.sessions → IsRun starts says h → IsRun starts says (after added h) → AreOthers s added h.past → starts h s edit marks → starts (after added h) s edit marks
+StartsLast starts says = (h : History) (added : Past) (s : ℕ) (edit : Edit) (marks : List MarkAt)
+    → OnlyOthersActed starts says s h added
+    → starts h s edit marks → starts (after added h) s edit marks
 
 -- what may be said may still be said, after events of others
 abbrev pub SaysLast : Starts → Says → Type 0
-SaysLast starts says = (h : History) (added : Past) (s i : ℕ) (text : Text) → AreNodes h.clusters h.sessions → IsRun starts says h → IsRun starts says (after added h) → AreOthers s added h.past → says h s i text → says (after added h) s i text
+SaysLast starts says = (h : History) (added : Past) (s i : ℕ) (text : Text)
+    → OnlyOthersActed starts says s h added
+    → says h s i text → says (after added h) s i text
 
 -- the event is how a split or a collection of s ended
 abbrev pub is_task_end : ℕ → Event → Bool
@@ -203,6 +215,10 @@ is_task_end s (event.Split t path e) = t == s
 is_task_end s (event.Collected t c) = t == s
 is_task_end s _ = false
 
--- what may be said after the end of a split or collection may still be said with events of others before that end
+-- what may be said after the end of a split or collection may still be said with events of others
+-- before that end
 abbrev pub SaysLastBehind : Starts → Says → Type 0
-SaysLastBehind starts says = (h : History) (added : Past) (e : Event) (s i : ℕ) (text : Text) → AreNodes h.clusters h.sessions → IsTrue (is_task_end s e) → IsRun starts says (after (e ∷ []) h) → IsRun starts says (after (e ∷ added) h) → AreOthers s added h.past → says (after (e ∷ []) h) s i text → says (after (e ∷ added) h) s i text
+SaysLastBehind starts says = (h : History) (added : Past) (e : Event) (s i : ℕ) (text : Text)
+    → OnlyOthersActed starts says s h added → IsTrue (is_task_end s e)
+    → IsRun starts says (after (e ∷ []) h) → IsRun starts says (after (e ∷ added) h)
+    → says (after (e ∷ []) h) s i text → says (after (e ∷ added) h) s i text

@@ -45,11 +45,11 @@ impl Law for IdleLaw {
 
     ghost asks = { λ law s i e. Unit {0} };
 
-    ghost starts_last = { λ law h added s edit marks nodes run later others starts. starts };
+    ghost starts_last = { λ law h added s edit marks others starts. starts };
 
-    ghost says_last = { λ law h added s i text nodes run later others says. says };
+    ghost says_last = { λ law h added s i text others says. says };
 
-    ghost says_last_behind = { λ law h added e s i text nodes end run later others says. says };
+    ghost says_last_behind = { λ law h added e s i text others end run later says. says };
 
     ghost proper = { λ law h s edit marks v base starts. absurd starts };
 

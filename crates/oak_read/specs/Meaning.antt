@@ -83,9 +83,17 @@ module _ (ds : Documents) (t v : RevVec) where
   abbrev pub properties_in : List Document → List (Name × Property)
   properties_in all = fold (λ ps n. option_map_or (insert_entry name_cmp ps n) (option_flatten (value_of (λ d. values_of_property d.props n) all)) ps) [] (flat_map (λ d. keys_of d.props) all)
 
-  -- the node at a path, where its `_deleted` that counts is false; the revision of that entry added it
+  -- the `_deleted` that counts is false
+  abbrev pub is_undeleted : List Document → Bool
+  is_undeleted all = option_map_or not (value_of (λ d. d.deleted) all) false
+
+  -- the properties that have a value, and the revision of the `_deleted` that counts, which added the node
+  abbrev pub node_told : List Document → Node
+  node_told all = record { props = properties_in all; born = added_by all }
+
+  -- the node at a path, where its document and the previous ones say that it is there
   abbrev pub found_node : Path → Option Node
-  found_node p = option_and_then (λ d. let all = documents_at p d in cond (option_map_or not (value_of (λ e. e.deleted) all) false) (Some (record { props = properties_in all; born = added_by all })) None) (ds (id.Node p))
+  found_node p = option_and_then (λ d. let all = documents_at p d in cond (is_undeleted all) (Some (node_told all)) None) (ds (id.Node p))
 
   -- the last name of the path of a node's document, with the revision that added it, where the node is found and is a child of p
   abbrev pub child_found : Path → DocId → Option (Name × Option Revision)

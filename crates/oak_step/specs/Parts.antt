@@ -49,7 +49,7 @@ use Rattle.oak_sync.specs.declared.stage.Stage.{Stage as Syncing}
 use Rattle.oak_sync.specs.declared.stage.Stage.TheVariants as syncing
 use Rattle.oak_store.specs.Tables.{Table, after_undo, found, next_number, with_document}
 use Rattle.core_nodes.specs.Nodes.{cursor_owner, without_session}
-use Rattle.core_world.specs.Steps.{after_update, settings_op}
+use Rattle.core_world.specs.Steps.{after_update, setting_op}
 pub use Rattle.oak_acts.specs.Acts.{after_ask, answered, base_at, result_of}
 use Rattle.oak_step.specs.declared.upkeep.Upkeep.{Upkeep}
 use Rattle.oak_step.specs.declared.upkeep.Upkeep.TheVariants as upkeep
@@ -380,31 +380,31 @@ KeepsUp s k p (upkeep.Publish b) q v o = PublishesOn s k p b q v o
 KeepsUp s k p (upkeep.Read b) q v o = LearnsOn s k p b q v o
 KeepsUp s k p (upkeep.Checkpoint i) q v (answers.Ready (ends.Set None)) =
     (pin : Pin) × (pin_of p.memory s ≡ Some pin)
-    × (q ≡ parts (after_update p.table (settings_op (change.Checkpoint i pin))) p.memory
+    × (q ≡ parts (after_update p.table (setting_op (change.Checkpoint i pin))) p.memory
     (p.list ++ event.Checkpoint i pin.base ∷ []))
     × (v ≡ work.Rest)
 KeepsUp s k p (upkeep.Checkpoint i) q v answers.Memory = Refused p q v
 KeepsUp s k p (upkeep.Checkpoint i) q v _ = ⊥
 KeepsUp s k p (upkeep.Release i) q v (answers.Ready (ends.Set None)) =
     IsTrue (is_some (set_checkpoint p.table i))
-    × (q ≡ parts (after_update p.table (settings_op (change.Release i))) p.memory
+    × (q ≡ parts (after_update p.table (setting_op (change.Release i))) p.memory
     (p.list ++ event.Release i ∷ []))
     × (v ≡ work.Rest)
 KeepsUp s k p (upkeep.Release i) q v (answers.Ready ends.NoCheckpoint) =
     (set_checkpoint p.table i ≡ None)
-    × (q ≡ parts (after_update p.table (settings_op (change.Release i))) p.memory
+    × (q ≡ parts (after_update p.table (setting_op (change.Release i))) p.memory
     (p.list ++ event.Went s kind.Settings ∷ []))
     × (v ≡ work.Rest)
 KeepsUp s k p (upkeep.Release i) q v answers.Memory = Refused p q v
 KeepsUp s k p (upkeep.Release i) q v _ = ⊥
 KeepsUp s k p (upkeep.Attach i) q v (answers.Ready (ends.Set (Some pin))) =
     (set_checkpoint p.table i ≡ Some pin)
-    × (q ≡ parts (after_update p.table (settings_op (change.Attach s i))) p.memory
+    × (q ≡ parts (after_update p.table (setting_op (change.Attach s i))) p.memory
     (p.list ++ event.Attach s i ∷ []))
     × (v ≡ work.Rest)
 KeepsUp s k p (upkeep.Attach i) q v (answers.Ready ends.NoCheckpoint) =
     (set_checkpoint p.table i ≡ None)
-    × (q ≡ parts (after_update p.table (settings_op (change.Attach s i))) p.memory
+    × (q ≡ parts (after_update p.table (setting_op (change.Attach s i))) p.memory
     (p.list ++ event.Went s kind.Settings ∷ []))
     × (v ≡ work.Rest)
 KeepsUp s k p (upkeep.Attach i) q v answers.Memory = Refused p q v
@@ -417,7 +417,7 @@ KeepsUp s k p upkeep.Detach q v answers.Memory = Refused p q v
 KeepsUp s k p upkeep.Detach q v _ = ⊥
 KeepsUp s k p (upkeep.Detaching pin) q v (answers.Ready (ends.Pinned o)) =
     (o ≡ pin)
-    × (q ≡ parts (after_update p.table (settings_op (change.Detach s))) p.memory
+    × (q ≡ parts (after_update p.table (setting_op (change.Detach s))) p.memory
     (p.list ++ event.Detach s ∷ []))
     × (v ≡ work.Rest)
 KeepsUp s k p (upkeep.Detaching pin) q v answers.Memory = Refused p q v

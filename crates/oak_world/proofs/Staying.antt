@@ -83,7 +83,7 @@ module _ (starts : Starts) (says : Says) (last : StartsLast starts says) (h : St
   may_last work.Refresh drawn may = (come_left (live h) q own others may.0, attached_left q own h.past others ∙ may.1)
   may_last (work.Read r) drawn may = come_left (live h) q own others may
   may_last (work.Changes r) drawn may = (come_left (live h) q own others may.0, attached_left q own h.past others ∙ may.1)
-  may_last (work.Plan edit marks) drawn may = (come_left (live h) q own others may.0, attached_left q own h.past others ∙ may.1, last (live h) own q edit marks nodes run now others may.2)
+  may_last (work.Plan edit marks) drawn may = (come_left (live h) q own others may.0, attached_left q own h.past others ∙ may.1, last (live h) own q edit marks (record { nodes = nodes; run = run; later = now; others = others }) may.2)
   may_last (work.Commit c) drawn may = record {
     come = come_left (live h) q own others may.come;
     unended = may.unended;

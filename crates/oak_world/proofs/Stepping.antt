@@ -26,7 +26,7 @@ use Rattle.oak_read.specs.declared.reader.Reader.{Reader}
 use Rattle.oak_store.specs.Tables.{Table}
 use Rattle.core_clash.specs.Core.{root_of}
 use Rattle.core_world.specs.States.{State, memory_at, with_memory, with_session}
-use Rattle.core_world.specs.Steps.{after_finish, after_update, after_want, settings_op, with_observer, with_reader}
+use Rattle.core_world.specs.Steps.{after_finish, after_update, after_want, setting_op, with_observer, with_reader}
 use Rattle.oak_port.specs.declared.task.StepOut.{StepOut}
 use Rattle.oak_port.specs.declared.task.StepOut.TheVariants as answers
 use Rattle.oak_port.specs.declared.task.TaskEnd.TheVariants as ends
@@ -241,21 +241,21 @@ module _ {L : Type 0} (w : WorldOf L) (s : ℕ) (there : s < length w.actors) (q
   upkeep_makes (upkeep.Noted n) here o h = publishes_first (upkeep.Noted n) here n o h
   upkeep_makes (upkeep.Publish b) here o h = publishes (upkeep.Publish b) here b o h
   upkeep_makes (upkeep.Read b) here o h = learns (upkeep.Read b) here b o h
-  upkeep_makes (upkeep.Checkpoint i) here (answers.Ready (ends.Set None)) h = (h.0, h.1, sets (work.Upkeep (upkeep.Checkpoint i)) work.Rest here h.3 refl (refl, refl) (event.Checkpoint i (h.0).base) (after_update w.table (settings_op (change.Checkpoint i h.0))) h.2, h.3)
+  upkeep_makes (upkeep.Checkpoint i) here (answers.Ready (ends.Set None)) h = (h.0, h.1, sets (work.Upkeep (upkeep.Checkpoint i)) work.Rest here h.3 refl (refl, refl) (event.Checkpoint i (h.0).base) (after_update w.table (setting_op (change.Checkpoint i h.0))) h.2, h.3)
   upkeep_makes (upkeep.Checkpoint i) here answers.Memory h = (still (work.Upkeep (upkeep.Checkpoint i)) work.Rest here h.1 refl (refl, refl) h.0, h.1)
   upkeep_makes (upkeep.Checkpoint i) here _ h = absurd h
-  upkeep_makes (upkeep.Release i) here (answers.Ready (ends.Set None)) h = (h.0, sets (work.Upkeep (upkeep.Release i)) work.Rest here h.2 refl (refl, refl) (event.Release i) (after_update w.table (settings_op (change.Release i))) h.1, h.2)
-  upkeep_makes (upkeep.Release i) here (answers.Ready ends.NoCheckpoint) h = (h.0, sets (work.Upkeep (upkeep.Release i)) work.Rest here h.2 refl (refl, refl) (event.Went s kind.Settings) (after_update w.table (settings_op (change.Release i))) h.1, h.2)
+  upkeep_makes (upkeep.Release i) here (answers.Ready (ends.Set None)) h = (h.0, sets (work.Upkeep (upkeep.Release i)) work.Rest here h.2 refl (refl, refl) (event.Release i) (after_update w.table (setting_op (change.Release i))) h.1, h.2)
+  upkeep_makes (upkeep.Release i) here (answers.Ready ends.NoCheckpoint) h = (h.0, sets (work.Upkeep (upkeep.Release i)) work.Rest here h.2 refl (refl, refl) (event.Went s kind.Settings) (after_update w.table (setting_op (change.Release i))) h.1, h.2)
   upkeep_makes (upkeep.Release i) here answers.Memory h = (still (work.Upkeep (upkeep.Release i)) work.Rest here h.1 refl (refl, refl) h.0, h.1)
   upkeep_makes (upkeep.Release i) here _ h = absurd h
-  upkeep_makes (upkeep.Attach i) here (answers.Ready (ends.Set (Some pin))) h = (h.0, sets (work.Upkeep (upkeep.Attach i)) work.Rest here h.2 refl (refl, refl) (event.Attach s i) (after_update w.table (settings_op (change.Attach s i))) h.1, h.2)
-  upkeep_makes (upkeep.Attach i) here (answers.Ready ends.NoCheckpoint) h = (h.0, sets (work.Upkeep (upkeep.Attach i)) work.Rest here h.2 refl (refl, refl) (event.Went s kind.Settings) (after_update w.table (settings_op (change.Attach s i))) h.1, h.2)
+  upkeep_makes (upkeep.Attach i) here (answers.Ready (ends.Set (Some pin))) h = (h.0, sets (work.Upkeep (upkeep.Attach i)) work.Rest here h.2 refl (refl, refl) (event.Attach s i) (after_update w.table (setting_op (change.Attach s i))) h.1, h.2)
+  upkeep_makes (upkeep.Attach i) here (answers.Ready ends.NoCheckpoint) h = (h.0, sets (work.Upkeep (upkeep.Attach i)) work.Rest here h.2 refl (refl, refl) (event.Went s kind.Settings) (after_update w.table (setting_op (change.Attach s i))) h.1, h.2)
   upkeep_makes (upkeep.Attach i) here answers.Memory h = (still (work.Upkeep (upkeep.Attach i)) work.Rest here h.1 refl (refl, refl) h.0, h.1)
   upkeep_makes (upkeep.Attach i) here _ h = absurd h
   upkeep_makes upkeep.Detach here (answers.Went kind.Pin) h = (tells (work.Upkeep upkeep.Detach) (work.Upkeep (upkeep.Detaching (pin_now memory))) here h.1 refl (refl, refl) (event.Refresh s memory.head) (with_pin memory s (pin_now memory)) h.0, h.1)
   upkeep_makes upkeep.Detach here answers.Memory h = (still (work.Upkeep upkeep.Detach) work.Rest here h.1 refl (refl, refl) h.0, h.1)
   upkeep_makes upkeep.Detach here _ h = absurd h
-  upkeep_makes (upkeep.Detaching pin) here (answers.Ready (ends.Pinned o)) h = (h.0, sets (work.Upkeep (upkeep.Detaching pin)) work.Rest here h.2 refl (refl, refl) (event.Detach s) (after_update w.table (settings_op (change.Detach s))) h.1, h.2)
+  upkeep_makes (upkeep.Detaching pin) here (answers.Ready (ends.Pinned o)) h = (h.0, sets (work.Upkeep (upkeep.Detaching pin)) work.Rest here h.2 refl (refl, refl) (event.Detach s) (after_update w.table (setting_op (change.Detach s))) h.1, h.2)
   upkeep_makes (upkeep.Detaching pin) here answers.Memory h = (still (work.Upkeep (upkeep.Detaching pin)) work.Rest here h.1 refl (refl, refl) h.0, h.1)
   upkeep_makes (upkeep.Detaching pin) here _ h = absurd h
   upkeep_makes upkeep.Observe here (answers.Ready (ends.Pinned pin)) h = (h.0, tells (work.Upkeep upkeep.Observe) work.Rest here h.2 refl (refl, refl) (event.Went s kind.Pin) (with_pin memory (cursor_owner s) pin) h.1, h.2)

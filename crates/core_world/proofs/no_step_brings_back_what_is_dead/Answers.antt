@@ -2,7 +2,11 @@
 use Rattle.std.proofs.Common.{[], refl}
 use Rattle.std.specs.Prelude.{map}
 use Rattle.oak_doc.specs.declared.update.Change.TheVariants as change
-use Rattle.core_world.specs.Steps.{back_op, publish_op, settings_op, settings_ops, sweep_op}
+use Rattle.core_world.specs.Steps.{setting_op}
+use Rattle.oak_sync.specs.Publishing.{back_op}
+use Rattle.oak_recover.specs.Recovering.{publish_op}
+use Rattle.oak_checkpoint.specs.Settings.{settings_op}
+use Rattle.oak_sweep.specs.Sweeping.{sweep_op}
 use Rattle.core_world.proofs.Cleared.{last_brings, mark_brings, settings_bring, step_brings}
 use Rattle.core_world.proofs.Freed.{undo_brings, update_brings}
 use Rattle.core_world.proofs.no_step_brings_back_what_is_dead.Goals as goal
@@ -37,15 +41,15 @@ returns-clause-publish g c = λ w k o p r free. update_brings r w.table (publish
 
 pub returns-clause-settings : goal.returns-clause-settings
 returns-clause-settings g c = λ w s i pin p r free. (
-  settings_bring w s p r free (settings_op (change.Checkpoint i pin)) refl,
-  settings_bring w s p r free (settings_op (change.Release i)) refl,
-  settings_bring w s p r free (settings_op (change.Attach s i)) refl,
-  settings_bring w s p r free (settings_op (change.Detach s)) refl,
+  settings_bring w s p r free (setting_op (change.Checkpoint i pin)) refl,
+  settings_bring w s p r free (setting_op (change.Release i)) refl,
+  settings_bring w s p r free (setting_op (change.Attach s i)) refl,
+  settings_bring w s p r free (setting_op (change.Detach s)) refl,
 )
 
 pub returns-clause-unfound : goal.returns-clause-unfound
-returns-clause-unfound g c = λ w s k p r free. settings_bring w s p r free (settings_op k) refl
+returns-clause-unfound g c = λ w s k p r free. settings_bring w s p r free (setting_op k) refl
 
 pub returns-clause-drop : goal.returns-clause-drop
 returns-clause-drop g c = λ w s ss p r free.
-    settings_bring w s p r free (settings_ops (map change.Detach ss)) refl
+    settings_bring w s p r free (settings_op (map change.Detach ss)) refl
