@@ -7,7 +7,7 @@ use Rattle.jr_value.specs.declared.value.Kind.{Kind}
 use Rattle.jr_value.specs.declared.value.Kind.TheVariants as kind
 use Rattle.jr_value.specs.declared.value.Value.{Value}
 use Rattle.cnd_pieces.specs.Tokens.{first_token, gap_size}
-use Rattle.cnd_pieces.specs.Words.{kind_named}
+use Rattle.cnd_pieces.specs.Words.{cnd_kind_named}
 use Rattle.cnd_pieces.specs.declared.piece.Sign.TheVariants as sign
 use Rattle.cnd_pieces.specs.declared.piece.TokenKind.{TokenKind}
 use Rattle.cnd_pieces.specs.declared.piece.TokenKind.TheVariants as token
@@ -31,7 +31,7 @@ named_in (Some k) = context.Named (default_kind k)
 
 -- behind a word
 abbrev pub after_word : Context → List ℕ → Context
-after_word context.Opened word = named_in (kind_named word)
+after_word context.Opened word = named_in (cnd_kind_named word)
 after_word _ word = context.Elsewhere
 
 -- behind `*`

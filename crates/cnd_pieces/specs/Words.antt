@@ -11,8 +11,8 @@ abbrev pub is_a : List ℕ → List ℕ → Bool
 is_a = str_eq_ignore_ascii_case
 
 -- the kind that a word names; `undefined` is none
-abbrev pub kind_named : List ℕ → Option (Option Kind)
-kind_named word =
+abbrev pub cnd_kind_named : List ℕ → Option (Option Kind)
+cnd_kind_named word =
     if is_a (codes "undefined") word then Some None
     else option_map Some (find (λ k. is_a (kind_text k) word) all_kinds)
 

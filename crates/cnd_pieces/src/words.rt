@@ -2,7 +2,7 @@
 ghost use Rattle.std.specs.Prelude.{◌≡◌, find};
 ghost use Rattle.jr_path.specs.Grammar.{is_prefix_character};
 ghost use Rattle.jr_value.specs.Words.{all_kinds, kind_text};
-ghost use Rattle.cnd_pieces.specs.Words.{is_a, is_prefix, kind_named};
+ghost use Rattle.cnd_pieces.specs.Words.{is_a, is_prefix, cnd_kind_named};
 
 use jr_value::{ALL_KINDS, Kind};
 
@@ -25,7 +25,7 @@ fn some_kind(word: &str) -> Option<Kind>
 
 /// The kind that a word names, none for `undefined`.
 pub fn kind_named(word: &str) -> Option<Option<Kind>>
-    ensures { result ≡ kind_named word.now }
+    ensures { result ≡ cnd_kind_named word.now }
 {
     if is_a("undefined", word) {
         return Some(None);

@@ -6,9 +6,9 @@ use Rattle.jr_path.specs.Grammar.{IsName}
 use Rattle.jr_path.specs.declared.name.Name.{Name}
 use Rattle.jr_types.specs.declared.OnParentVersion.{OnParentVersion}
 use Rattle.jr_types.specs.declared.OnParentVersion.TheVariants as opv
-use Rattle.jr_cnd.specs.Grammar.{addable, item_attribute_first, item_word_in, lacking, type_attribute_first, type_word_in}
+use Rattle.jr_cnd.specs.Grammar.{addable, item_attribute_first, item_word_in, where_lacking, type_attribute_first, type_word_in}
 use Rattle.cnd_pieces.specs.Pieces.{ArePieces}
-use Rattle.cnd_print.specs.Printing.{is_bare_name, list_behind, listed, name_behind, name_text, opv_part, quoted, word_if}
+use Rattle.cnd_print.specs.Printing.{is_bare_name, list_behind, with_commas, name_behind, name_text, opv_part, quoted, word_if}
 use Rattle.jr_cnd.specs.Reading.{is_sign, sign_first}
 use Rattle.cnd_pieces.specs.Tokens.{first_token, goes_on_bare}
 use Rattle.jr_cnd.specs.declared.attributes.ItemAttributes.{ItemAttributes}
@@ -84,9 +84,9 @@ line_no_attribute of_property a (p ∷ ps) (inr (inr e)) = ap (λ u. is_some (ad
 
 pub line_no_type_attribute : (a : TypeAttributes) (ps : List Placed) → AtLine ps → type_attribute_first a ps ≡ false
 line_no_type_attribute a [] h = refl
-line_no_type_attribute a (p ∷ ps) (inl e) = ap (λ u. is_some (lacking a (type_word_in u))) e
-line_no_type_attribute a (p ∷ ps) (inr (inl e)) = ap (λ u. is_some (lacking a (type_word_in u))) e
-line_no_type_attribute a (p ∷ ps) (inr (inr e)) = ap (λ u. is_some (lacking a (type_word_in u))) e
+line_no_type_attribute a (p ∷ ps) (inl e) = ap (λ u. is_some (where_lacking a (type_word_in u))) e
+line_no_type_attribute a (p ∷ ps) (inr (inl e)) = ap (λ u. is_some (where_lacking a (type_word_in u))) e
+line_no_type_attribute a (p ∷ ps) (inr (inr e)) = ap (λ u. is_some (where_lacking a (type_word_in u))) e
 
 -- ---- within a line
 
@@ -164,7 +164,7 @@ line_is (p ∷ ps) h = inr h
 pub at_constraints : (ts : List (List ℕ)) (bs : List ℕ) (ps : List Placed) → BeginsLine bs → Ready (constraints_then ts bs) ps → AtConstraints ps
 at_constraints [] bs ps line h = line_is ps (at_line bs ps line h)
 at_constraints (t ∷ ts) bs ps line h =
-    let r = sign_step h.context 60 sign.Less (32 ∷ 60 ∷ 32 ∷ (listed (map quoted (t ∷ ts)) ++ (10 ∷ bs))) (32 ∷ (listed (map quoted (t ∷ ts)) ++ (10 ∷ bs))) ps refl (omega arith) refl h.behind in
+    let r = sign_step h.context 60 sign.Less (32 ∷ 60 ∷ 32 ∷ (with_commas (map quoted (t ∷ ts)) ++ (10 ∷ bs))) (32 ∷ (with_commas (map quoted (t ∷ ts)) ++ (10 ∷ bs))) ps refl (omega arith) refl h.behind in
     subst AtConstraints (sym r.is) (inl r.said)
 
 pub constraints_parted : (ps : List Placed) → AtConstraints ps → Parted ps

@@ -9,7 +9,7 @@ use Rattle.jr_path.specs.declared.name.Name.{Name}
 use Rattle.jr_value.specs.declared.value.Value.{Value}
 use Rattle.cnd_pieces.specs.Pieces.{ArePieces, IsDefault, IsNameOrNone, IsSaid, Means, content, context_after, is_behind_less, left_behind, place_behind}
 use Rattle.cnd_print.specs.Printable.{IsPrintableValue}
-use Rattle.jr_cnd.specs.Reading.{behind, name_first, name_in, text_first, text_in}
+use Rattle.jr_cnd.specs.Reading.{behind, name_first, cnd_name_in, text_first, text_in}
 use Rattle.cnd_pieces.specs.Tokens.{bare_from, begins_bare, first_token, is_bare, quote_from, sign_of}
 use Rattle.cnd_pieces.specs.declared.context.Context.{Context}
 use Rattle.cnd_pieces.specs.declared.context.Context.TheVariants as context
@@ -128,7 +128,7 @@ pub proper_behind : (ps : List Placed) → SomeProper ps → SomeProper (behind 
 proper_behind [] h = h
 proper_behind (p ∷ ps) h = (context_after h.0 p.says, h.1.1)
 
-name_said : (u : Says) (c : Context) (n : Name) → ProperSays c u → name_in u ≡ Some n → IsName n
+name_said : (u : Says) (c : Context) (n : Name) → ProperSays c u → cnd_name_in u ≡ Some n → IsName n
 name_said (says.Name m) c n h e = let same : m ≡ n = cc in subst IsName same h
 name_said (says.Quoted t None v) c n h e = cc
 name_said (says.Quoted t (Some m) v) c n h e = let same : m ≡ n = cc in subst IsName same h.1

@@ -6,7 +6,7 @@ use Rattle.jr_path.specs.Grammar.{IsName}
 use Rattle.jr_path.specs.declared.name.Name.{Name}
 use Rattle.jr_types.specs.declared.OnParentVersion.{OnParentVersion}
 use Rattle.jr_types.specs.declared.OnParentVersion.TheVariants as opv
-use Rattle.jr_cnd.specs.Grammar.{addable, item_attribute_first, item_attribute_more, item_attributes_at, item_word_first, item_word_in, lacking, lacks, may_add, type_attribute_first, type_attribute_more, type_attributes_at, type_word_first, type_word_in, with_item_word, with_type_word}
+use Rattle.jr_cnd.specs.Grammar.{addable, item_attribute_first, item_attribute_more, item_attributes_at, item_word_first, item_word_in, where_lacking, lacks, may_add, type_attribute_first, type_attribute_more, type_attributes_at, type_word_first, type_word_in, with_item_word, with_type_word}
 use Rattle.cnd_print.specs.Printing.{is_bare_name, name_behind, name_text, opv_part, word_if}
 use Rattle.jr_cnd.specs.Reading.{State, name_at}
 use Rattle.cnd_pieces.specs.Tokens.{goes_on_bare}
@@ -163,8 +163,8 @@ item_attributes_read of_property m a p x o bs ps many_values bare ends h =
 
 type_first : (old : TypeAttributes) (w : List ℕ) (x : TypeWord) (p : Placed) (rest : List Placed) → p.says ≡ says.Name w → type_word w ≡ Some x → lacks old x ≡ true → type_word_first old (p ∷ rest) ≡ Some x
 type_first old w x p rest said is lack =
-    ap (λ u. lacking old (type_word_in u)) said
-    ∙ ap (lacking old) is
+    ap (λ u. where_lacking old (type_word_in u)) said
+    ∙ ap (where_lacking old) is
     ∙ ap (λ b. if b then Some x else None) lack
 
 type_more : (old : TypeAttributes) (x : TypeWord) (p : Placed) (rest : List Placed) (stop : ℕ) → type_word_first old (p ∷ rest) ≡ Some x → type_attribute_more old (left_of (p ∷ rest) stop) ≡ with_type_word old x (left_of rest stop)

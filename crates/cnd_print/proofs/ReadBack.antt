@@ -4,8 +4,8 @@ use Rattle.std.specs.Prelude.{codes, map}
 use Rattle.std.specs.List.{AllByRecursion, flat_map}
 use Rattle.jr_builtin.specs.Builtin.{builtin}
 use Rattle.jr_types.specs.declared.TypeDef.{TypeDef}
-use Rattle.jr_cnd.specs.Grammar.{file_at, file_more, goes_on, prefix_at, type_at, type_more}
-use Rattle.jr_cnd.specs.Meaning.{IsAnswer, IsMeaning, cnd_of, first_bad, judged, meaning}
+use Rattle.jr_cnd.specs.Grammar.{file_at, file_more, has_more, prefix_at, type_at, type_more}
+use Rattle.jr_cnd.specs.Meaning.{IsCndAnswer, IsMeaning, cnd_of, first_bad, judged_file, meaning}
 use Rattle.cnd_print.specs.Printable.{IsPrintable, IsPrintablePrefix, IsPrintableType, KeepRules}
 use Rattle.cnd_print.specs.Printing.{cnd_text, prefix_text, quoted, type_text}
 use Rattle.jr_cnd.specs.Reading.{State, bare_in, is_sign, many, place, sign_first, text_in}
@@ -88,7 +88,7 @@ file_begins (x ∷ xs) bs h = inr (inl (prefix_then x (flat_map prefix_text xs +
 
 -- the repetition of a file
 abbrev FileTurned : List Placed → List Placed → File → File → List ℕ → Type 0
-FileTurned turns ps old new bs = Turned goes_on file_more turns ps old new (Ready bs)
+FileTurned turns ps old new bs = Turned has_more file_more turns ps old new (Ready bs)
 
 prefix_more_got : (prefixes : List Prefix) (types : List PlacedType) (x : Prefix) (p : Placed) (rest more : List Placed) (stop : ℕ) → p.says ≡ says.Sign sign.Less → prefix_at (left_of rest stop) ≡ Ok (x, left_of more stop) → file_more (record { prefixes = prefixes; types = types }) (left_of (p ∷ rest) stop) ≡ Ok (record { prefixes = prefixes ++ x ∷ []; types = types }, left_of more stop)
 prefix_more_got prefixes types x p rest more stop e h = rw (e, h) refl
@@ -96,16 +96,16 @@ prefix_more_got prefixes types x p rest more stop e h = rw (e, h) refl
 prefixes_turned : (xs prefixes : List Prefix) (bs : List ℕ) (turns ps : List Placed) → AllByRecursion IsPrintablePrefix xs → BeginsType bs → length ps ≤ length turns → Ready (flat_map prefix_text xs ++ bs) ps → FileTurned turns ps (record { prefixes = prefixes; types = [] }) (record { prefixes = prefixes ++ xs; types = [] }) bs
 prefixes_turned [] prefixes bs turns ps good begin enough h =
     subst (λ (l : List Prefix). FileTurned turns ps (record { prefixes = prefixes; types = [] }) (record { prefixes = l; types = [] }) bs) (sym (append-nil prefixes))
-    (unturned goes_on file_more turns ps (record { prefixes = prefixes; types = [] }) (Ready bs) enough h)
+    (unturned has_more file_more turns ps (record { prefixes = prefixes; types = [] }) (Ready bs) enough h)
 prefixes_turned (x ∷ xs) prefixes bs turns ps good begin enough h =
     let rest = flat_map prefix_text xs ++ bs in
     let at = subst (λ (t : List ℕ). Ready t ps) (append_assoc (prefix_text x) (flat_map prefix_text xs) bs ∙ prefix_line x rest) h in
     let l = sign_step at.context 60 sign.Less (60 ∷ prefix_then x rest) (prefix_then x rest) ps refl (omega arith) refl at.behind in
     let r = prefix_read x rest l.more good.0 l.left in
     let fewer : 4 + length r.more ≤ length l.more = r.fewer in
-    let one = one_turn goes_on file_more turns ps (record { prefixes = prefixes; types = [] }) (record { prefixes = prefixes ++ x ∷ []; types = [] }) l.first l.more r.more (Ready rest) l.is refl
+    let one = one_turn has_more file_more turns ps (record { prefixes = prefixes; types = [] }) (record { prefixes = prefixes ++ x ∷ []; types = [] }) l.first l.more r.more (Ready rest) l.is refl
     (λ stop. prefix_more_got prefixes [] x l.first l.more r.more stop l.said (r.reads stop)) (omega arith) enough (begun rest r.more (file_begins xs bs begin) r.left) in
-    let all = then_turned goes_on file_more turns ps (record { prefixes = prefixes; types = [] }) (record { prefixes = prefixes ++ x ∷ []; types = [] }) (record { prefixes = (prefixes ++ x ∷ []) ++ xs; types = [] }) (Ready rest) (Ready bs) one
+    let all = then_turned has_more file_more turns ps (record { prefixes = prefixes; types = [] }) (record { prefixes = prefixes ++ x ∷ []; types = [] }) (record { prefixes = (prefixes ++ x ∷ []) ++ xs; types = [] }) (Ready rest) (Ready bs) one
     (λ later more k i. prefixes_turned xs (prefixes ++ x ∷ []) bs later more good.1 begin k i) in
     subst (λ (m : List Prefix). FileTurned turns ps (record { prefixes = prefixes; types = [] }) (record { prefixes = m; types = [] }) bs) (append_assoc prefixes (x ∷ []) xs) all
 
@@ -113,7 +113,7 @@ prefixes_turned (x ∷ xs) prefixes bs turns ps good begin enough h =
 record TypesTurned (ds : List TypeDef) (prefixes : List Prefix) (types : List PlacedType) (turns ps : List Placed) (stop : ℕ) : Type 0 where
   pub read : List PlacedType
   pub are : map (λ d. d.definition) read ≡ ds
-  pub all : many goes_on file_more turns (record { prefixes = prefixes; types = types }) (left_of ps stop) ≡ Ok (record { prefixes = prefixes; types = types ++ read }, left_of [] stop)
+  pub all : many has_more file_more turns (record { prefixes = prefixes; types = types }) (left_of ps stop) ≡ Ok (record { prefixes = prefixes; types = types ++ read }, left_of [] stop)
 
 no_prefix : (f : File) (s : State) → sign_first sign.Less s.pieces ≡ false → file_more f s ≡ type_more f s
 no_prefix f s e = rw e refl
@@ -132,8 +132,8 @@ types_turned [] prefixes types turns ps stop good enough h =
     record {
       read = [];
       are = refl;
-      all = ap (λ (q : List Placed). many goes_on file_more turns (record { prefixes = prefixes; types = types }) (left_of q stop)) none
-          ∙ stopped goes_on file_more turns (record { prefixes = prefixes; types = types }) (left_of [] stop) refl
+      all = ap (λ (q : List Placed). many has_more file_more turns (record { prefixes = prefixes; types = types }) (left_of q stop)) none
+          ∙ stopped has_more file_more turns (record { prefixes = prefixes; types = types }) (left_of [] stop) refl
           ∙ ap (λ (l : List PlacedType). Ok (record { prefixes = prefixes; types = l }, left_of [] stop)) (sym (append-nil types));
     }
 types_turned (d ∷ ds) prefixes types [] ps stop good enough h =
@@ -154,8 +154,8 @@ types_turned (d ∷ ds) prefixes types (t ∷ turns) ps stop good enough h =
     record {
       read = placed ∷ s.read;
       are = ap (λ (l : List TypeDef). d ∷ l) s.are;
-      all = ap (λ (q : List Placed). many goes_on file_more (t ∷ turns) (record { prefixes = prefixes; types = types }) (left_of q stop)) o.is
-          ∙ turned goes_on file_more t turns (record { prefixes = prefixes; types = types }) (record { prefixes = prefixes; types = types ++ placed ∷ [] }) (left_of (o.first ∷ o.more) stop) (left_of r.more stop) refl got
+      all = ap (λ (q : List Placed). many has_more file_more (t ∷ turns) (record { prefixes = prefixes; types = types }) (left_of q stop)) o.is
+          ∙ turned has_more file_more t turns (record { prefixes = prefixes; types = types }) (record { prefixes = prefixes; types = types ++ placed ∷ [] }) (left_of (o.first ∷ o.more) stop) (left_of r.more stop) refl got
           ∙ s.all
           ∙ ap (λ (l : List PlacedType). Ok (record { prefixes = prefixes; types = l }, left_of [] stop)) (append_assoc types (placed ∷ []) s.read);
     }
@@ -166,11 +166,11 @@ no_bad : (types : List TypeDef) (placed : List PlacedType) → KeepRules types (
 no_bad types [] h = refl
 no_bad types (d ∷ ds) h = rw h.0 (no_bad (types ++ d.definition ∷ []) ds h.1)
 
-meant : (ps : List Placed) (stop : ℕ) (f : File) (s : State) → file_at (left_of ps stop) ≡ Ok (f, s) → meaning ps stop ≡ judged f
+meant : (ps : List Placed) (stop : ℕ) (f : File) (s : State) → file_at (left_of ps stop) ≡ Ok (f, s) → meaning ps stop ≡ judged_file f
 meant ps stop f s e = rw (e, meaning) refl
 
-kept : (f : File) → first_bad builtin f.types ≡ None → judged f ≡ Ok (cnd_of f)
-kept f e = rw (e, judged) refl
+kept : (f : File) → first_bad builtin f.types ≡ None → judged_file f ≡ Ok (cnd_of f)
+kept f e = rw (e, judged_file) refl
 
 pub read_back : (c : Cnd) (m : Result Cnd NoCnd) → IsPrintable c → IsMeaning (cnd_text c) m → m ≡ Ok c
 read_back c m good h =
@@ -185,7 +185,7 @@ read_back c m good h =
     sym h.2 ∙ meant h.0 (length text) f (left_of [] (length text)) file ∙ kept f rules ∙ ap (λ (l : List TypeDef). Ok (record { prefixes = c.prefixes; definitions = l })) t.are
 
 -- what the canonical text is answered, by whatever answers what texts mean
-pub answered_back : (c : Cnd) (r : Result Cnd NoCnd) → IsPrintable c → IsAnswer (cnd_text c) r → (r ≡ Ok c) ⊎ (r ≡ Err no.Memory)
+pub answered_back : (c : Cnd) (r : Result Cnd NoCnd) → IsPrintable c → IsCndAnswer (cnd_text c) r → (r ≡ Ok c) ⊎ (r ≡ Err no.Memory)
 answered_back c (Ok x) good h = inl (read_back c (Ok x) good h)
 answered_back c (Err (no.Syntax offset)) good h = inl (read_back c (Err (no.Syntax offset)) good h)
 answered_back c (Err (no.BadDef start)) good h = inl (read_back c (Err (no.BadDef start)) good h)

@@ -11,13 +11,13 @@ use Rattle.jr_value.specs.declared.value.Value.{Value}
 use Rattle.jr_types.specs.declared.ChildDef.{ChildDef}
 use Rattle.jr_types.specs.declared.OnParentVersion.{OnParentVersion}
 use Rattle.jr_types.specs.declared.PropDef.{PropDef}
-use Rattle.jr_cnd.specs.Grammar.{child_at, comma_first, constraints_at, default_type_at, defaults_at, item_attributes_at, item_name_at, kind_at, kind_in, opv_of, prop_at, types_at, types_inside}
+use Rattle.jr_cnd.specs.Grammar.{read_child, comma_first, constraints_at, default_type_at, defaults_at, item_attributes_at, item_name_at, kind_at, kind_in, opv_of, prop_at, read_types, types_inside}
 use Rattle.cnd_pieces.specs.Pieces.{after_close, after_equal, after_star, default_kind, is_behind_less, named_in}
 use Rattle.cnd_print.specs.Printable.{IsPrintableChild, IsPrintableProp, IsPrintableValue}
-use Rattle.cnd_print.specs.Printing.{child_attributes, child_head, child_text, continued, default_texts, is_bare_name, item_name_text, kind_word, list_behind, listed, name_behind, name_text, opv_part, prop_attributes, prop_head, prop_text, quoted, word_if}
-use Rattle.jr_cnd.specs.Reading.{State, bare_in, is_sign, name_at, name_in, sign_first}
+use Rattle.cnd_print.specs.Printing.{child_attributes, child_head, child_text, continued, default_texts, is_bare_name, item_name_text, kind_word, list_behind, with_commas, name_behind, name_text, opv_part, prop_attributes, prop_head, prop_text, quoted, word_if}
+use Rattle.jr_cnd.specs.Reading.{State, bare_in, is_sign, name_at, cnd_name_in, sign_first}
 use Rattle.cnd_pieces.specs.Tokens.{goes_on_bare}
-use Rattle.cnd_pieces.specs.Words.{kind_named}
+use Rattle.cnd_pieces.specs.Words.{cnd_kind_named}
 use Rattle.jr_cnd.specs.declared.attributes.ItemAttributes.{ItemAttributes}
 use Rattle.cnd_pieces.specs.declared.context.Context.{Context}
 use Rattle.cnd_pieces.specs.declared.context.Context.TheVariants as context
@@ -50,7 +50,7 @@ calm_star c = refl
 star_got : (p : Placed) (rest : List Placed) (stop : ℕ) → p.says ≡ says.Sign sign.Star → item_name_at (left_of (p ∷ rest) stop) ≡ Ok (None, left_of rest stop)
 star_got p rest stop e = rw e refl
 
-item_name_got : (n : Name) (p : Placed) (rest : List Placed) (stop : ℕ) → is_sign sign.Star p.says ≡ false → name_in p.says ≡ Some n → item_name_at (left_of (p ∷ rest) stop) ≡ Ok (Some n, left_of rest stop)
+item_name_got : (n : Name) (p : Placed) (rest : List Placed) (stop : ℕ) → is_sign sign.Star p.says ≡ false → cnd_name_in p.says ≡ Some n → item_name_at (left_of (p ∷ rest) stop) ≡ Ok (Some n, left_of rest stop)
 item_name_got n p rest stop no_star is = rw (no_star, is) refl
 
 item_name_read : (o : Option Name) (bs : List ℕ) (ps : List Placed) → IfSome o IsName → goes_on_bare bs ≡ false → Ready (32 ∷ (item_name_text o ++ bs)) ps → IsRead item_name_at o 1 ps (Ready bs)
@@ -102,7 +102,7 @@ kind_bare (Some kind.WeakReference) = refl
 kind_bare (Some kind.Uri) = refl
 
 -- a kind's word names it
-pub kind_back : (k : Option Kind) → kind_named (kind_word k) ≡ Some k
+pub kind_back : (k : Option Kind) → cnd_kind_named (kind_word k) ≡ Some k
 kind_back None = refl
 kind_back (Some kind.Str) = refl
 kind_back (Some kind.Binary) = refl
@@ -154,7 +154,7 @@ defaults_read k [] bs ps good bare parted h =
     let apart = parted ps ready in
     record { more = ps; reads = λ stop. no_defaults (left_of ps stop) apart.no_equal; fewer = omega arith; left = ready }
 defaults_read k (v ∷ vs) bs ps good bare parted h =
-    let inside = listed (default_texts (v ∷ vs)) ++ bs in
+    let inside = with_commas (default_texts (v ∷ vs)) ++ bs in
     let e = sign_step (context.Closed k) 61 sign.Equal (32 ∷ 61 ∷ 32 ∷ inside) (32 ∷ inside) ps refl (omega arith) refl h in
     let r = listed_read (values k) v vs (32 ∷ inside) bs e.more good bare (λ more l. (parted more (listed_ready k bs more l)).no_comma) refl e.left in
     let size : length ps ≡ length (e.first ∷ e.more) = ap length e.is in
@@ -179,7 +179,7 @@ constraints_read [] bs ps good line h =
     let none = line_no_sign sign.Less ps refl refl refl (at_line bs ps line h) in
     record { more = ps; reads = λ stop. no_constraints (left_of ps stop) none; fewer = omega arith; left = h }
 constraints_read (t ∷ ts) bs ps good line h =
-    let inside = listed (map quoted (t ∷ ts)) ++ (10 ∷ bs) in
+    let inside = with_commas (map quoted (t ∷ ts)) ++ (10 ∷ bs) in
     let e = sign_step h.context 60 sign.Less (32 ∷ 60 ∷ 32 ∷ inside) (32 ∷ inside) ps refl (omega arith) refl h.behind in
     let q = text_step context.BehindLess t (32 ∷ inside) (continued (map quoted ts) ++ (10 ∷ bs)) e.more good.0 (append_assoc (quoted t) (continued (map quoted ts)) (10 ∷ bs)) e.left in
     let r = listed_read texts t ts (32 ∷ inside) (10 ∷ bs) e.more good refl (λ more l. (line_parted more (at_line bs more line l)).no_comma) refl (context.BehindLess, e.left) in
@@ -252,12 +252,12 @@ closing xs bs ps h =
     let r = sign_step h.context 41 sign.Close (41 ∷ bs) bs ps refl (omega arith) refl h.behind in
     ap (λ (q : List Placed). comma_first xs q) r.is ∙ ap (is_sign sign.Comma) r.said
 
-types_got : (o c : Placed) (rest more : List Placed) (ns : List Name) (stop : ℕ) → o.says ≡ says.Sign sign.Open → list_of names.one (left_of rest stop) ≡ Ok (ns, left_of (c ∷ more) stop) → c.says ≡ says.Sign sign.Close → types_at (left_of (o ∷ rest) stop) ≡ Ok (ns, left_of more stop)
+types_got : (o c : Placed) (rest more : List Placed) (ns : List Name) (stop : ℕ) → o.says ≡ says.Sign sign.Open → list_of names.one (left_of rest stop) ≡ Ok (ns, left_of (c ∷ more) stop) → c.says ≡ says.Sign sign.Close → read_types (left_of (o ∷ rest) stop) ≡ Ok (ns, left_of more stop)
 types_got o c rest more ns stop opens h closes = rw (opens, h, types_inside, closes) refl
 
-types_read : (n : Name) (ns : List Name) (bs : List ℕ) (ps : List Placed) → AllByRecursion IsName (n ∷ ns) → Ready (32 ∷ 40 ∷ (listed (map name_text (n ∷ ns)) ++ (41 ∷ bs))) ps → IsRead types_at (n ∷ ns) 0 ps (Ready bs)
+types_read : (n : Name) (ns : List Name) (bs : List ℕ) (ps : List Placed) → AllByRecursion IsName (n ∷ ns) → Ready (32 ∷ 40 ∷ (with_commas (map name_text (n ∷ ns)) ++ (41 ∷ bs))) ps → IsRead read_types (n ∷ ns) 0 ps (Ready bs)
 types_read n ns bs ps good h =
-    let inside = listed (map name_text (n ∷ ns)) ++ (41 ∷ bs) in
+    let inside = with_commas (map name_text (n ∷ ns)) ++ (41 ∷ bs) in
     let o = sign_step h.context 40 sign.Open (32 ∷ 40 ∷ inside) inside ps refl (omega arith) refl h.behind in
     let apart = append_assoc (name_text n) (continued (map name_text ns)) (41 ∷ bs) in
     let begun = ap starts apart ∙ name_starts n (continued (map name_text ns) ++ (41 ∷ bs)) good.0 in
@@ -268,13 +268,13 @@ types_read n ns bs ps good h =
     let fewer : 1 + length r.more ≤ length o.more = r.fewer in
     record {
       more = c.more;
-      reads = λ stop. ap (λ (q : List Placed). types_at (left_of q stop)) o.is
+      reads = λ stop. ap (λ (q : List Placed). read_types (left_of q stop)) o.is
           ∙ types_got o.first c.first o.more c.more (n ∷ ns) stop o.said (r.reads stop ∙ ap (λ (q : List Placed). Ok (n ∷ ns, left_of q stop)) c.is) c.said;
       fewer = omega arith;
       left = record { context = _; calm = calm_close r.left.context; behind = c.left };
     }
 
-some_types : (ns : List Name) (bs : List ℕ) (ps : List Placed) → ns ≢ [] → AllByRecursion IsName ns → Ready (32 ∷ 40 ∷ (listed (map name_text ns) ++ (41 ∷ bs))) ps → IsRead types_at ns 0 ps (Ready bs)
+some_types : (ns : List Name) (bs : List ℕ) (ps : List Placed) → ns ≢ [] → AllByRecursion IsName ns → Ready (32 ∷ 40 ∷ (with_commas (map name_text ns) ++ (41 ∷ bs))) ps → IsRead read_types ns 0 ps (Ready bs)
 some_types [] bs ps some good h = absurd (some refl)
 some_types (n ∷ ns) bs ps some good h = types_read n ns bs ps good h
 
@@ -309,24 +309,24 @@ default_type_read (Some n) bs ps name bare parted h =
 -- a child's line behind its `+`, with what follows the line
 abbrev pub child_then : ChildDef → List ℕ → List ℕ
 child_then c bs =
-    32 ∷ (item_name_text c.name ++ (32 ∷ 40 ∷ (listed (map name_text c.types) ++ (41 ∷ (name_behind (codes " = ") c.default_type ++ attributes_then c.mandatory c.autocreated c.protected false c.opv (10 ∷ bs))))))
+    32 ∷ (item_name_text c.name ++ (32 ∷ 40 ∷ (with_commas (map name_text c.types) ++ (41 ∷ (name_behind (codes " = ") c.default_type ++ attributes_then c.mandatory c.autocreated c.protected false c.opv (10 ∷ bs))))))
 
 pub child_line : (c : ChildDef) (bs : List ℕ) → child_text c ++ bs ≡ 43 ∷ child_then c bs
 child_line c bs =
     let default = name_behind (codes " = ") c.default_type in
     four (child_head c) default (child_attributes c) (codes "\n") bs
-    ∙ five (codes "+ ") (item_name_text c.name) (codes " (") (listed (map name_text c.types)) (codes ")") (default ++ (child_attributes c ++ (10 ∷ bs)))
-    ∙ ap (λ (t : List ℕ). codes "+ " ++ (item_name_text c.name ++ (codes " (" ++ (listed (map name_text c.types) ++ (codes ")" ++ (default ++ t))))))
+    ∙ five (codes "+ ") (item_name_text c.name) (codes " (") (with_commas (map name_text c.types)) (codes ")") (default ++ (child_attributes c ++ (10 ∷ bs)))
+    ∙ ap (λ (t : List ℕ). codes "+ " ++ (item_name_text c.name ++ (codes " (" ++ (with_commas (map name_text c.types) ++ (codes ")" ++ (default ++ t))))))
     (four (word_if c.mandatory (codes " mandatory")) (word_if c.autocreated (codes " autocreated")) (word_if c.protected (codes " protected")) (opv_part c.opv) (10 ∷ bs))
 
-child_got : (n : Option Name) (ts : List Name) (o : Option Name) (a : ItemAttributes) (s s1 s2 s3 s4 : State) → item_name_at s ≡ Ok (n, s1) → types_at s1 ≡ Ok (ts, s2) → default_type_at s2 ≡ Ok (o, s3) → item_attributes_at false s3 ≡ Ok (a, s4) → child_at s ≡ Ok (record { name = n; types = ts; default_type = o; mandatory = a.mandatory; autocreated = a.autocreated; protected = a.protected; opv = opv_of a }, s4)
+child_got : (n : Option Name) (ts : List Name) (o : Option Name) (a : ItemAttributes) (s s1 s2 s3 s4 : State) → item_name_at s ≡ Ok (n, s1) → read_types s1 ≡ Ok (ts, s2) → default_type_at s2 ≡ Ok (o, s3) → item_attributes_at false s3 ≡ Ok (a, s4) → read_child s ≡ Ok (record { name = n; types = ts; default_type = o; mandatory = a.mandatory; autocreated = a.autocreated; protected = a.protected; opv = opv_of a }, s4)
 child_got n ts o a s s1 s2 s3 s4 en et eo ea = rw (en, et, eo, ea) refl
 
-pub child_read : (c : ChildDef) (bs : List ℕ) (ps : List Placed) → IsPrintableChild c → BeginsLine bs → Ready (child_then c bs) ps → IsRead child_at c 1 ps (Ready (10 ∷ bs))
+pub child_read : (c : ChildDef) (bs : List ℕ) (ps : List Placed) → IsPrintableChild c → BeginsLine bs → Ready (child_then c bs) ps → IsRead read_child c 1 ps (Ready (10 ∷ bs))
 child_read c bs ps good line h =
     let attrs = attributes_then c.mandatory c.autocreated c.protected false c.opv (10 ∷ bs) in
     let bare_attrs : goes_on_bare attrs ≡ false = bare_attributes c.mandatory c.autocreated c.protected false c.opv (10 ∷ bs) refl in
-    let n = item_name_read c.name (32 ∷ 40 ∷ (listed (map name_text c.types) ++ (41 ∷ (name_behind (codes " = ") c.default_type ++ attrs)))) ps good.name refl h in
+    let n = item_name_read c.name (32 ∷ 40 ∷ (with_commas (map name_text c.types) ++ (41 ∷ (name_behind (codes " = ") c.default_type ++ attrs)))) ps good.name refl h in
     let t = some_types c.types (name_behind (codes " = ") c.default_type ++ attrs) n.more good.some_type good.types n.left in
     let d = default_type_read c.default_type attrs t.more good.default_type bare_attrs (λ more l. attributes_parted c.mandatory c.autocreated c.protected false c.opv (10 ∷ bs) more refl (λ qs i. line_parted qs (at_line bs qs line i)) l) t.left in
     let a = item_attributes_read false c.mandatory c.autocreated c.protected false c.opv (10 ∷ bs) d.more (λ e. e) refl (λ more l. line_no_attribute false (attributes c.mandatory c.autocreated c.protected false (written_opv c.opv)) more (at_line bs more line l)) d.left in

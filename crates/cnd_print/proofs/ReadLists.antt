@@ -3,8 +3,8 @@ use Rattle.std.proofs.Common.{◌≡◌, ◌∙◌, ℕ, ◌+◌, ◌≤◌, Boo
 use Rattle.std.specs.List.{AllByRecursion}
 use Rattle.jr_path.specs.declared.name.Name.{Name}
 use Rattle.jr_cnd.specs.Grammar.{comma_first}
-use Rattle.cnd_print.specs.Printing.{continued, listed}
-use Rattle.jr_cnd.specs.Reading.{◌>>=◌, State, Read, after, is_sign, many, name_at, name_in, sign_at, text_at, text_in}
+use Rattle.cnd_print.specs.Printing.{continued, with_commas}
+use Rattle.jr_cnd.specs.Reading.{◌>>=◌, State, Read, after, is_sign, many, name_at, cnd_name_in, sign_at, text_at, text_in}
 use Rattle.cnd_pieces.specs.Tokens.{gap_size, goes_on_bare}
 use Rattle.cnd_pieces.specs.declared.piece.Placed.{Placed}
 use Rattle.cnd_pieces.specs.declared.piece.Sign.{Sign}
@@ -24,7 +24,7 @@ weaker read x used ps L M f r = record { more = r.more; reads = r.reads; fewer =
 
 -- ---- one token
 
-pub name_got : (p : Placed) (ps : List Placed) (n : Name) (stop : ℕ) → name_in p.says ≡ Some n → name_at (left_of (p ∷ ps) stop) ≡ Ok (n, left_of ps stop)
+pub name_got : (p : Placed) (ps : List Placed) (n : Name) (stop : ℕ) → cnd_name_in p.says ≡ Some n → name_at (left_of (p ∷ ps) stop) ≡ Ok (n, left_of ps stop)
 name_got p ps n stop e = rw e refl
 
 pub text_got : (p : Placed) (ps : List Placed) (t : List ℕ) (stop : ℕ) → text_in p.says ≡ Some t → text_at (left_of (p ∷ ps) stop) ≡ Ok (t, left_of ps stop)
@@ -126,7 +126,7 @@ more_read L (x ∷ xs) old bs (t ∷ turns) ps good bare ends enough h =
 list_got : {X : Type 0} (one : State → Read X) (x : X) (s u : State) (r : Read (List X)) → one s ≡ Ok (x, u) → many comma_first (more_of one) u.pieces (x ∷ []) u ≡ r → list_of one s ≡ r
 list_got one x s u r e h = rw e h
 
-pub listed_read : {X : Type 0} (L : Listing X) (x : X) (xs : List X) (all bs : List ℕ) (ps : List Placed) → AllByRecursion L.Good (x ∷ xs) → goes_on_bare bs ≡ false → ((more : List Placed) → L.Done bs more → comma_first (x ∷ xs) more ≡ false) → drop (gap_size all) all ≡ listed (map L.print (x ∷ xs)) ++ bs → L.Before all ps → IsRead (list_of L.one) (x ∷ xs) 1 ps (L.Done bs)
+pub listed_read : {X : Type 0} (L : Listing X) (x : X) (xs : List X) (all bs : List ℕ) (ps : List Placed) → AllByRecursion L.Good (x ∷ xs) → goes_on_bare bs ≡ false → ((more : List Placed) → L.Done bs more → comma_first (x ∷ xs) more ≡ false) → drop (gap_size all) all ≡ with_commas (map L.print (x ∷ xs)) ++ bs → L.Before all ps → IsRead (list_of L.one) (x ∷ xs) 1 ps (L.Done bs)
 listed_read L x xs all bs ps good bare ends e h =
     let rest = continued (map L.print xs) ++ bs in
     let r = L.item x all rest ps good.0 (no_bare L.print xs bs bare) (e ∙ append_assoc (L.print x) (continued (map L.print xs)) bs) h in

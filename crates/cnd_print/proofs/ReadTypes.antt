@@ -9,10 +9,10 @@ use Rattle.jr_items.specs.Names.{base_type}
 use Rattle.jr_types.specs.declared.ChildDef.{ChildDef}
 use Rattle.jr_types.specs.declared.PropDef.{PropDef}
 use Rattle.jr_types.specs.declared.TypeDef.{TypeDef}
-use Rattle.jr_cnd.specs.Grammar.{child_at, item_first, item_more, items_at, kept_supertypes, prop_at, supertypes_at, type_at, type_attributes_at, type_name_at}
+use Rattle.jr_cnd.specs.Grammar.{read_child, item_first, item_more, read_items, kept_supertypes, prop_at, supertypes_at, type_at, type_attributes_at, type_name_at}
 use Rattle.cnd_print.specs.Printable.{IsPrintableChild, IsPrintableProp, IsPrintableType}
-use Rattle.cnd_print.specs.Printing.{child_text, continued, list_behind, listed, name_behind, name_text, prop_text, type_attributes, type_head, type_line, type_text, word_if}
-use Rattle.jr_cnd.specs.Reading.{State, is_sign, name_in, sign_first}
+use Rattle.cnd_print.specs.Printing.{child_text, continued, list_behind, with_commas, name_behind, name_text, prop_text, type_attributes, type_head, type_line, type_text, word_if}
+use Rattle.jr_cnd.specs.Reading.{State, is_sign, cnd_name_in, sign_first}
 use Rattle.cnd_pieces.specs.Tokens.{gap_size, goes_on_bare}
 use Rattle.cnd_pieces.specs.declared.context.Context.TheVariants as context
 use Rattle.cnd_pieces.specs.declared.piece.Placed.{Placed}
@@ -41,7 +41,7 @@ line_children (d ∷ ds) bs h = inr (inr (inl (child_then d (flat_map child_text
 prop_got : (props : List PropDef) (children : List ChildDef) (d : PropDef) (p : Placed) (rest more : List Placed) (stop : ℕ) → p.says ≡ says.Sign sign.Minus → prop_at (left_of rest stop) ≡ Ok (d, left_of more stop) → item_more (record { props = props; children = children }) (left_of (p ∷ rest) stop) ≡ Ok (record { props = props ++ d ∷ []; children = children }, left_of more stop)
 prop_got props children d p rest more stop e h = rw (e, h) refl
 
-child_got : (props : List PropDef) (children : List ChildDef) (d : ChildDef) (p : Placed) (rest more : List Placed) (stop : ℕ) → p.says ≡ says.Sign sign.Plus → child_at (left_of rest stop) ≡ Ok (d, left_of more stop) → item_more (record { props = props; children = children }) (left_of (p ∷ rest) stop) ≡ Ok (record { props = props; children = children ++ d ∷ [] }, left_of more stop)
+child_got : (props : List PropDef) (children : List ChildDef) (d : ChildDef) (p : Placed) (rest more : List Placed) (stop : ℕ) → p.says ≡ says.Sign sign.Plus → read_child (left_of rest stop) ≡ Ok (d, left_of more stop) → item_more (record { props = props; children = children }) (left_of (p ∷ rest) stop) ≡ Ok (record { props = props; children = children ++ d ∷ [] }, left_of more stop)
 child_got props children d p rest more stop e h = rw (e, h) refl
 
 -- the repetition of items
@@ -95,7 +95,7 @@ no_item items bs ps (inr (more, e)) h =
     let r = sign_step at.context 91 sign.OpenSquare (10 ∷ 91 ∷ more) more ps refl (omega arith) refl at.behind in
     ap (λ (q : List Placed). item_first items q) r.is ∙ ap (λ u. is_sign sign.Minus u || is_sign sign.Plus u) r.said
 
-items_read : (props : List PropDef) (children : List ChildDef) (bs : List ℕ) (ps : List Placed) → AllByRecursion IsPrintableProp props → AllByRecursion IsPrintableChild children → BeginsType bs → Ready (10 ∷ (flat_map prop_text props ++ (flat_map child_text children ++ bs))) ps → IsRead items_at (record { props = props; children = children }) 0 ps (Ready (10 ∷ bs))
+items_read : (props : List PropDef) (children : List ChildDef) (bs : List ℕ) (ps : List Placed) → AllByRecursion IsPrintableProp props → AllByRecursion IsPrintableChild children → BeginsType bs → Ready (10 ∷ (flat_map prop_text props ++ (flat_map child_text children ++ bs))) ps → IsRead read_items (record { props = props; children = children }) 0 ps (Ready (10 ∷ bs))
 items_read props children bs ps good_props good_children begun h =
     let line = line_type bs begun in
     let tail = flat_map child_text children ++ bs in
@@ -118,7 +118,7 @@ supertypes_read [] bs ps good bare parted h =
     let apart = parted ps h in
     record { more = ps; reads = λ stop. no_supertypes (left_of ps stop) apart.no_greater; fewer = omega arith; left = h }
 supertypes_read (n ∷ ns) bs ps good bare parted h =
-    let inside = listed (map name_text (n ∷ ns)) ++ bs in
+    let inside = with_commas (map name_text (n ∷ ns)) ++ bs in
     let apart = append_assoc (name_text n) (continued (map name_text ns)) bs in
     let placed = ap (λ (b : List ℕ). drop (gap_size (32 ∷ b)) (32 ∷ b)) apart ∙ spaced (name_text n ++ (continued (map name_text ns) ++ bs)) (name_starts n (continued (map name_text ns) ++ bs) good.0) ∙ sym apart in
     let g = sign_step h.context 62 sign.Greater (32 ∷ 62 ∷ 32 ∷ inside) (32 ∷ inside) ps refl (omega arith) refl h.behind in
@@ -143,7 +143,7 @@ all_kept false ns h = others_kept ns (h refl)
 
 -- ---- a type
 
-type_name_got : (n : Name) (o p c : Placed) (rest : List Placed) (stop : ℕ) → o.says ≡ says.Sign sign.OpenSquare → name_in p.says ≡ Some n → c.says ≡ says.Sign sign.CloseSquare → type_name_at (left_of (o ∷ p ∷ c ∷ rest) stop) ≡ Ok (n, left_of rest stop)
+type_name_got : (n : Name) (o p c : Placed) (rest : List Placed) (stop : ℕ) → o.says ≡ says.Sign sign.OpenSquare → cnd_name_in p.says ≡ Some n → c.says ≡ says.Sign sign.CloseSquare → type_name_at (left_of (o ∷ p ∷ c ∷ rest) stop) ≡ Ok (n, left_of rest stop)
 type_name_got n o p c rest stop opens is closes = rw (opens, is, closes) refl
 
 type_name_read : (n : Name) (bs : List ℕ) (ps : List Placed) → IsName n → Ready (91 ∷ (name_text n ++ (93 ∷ bs))) ps → IsRead type_name_at n 3 ps (Ready bs)
@@ -176,7 +176,7 @@ type_lines d bs =
     ∙ ap (λ (t : List ℕ). codes "[" ++ (name_text d.name ++ (codes "]" ++ (above ++ t))))
     (four (word_if d.mixin (codes " mixin")) (word_if d.is_abstract (codes " abstract")) (word_if d.orderable (codes " orderable")) (name_behind (codes " primaryitem ") d.primary_item) (10 ∷ lines))
 
-type_got : (n : Name) (us : List Name) (a : TypeAttributes) (i : Items) (s s1 s2 s3 s4 : State) → type_name_at s ≡ Ok (n, s1) → supertypes_at s1 ≡ Ok (us, s2) → type_attributes_at s2 ≡ Ok (a, s3) → items_at s3 ≡ Ok (i, s4) → type_at s ≡ Ok (record { name = n; supertypes = kept_supertypes a.mixin us; is_abstract = a.is_abstract; mixin = a.mixin; orderable = a.orderable; primary_item = a.primary_item; props = i.props; children = i.children }, s4)
+type_got : (n : Name) (us : List Name) (a : TypeAttributes) (i : Items) (s s1 s2 s3 s4 : State) → type_name_at s ≡ Ok (n, s1) → supertypes_at s1 ≡ Ok (us, s2) → type_attributes_at s2 ≡ Ok (a, s3) → read_items s3 ≡ Ok (i, s4) → type_at s ≡ Ok (record { name = n; supertypes = kept_supertypes a.mixin us; is_abstract = a.is_abstract; mixin = a.mixin; orderable = a.orderable; primary_item = a.primary_item; props = i.props; children = i.children }, s4)
 type_got n us a i s s1 s2 s3 s4 en eu ea ei = rw (en, eu, ea, ei) refl
 
 pub type_read : (d : TypeDef) (bs : List ℕ) (ps : List Placed) → IsPrintableType d → BeginsType bs → Ready (91 ∷ type_then d bs) ps → IsRead type_at d 3 ps (Ready (10 ∷ bs))

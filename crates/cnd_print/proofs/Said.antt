@@ -11,10 +11,10 @@ use Rattle.jr_value.specs.declared.value.Value.{Value}
 use Rattle.jr_items.specs.Names.{base_type}
 use Rattle.jr_types.specs.declared.ChildDef.{ChildDef}
 use Rattle.jr_types.specs.declared.PropDef.{PropDef}
-use Rattle.jr_cnd.specs.Grammar.{child_at, constraints_at, constraints_first, default_type_at, defaults_at, item_attribute_first, item_attribute_more, item_attributes_at, item_name_at, item_word_first, kind_at, kind_first, kind_in, kind_inside, names_at, no_item_attributes, prop_at, texts_at, types_at, types_inside, value_at, value_first, value_in, values_at, with_item_word}
+use Rattle.jr_cnd.specs.Grammar.{read_child, constraints_at, constraints_first, default_type_at, defaults_at, item_attribute_first, item_attribute_more, item_attributes_at, item_name_at, item_word_first, kind_at, kind_first, kind_in, kind_inside, names_at, no_item_attributes, prop_at, texts_at, read_types, types_inside, value_at, value_first, value_in, values_at, with_item_word}
 use Rattle.cnd_pieces.specs.Pieces.{after_equal, context_after, default_kind, named_in}
 use Rattle.cnd_print.specs.Printable.{IsPrintableChild, IsPrintableProp, IsPrintableValue}
-use Rattle.jr_cnd.specs.Reading.{◌>>=◌, State, Read, after, behind, is_sign, name_at, name_first, name_in, place, required, sign_at, sign_first, sign_number, text_at, text_first}
+use Rattle.jr_cnd.specs.Reading.{◌>>=◌, State, Read, after, behind, is_sign, name_at, name_first, cnd_name_in, place, required, sign_at, sign_first, sign_number, text_at, text_first}
 use Rattle.jr_cnd.specs.declared.attributes.ItemAttributes.{ItemAttributes}
 use Rattle.cnd_pieces.specs.declared.context.Context.{Context}
 use Rattle.cnd_pieces.specs.declared.context.Context.TheVariants as context
@@ -97,7 +97,7 @@ texts_kept s u ts h e = list_kept text_at IsUtf8 Left Left text_kept any_comma s
 
 -- ---- the name of an item, right behind its sign
 
-name_next_by : (u : Says) (ps : List Placed) (n : Name) → ProperSays context.Elsewhere u → Proper (context_after context.Elsewhere u) ps → name_in u ≡ Some n → IsName n × Proper context.Elsewhere ps
+name_next_by : (u : Says) (ps : List Placed) (n : Name) → ProperSays context.Elsewhere u → Proper (context_after context.Elsewhere u) ps → cnd_name_in u ≡ Some n → IsName n × Proper context.Elsewhere ps
 name_next_by (says.Name m) ps n h k e = let same : m ≡ n = cc in (subst IsName same h, k)
 name_next_by (says.Quoted t None v) ps n h k e = cc
 name_next_by (says.Quoted t (Some m) v) ps n h k e = let same : m ≡ n = cc in (subst IsName same h.1, k)
@@ -250,7 +250,7 @@ types_inside_kept s u ns h e =
     then_kept (sign_at sign.Close t) _ (λ x v. Left v) Typed ns u (λ x v j. sign_left sign.Close t v x k.left j)
     (λ x v l j. done Typed ms ns v u (record { all = k.all; some = k.some; left = l }) j) i) e
 
-types_kept : (s u : State) (ns : List Name) → Left s → types_at s ≡ Ok (ns, u) → Typed ns u
+types_kept : (s u : State) (ns : List Name) → Left s → read_types s ≡ Ok (ns, u) → Typed ns u
 types_kept s u ns h e =
     if_kept (sign_first sign.Open s.pieces) Typed (types_inside (after s)) (base_type ∷ []) ns s u
     (λ is i. types_inside_kept (after s) u ns (proper_behind s.pieces h) i)
@@ -270,11 +270,11 @@ default_type_kept s u o h e =
 abbrev pub ChildRead : ChildDef → State → Type 0
 ChildRead c s = IsPrintableChild c × Left s
 
-pub child_kept : (s w : State) (c : ChildDef) → Proper context.Elsewhere s.pieces → child_at s ≡ Ok (c, w) → ChildRead c w
+pub child_kept : (s w : State) (c : ChildDef) → Proper context.Elsewhere s.pieces → read_child s ≡ Ok (c, w) → ChildRead c w
 child_kept s w c h e =
     then_kept (item_name_at s) _ Named ChildRead c w (λ n s1 i. item_name_kept s s1 n h i)
     (λ n s1 named e1.
-    then_kept (types_at s1) _ Typed ChildRead c w (λ ns s2 i. types_kept s1 s2 ns (context.Elsewhere, named.1) i)
+    then_kept (read_types s1) _ Typed ChildRead c w (λ ns s2 i. types_kept s1 s2 ns (context.Elsewhere, named.1) i)
     (λ ns s2 typed e2.
     then_kept (default_type_at s2) _ MayBeNamed ChildRead c w (λ o s3 i. default_type_kept s2 s3 o typed.left i)
     (λ o s3 default e3.

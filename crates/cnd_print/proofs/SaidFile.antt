@@ -10,8 +10,8 @@ use Rattle.jr_items.specs.Names.{base_type}
 use Rattle.jr_builtin.specs.Builtin.{builtin}
 use Rattle.jr_types.specs.Rules.{type_fault}
 use Rattle.jr_types.specs.declared.TypeDef.{TypeDef}
-use Rattle.jr_cnd.specs.Grammar.{child_at, child_more, file_at, file_more, goes_on, item_first, item_more, items_at, kept_supertypes, names_at, no_type_attributes, prefix_at, prefix_more, prefix_name_at, prefix_token, prop_at, prop_more, supertypes_at, type_at, type_attribute_first, type_attribute_more, type_attributes_at, type_more, type_name_at, type_word_first, with_type_word}
-use Rattle.jr_cnd.specs.Meaning.{IsMeaning, cnd_of, first_bad, judged}
+use Rattle.jr_cnd.specs.Grammar.{read_child, child_more, file_at, file_more, has_more, item_first, item_more, read_items, kept_supertypes, names_at, no_type_attributes, prefix_at, prefix_more, prefix_name_at, prefix_token, prop_at, prop_more, supertypes_at, type_at, type_attribute_first, type_attribute_more, type_attributes_at, type_more, type_name_at, type_word_first, with_type_word}
+use Rattle.jr_cnd.specs.Meaning.{IsMeaning, cnd_of, first_bad, judged_file}
 use Rattle.cnd_print.specs.Printable.{IsPrintable, IsPrintableChild, IsPrintablePrefix, IsPrintableProp, IsPrintableType, KeepRules}
 use Rattle.jr_cnd.specs.Reading.{◌>>=◌, State, Read, after, bare_first, bare_in, name_at, place, required, sign_at, sign_first, text_at}
 use Rattle.cnd_pieces.specs.Tokens.{gap_size}
@@ -52,11 +52,11 @@ item_by true items new s u is h first e =
     (λ p t k i. done ItemsRead (record { props = items.props ++ p ∷ []; children = items.children }) new t u (all_more IsPrintableProp items.props p h.0 k.0, h.1, k.1) i) e
 item_by false items new s u is h first e =
     let plus = second (sign_first sign.Minus s.pieces) (sign_first sign.Plus s.pieces) is first in
-    then_kept (child_at (after s)) _ ChildRead ItemsRead new u
+    then_kept (read_child (after s)) _ ChildRead ItemsRead new u
     (λ c t i. child_kept (after s) t c (sign_next sign.Plus h.2.0 s.pieces plus h.2.1) i)
     (λ c t k i. done ItemsRead (record { props = items.props; children = items.children ++ c ∷ [] }) new t u (h.0, all_more IsPrintableChild items.children c h.1 k.0, k.1) i) e
 
-items_kept : (s u : State) (i : Items) → Left s → items_at s ≡ Ok (i, u) → ItemsRead i u
+items_kept : (s u : State) (i : Items) → Left s → read_items s ≡ Ok (i, u) → ItemsRead i u
 items_kept s u i h e =
     many_kept item_first item_more ItemsRead s.pieces (record { props = []; children = [] }) i s u
     (λ old new t v r first more. item_by (sign_first sign.Minus t.pieces) old new t v refl r first more) (tt, tt, h) e
@@ -149,7 +149,7 @@ type_kept s w d h e =
     (λ ns s2 above e2.
     then_kept (type_attributes_at s2) _ AttributesRead TypeRead d w (λ a s3 i. type_attributes_kept s2 s3 a above.1 i)
     (λ a s3 attributes e3.
-    then_kept (items_at s3) _ ItemsRead TypeRead d w (λ i s4 j. items_kept s3 s4 i attributes.1 j)
+    then_kept (read_items s3) _ ItemsRead TypeRead d w (λ i s4 j. items_kept s3 s4 i attributes.1 j)
     (λ i s4 items e4.
     done TypeRead _ d s4 w (record { name = named.0; supertypes = kept_names a.mixin ns above.0; no_base = λ is. kept_others a.mixin ns is; primary_item = attributes.0; props = items.0; children = items.1 }, items.2) e4) e3) e2) e1) e
 
@@ -206,7 +206,7 @@ file_by false f new s u h e =
 
 file_kept : (s u : State) (f : File) → Left s → file_at s ≡ Ok (f, u) → FileRead f u
 file_kept s u f h e =
-    many_kept goes_on file_more FileRead s.pieces (record { prefixes = []; types = [] }) f s u
+    many_kept has_more file_more FileRead s.pieces (record { prefixes = []; types = [] }) f s u
     (λ old new t v r first more. file_by (sign_first sign.Less t.pieces) old new t v r more) (tt, tt, h) e
 
 types_printable : (ds : List PlacedType) → AllByRecursion (λ d. IsPrintableType d.definition) ds → AllByRecursion IsPrintableType (map (λ d. d.definition) ds)
@@ -232,9 +232,9 @@ record FileMeant (r : Read File) (c : Cnd) : Type 0 where
   pub file : File
   pub state : State
   pub read : r ≡ Ok (file, state)
-  pub meant : judged file ≡ Ok c
+  pub meant : judged_file file ≡ Ok c
 
-meant_by : (r : Read File) (c : Cnd) → ◌≡◌ {A = Result Cnd NoCnd} (elim r [ Ok x ↦ judged x.0 | Err offset ↦ Err (no.Syntax offset) ]) (Ok c) → FileMeant r c
+meant_by : (r : Read File) (c : Cnd) → ◌≡◌ {A = Result Cnd NoCnd} (elim r [ Ok x ↦ judged_file x.0 | Err offset ↦ Err (no.Syntax offset) ]) (Ok c) → FileMeant r c
 meant_by (Ok x) c e = record { file = x.0; state = x.1; read = refl; meant = e }
 meant_by (Err offset) c e = cc
 

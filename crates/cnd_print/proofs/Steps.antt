@@ -15,9 +15,9 @@ use Rattle.jr_value.specs.declared.value.Kind.{Kind}
 use Rattle.jr_value.specs.declared.value.Value.{Value}
 use Rattle.cnd_pieces.specs.Pieces.{ArePieces, IsDefault, IsNameOrNone, IsSaid, Means, after_text, after_word, content, context_after, is_behind_less, named_in, place_behind}
 use Rattle.cnd_print.specs.Printing.{is_bare_name, name_text, quoted}
-use Rattle.jr_cnd.specs.Reading.{State, bare_in, is_sign, name_in}
+use Rattle.jr_cnd.specs.Reading.{State, bare_in, is_sign, cnd_name_in}
 use Rattle.cnd_pieces.specs.Tokens.{first_token, gap_after, gap_from, gap_size, goes_on_bare, is_bare, is_space}
-use Rattle.cnd_pieces.specs.Words.{kind_named}
+use Rattle.cnd_pieces.specs.Words.{cnd_kind_named}
 use Rattle.cnd_pieces.specs.declared.context.Context.{Context}
 use Rattle.cnd_pieces.specs.declared.context.Context.TheVariants as context
 use Rattle.cnd_pieces.specs.declared.piece.Placed.{Placed}
@@ -185,7 +185,7 @@ calm_named None = refl
 calm_named (Some k) = refl
 
 pub calm_word : (c : Context) (w : List ℕ) → is_behind_less (after_word c w) ≡ false
-calm_word context.Opened w = calm_named (kind_named w)
+calm_word context.Opened w = calm_named (cnd_kind_named w)
 calm_word c w = refl
 
 pub calm_text : (c : Context) → is_behind_less (after_text c) ≡ false
@@ -197,7 +197,7 @@ pub record NameRead (n bs : List ℕ) (ps : List Placed) : Type 0 where
   pub first : Placed
   pub more : List Placed
   pub is : ps ≡ first ∷ more
-  pub name : name_in first.says ≡ Some n
+  pub name : cnd_name_in first.says ≡ Some n
   pub no_sign : (s : Sign) → is_sign s first.says ≡ false
   pub left : Ready bs more
 
@@ -212,7 +212,7 @@ name_by true c n all bs ps bare name stop e h =
       first = r.first;
       more = r.more;
       is = r.is;
-      name = ap name_in r.said;
+      name = ap cnd_name_in r.said;
       no_sign = λ s. ap (is_sign s) r.said;
       left = record { context = after_word c n; calm = calm_word c n; behind = r.left };
     }
@@ -222,7 +222,7 @@ name_by false c n all bs ps bare name stop e h =
       first = r.first;
       more = r.more;
       is = r.is;
-      name = ap name_in r.said ∙ the_name n r.name name r.is_name;
+      name = ap cnd_name_in r.said ∙ the_name n r.name name r.is_name;
       no_sign = λ s. ap (is_sign s) r.said;
       left = record { context = after_text c; calm = calm_text c; behind = r.left };
     }

@@ -50,14 +50,14 @@ abbrev pub continued : List (List ℕ) → List ℕ
 continued ts = flat_map (λ t. codes ", " ++ t) ts
 
 -- one behind another, with a comma and a space between
-abbrev pub listed : List (List ℕ) → List ℕ
-listed [] = []
-listed (t ∷ ts) = t ++ continued ts
+abbrev pub with_commas : List (List ℕ) → List ℕ
+with_commas [] = []
+with_commas (t ∷ ts) = t ++ continued ts
 
 -- a list behind a sign, or nothing
 abbrev pub list_behind : List ℕ → List (List ℕ) → List ℕ
 list_behind sign [] = []
-list_behind sign (t ∷ ts) = sign ++ listed (t ∷ ts)
+list_behind sign (t ∷ ts) = sign ++ with_commas (t ∷ ts)
 
 -- a word, where it is to stand
 abbrev pub word_if : Bool → List ℕ → List ℕ
@@ -139,7 +139,7 @@ name_behind word (Some n) = word ++ name_text n
 abbrev pub child_head : ChildDef → List ℕ
 child_head c =
     codes "+ " ++ item_name_text c.name
-    ++ codes " (" ++ listed (map name_text c.types) ++ codes ")"
+    ++ codes " (" ++ with_commas (map name_text c.types) ++ codes ")"
 
 -- the attributes of a child
 abbrev pub child_attributes : ChildDef → List ℕ

@@ -4,7 +4,7 @@ ghost use Rattle.jr_value.specs.Ranges.{IsReadable};
 ghost use Rattle.jr_value.specs.Texts.{IsText};
 ghost use Rattle.jr_value.specs.Values.{kind_of};
 ghost use Rattle.jr_value.specs.declared.value.Value.{Value};
-ghost use Rattle.jr_cnd.specs.Meaning.{IsAnswer, IsMeaning};
+ghost use Rattle.jr_cnd.specs.Meaning.{IsCndAnswer, IsMeaning};
 ghost use Rattle.cnd_pieces.specs.Pieces.{content};
 ghost use Rattle.cnd_print.specs.Printable.{IsPrintable};
 ghost use Rattle.cnd_print.specs.Printing.{cnd_text, is_bare_name, quoted, value_text};
@@ -49,6 +49,6 @@ pub fn canonical_texts_are_read_back()
     ensures means { (cnd : Cnd) (meant : Result Cnd NoCnd)
         → IsPrintable cnd → IsMeaning (cnd_text cnd) meant → meant ≡ Ok cnd }
     ensures answered { (cnd : Cnd) (answer : Result Cnd NoCnd)
-        → IsPrintable cnd → IsAnswer (cnd_text cnd) answer
+        → IsPrintable cnd → IsCndAnswer (cnd_text cnd) answer
         → (answer ≡ Ok cnd) ⊎ (answer ≡ Err NoCnd.Memory) }
 {}

@@ -3,7 +3,7 @@ ghost use Rattle.std.specs.Prelude.{◌≡◌, ◌++◌, IfOk, OnOk, codes, map,
 ghost use Rattle.std.specs.Fmt.{signed_decimal};
 ghost use Rattle.std.specs.List.{flat_map, list_all};
 ghost use Rattle.jr_value.specs.Words.{identifier_text};
-ghost use Rattle.cnd_print.specs.Printing.{child_attributes, child_head, child_text, cnd_text, continued, default_texts, escaped, escaped_character, is_bare_name, item_name_text, kind_word, list_behind, listed, name_behind, name_text, opv_part, prefix_text, prop_attributes, prop_head, prop_text, quoted, type_attributes, type_head, type_line, type_text, value_text, word_if};
+ghost use Rattle.cnd_print.specs.Printing.{child_attributes, child_head, child_text, cnd_text, continued, default_texts, escaped, escaped_character, is_bare_name, item_name_text, kind_word, list_behind, with_commas, name_behind, name_text, opv_part, prefix_text, prop_attributes, prop_head, prop_text, quoted, type_attributes, type_head, type_line, type_text, value_text, word_if};
 ghost use Rattle.cnd_pieces.specs.Tokens.{is_bare};
 
 use base64::engine::general_purpose::STANDARD;
@@ -79,7 +79,7 @@ fn put_name(out: &mut Text, name: &Name) -> Result<(), AllocError>
 
 // Names with commas between.
 fn put_names(out: &mut Text, names: &[Name]) -> Result<(), AllocError>
-    ensures { OnOk result (out.new ≡ out.old ++ listed (map name_text names.now)) }
+    ensures { OnOk result (out.new ≡ out.old ++ with_commas (map name_text names.now)) }
 {
     match names {
         [] => Ok(()),
@@ -108,7 +108,7 @@ fn put_one_more_name(out: &mut Text, name: &Name) -> Result<(), AllocError>
 
 // Texts in quotes with commas between.
 fn put_texts(out: &mut Text, texts: &[Text]) -> Result<(), AllocError>
-    ensures { OnOk result (out.new ≡ out.old ++ listed (map quoted texts.now)) }
+    ensures { OnOk result (out.new ≡ out.old ++ with_commas (map quoted texts.now)) }
 {
     match texts {
         [] => Ok(()),
@@ -217,7 +217,7 @@ fn put_identifier(alloc: Global, out: &mut Text, id: u128) -> Result<(), AllocEr
 
 // Values in quotes with commas between.
 fn put_values(alloc: Global, out: &mut Text, values: &[Value]) -> Result<(), AllocError>
-    ensures { OnOk result (out.new ≡ out.old ++ listed (default_texts values.now)) }
+    ensures { OnOk result (out.new ≡ out.old ++ with_commas (default_texts values.now)) }
 {
     match values {
         [] => Ok(()),

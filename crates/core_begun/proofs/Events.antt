@@ -28,7 +28,7 @@ use Rattle.oak_machine.specs.declared.event.Event.TheVariants as event
 use Rattle.oak_machine.specs.History.{Past}
 use Rattle.oak_machine.specs.Commits.{draw_of, is_in_base, is_in_flight, is_drawn, is_ended}
 use Rattle.oak_machine.specs.Runs.{MayCommit}
-use Rattle.core_read.specs.Holds.{has_revision, here_entry, prop_entry, root_entry, is_at_path, IsSameAt, IsSameBut, IsWhole, IsUndone}
+use Rattle.core_read.specs.Holds.{has_revision, here_entry, prop_entry, root_entry, is_at_path, IsSameAt, IsSameBut, IsEditWhole, IsUndone}
 use Rattle.core_read.specs.Told.{IsIn}
 use Rattle.core_read.specs.Committing.{IsUnwritten, IsPartly}
 use Rattle.core_read.specs.World.{Progress}
@@ -105,7 +105,7 @@ module _ (start : Start) where
     says : has_revision (Some d) r ≡ true
     says = last_said r root before op number at (names start ds past done world root) only
 
-    whole : IsWhole ds r ws root
+    whole : IsEditWhole ds r ws root
     whole = whole_of ds r ws root (done r) (world.partly r dr drawn may.open_.in_flight none) all
 
     edit_now : (q : Revision) → of_revision (falling_from later) q ≡ cond (eq_by_cmp revision_cmp q r) (Some ws) (edit_since past q)

@@ -28,7 +28,7 @@ use Rattle.oak_read.specs.Meaning.{latest}
 use Rattle.oak_read.specs.Shown.{with_previous}
 use Rattle.core_heads.proofs.Entries.{start_begun}
 use Rattle.core_read.specs.Holds.{has_revision, root_entry, the_start}
-use Rattle.core_read.specs.Start.{start_document, start_documents, system, versions}
+use Rattle.core_read.specs.Start.{start_document, start_documents, path_of_system, versions}
 use Rattle.core_read.specs.Told.{IsIn}
 use Rattle.core_read.proofs.Latest.{same_revision}
 use Rattle.core_read.proofs.Start.{start_whole}
@@ -41,7 +41,7 @@ use Rattle.core_begun.specs.Kept.{ShowsStart}
 abbrev node_chosen : Bool → Bool → Bool → Option Node
 node_chosen a b c =
     cond c (Some (typed_node (Some first_revision) (codes "nt:unstructured")))
-    (cond b (Some (typed_node (Some first_revision) (codes "rep:system")))
+    (cond b (Some (typed_node (Some first_revision) (codes "rep:path_of_system")))
     (cond a (Some (typed_node (Some first_revision) (codes "rep:versionStorage"))) None))
 
 dated_chosen : (a b c : Bool) → is_some (node_chosen a b c) ≡ is_some (born_of (node_chosen a b c))
@@ -53,14 +53,14 @@ dated_chosen false false false = refl
 pub initial_first : IsFirst initial_tree
 initial_first = record {
   tree = record { paths = refl; names = refl; root = refl; parents = refl };
-  dated = λ p. dated_chosen (eq_by_cmp path_cmp p versions) (eq_by_cmp path_cmp p system) (eq_by_cmp path_cmp p []);
+  dated = λ p. dated_chosen (eq_by_cmp path_cmp p versions) (eq_by_cmp path_cmp p path_of_system) (eq_by_cmp path_cmp p []);
 }
 
 module _ (s : RevVec) (seen : sees s the_start ≡ true) (v : RevVec) where
   -- the document, by which of the three paths it is
   abbrev chosen : Path → Bool → Bool → Bool → Option Document
   chosen p a b c =
-      cond a (Some (start_document v p (codes "rep:versionStorage"))) (cond b (Some (start_document v p (codes "rep:system"))) (cond c (Some (start_document v p (codes "nt:unstructured"))) None))
+      cond a (Some (start_document v p (codes "rep:versionStorage"))) (cond b (Some (start_document v p (codes "rep:path_of_system"))) (cond c (Some (start_document v p (codes "nt:unstructured"))) None))
 
   abbrev all_chosen : Path → Bool → Bool → Bool → List Document
   all_chosen p a b c = option_map_or (with_previous (start_documents v) p) (chosen p a b c) []
@@ -94,14 +94,14 @@ module _ (s : RevVec) (seen : sees s the_start ≡ true) (v : RevVec) where
   none_shown p n false false false h k l = refl
 
   prop_shown : (p : Path) (n : Name) → Shown p n
-  prop_shown p n = by (eq_by_cmp path_cmp p versions) (eq_by_cmp path_cmp p system) (eq_by_cmp path_cmp p []) refl refl refl
+  prop_shown p n = by (eq_by_cmp path_cmp p versions) (eq_by_cmp path_cmp p path_of_system) (eq_by_cmp path_cmp p []) refl refl refl
     where
       typed : Bool
       typed = eq_by_cmp name_cmp n (codes "jcr:primaryType")
 
-      by : (a b c : Bool) → eq_by_cmp path_cmp p versions ≡ a → eq_by_cmp path_cmp p system ≡ b → eq_by_cmp path_cmp p [] ≡ c → Shown p n
+      by : (a b c : Bool) → eq_by_cmp path_cmp p versions ≡ a → eq_by_cmp path_cmp p path_of_system ≡ b → eq_by_cmp path_cmp p [] ≡ c → Shown p n
       by true b c h k l = subst (λ (x : Path). Shown x n) (sym (same_path p versions h)) (value_shown (codes "rep:versionStorage") typed)
-      by false true c h k l = subst (λ (x : Path). Shown x n) (sym (same_path p system k)) (value_shown (codes "rep:system") typed)
+      by false true c h k l = subst (λ (x : Path). Shown x n) (sym (same_path p path_of_system k)) (value_shown (codes "rep:path_of_system") typed)
       by false false true h k l = subst (λ (x : Path). Shown x n) (sym (same_path p [] l)) (value_shown (codes "nt:unstructured") typed)
       by false false false h k l = none_shown p n _ _ _ h k l
 
@@ -124,7 +124,7 @@ module _ (s : RevVec) (seen : sees s the_start ≡ true) (v : RevVec) where
 
   no_prop : (p : Path) (n : Name) (r : Revision) → eq_by_cmp revision_cmp r the_start ≡ false → (a b c : Bool) → of_revision (values_in n (all_chosen p a b c)) r ≡ None
   no_prop p n r h true b c = no_value (codes "rep:versionStorage") n r h (eq_by_cmp name_cmp n (codes "jcr:primaryType"))
-  no_prop p n r h false true c = no_value (codes "rep:system") n r h (eq_by_cmp name_cmp n (codes "jcr:primaryType"))
+  no_prop p n r h false true c = no_value (codes "rep:path_of_system") n r h (eq_by_cmp name_cmp n (codes "jcr:primaryType"))
   no_prop p n r h false false true = no_value (codes "nt:unstructured") n r h (eq_by_cmp name_cmp n (codes "jcr:primaryType"))
   no_prop p n r h false false false = refl
 
@@ -146,12 +146,12 @@ module _ (s : RevVec) (seen : sees s the_start ≡ true) (v : RevVec) where
   pub first_shown : ShowsStart (record { tree = initial_tree; at = s }) (start_documents v)
   first_shown = record {
     first = initial_first;
-    node = λ p. node_shown p (eq_by_cmp path_cmp p versions) (eq_by_cmp path_cmp p system) (eq_by_cmp path_cmp p []);
+    node = λ p. node_shown p (eq_by_cmp path_cmp p versions) (eq_by_cmp path_cmp p path_of_system) (eq_by_cmp path_cmp p []);
     prop = prop_shown;
-    of_node = λ p r h. no_node p r (other r h) (eq_by_cmp path_cmp p versions) (eq_by_cmp path_cmp p system) (eq_by_cmp path_cmp p []);
-    of_prop = λ p n r h. no_prop p n r (other r h) (eq_by_cmp path_cmp p versions) (eq_by_cmp path_cmp p system) (eq_by_cmp path_cmp p []);
-    unsaid = λ p r h. no_status p r (eq_by_cmp path_cmp p versions) (eq_by_cmp path_cmp p system) (eq_by_cmp path_cmp p []);
-    no_root = λ p r h. rootless p r (eq_by_cmp path_cmp p versions) (eq_by_cmp path_cmp p system) (eq_by_cmp path_cmp p []);
+    of_node = λ p r h. no_node p r (other r h) (eq_by_cmp path_cmp p versions) (eq_by_cmp path_cmp p path_of_system) (eq_by_cmp path_cmp p []);
+    of_prop = λ p n r h. no_prop p n r (other r h) (eq_by_cmp path_cmp p versions) (eq_by_cmp path_cmp p path_of_system) (eq_by_cmp path_cmp p []);
+    unsaid = λ p r h. no_status p r (eq_by_cmp path_cmp p versions) (eq_by_cmp path_cmp p path_of_system) (eq_by_cmp path_cmp p []);
+    no_root = λ p r h. rootless p r (eq_by_cmp path_cmp p versions) (eq_by_cmp path_cmp p path_of_system) (eq_by_cmp path_cmp p []);
     named = λ p d here. (start_whole v p d here).1;
     previous = λ p d here e i. absurd (unlisted p d here e i);
     numbers = λ p d here e i. absurd (unlisted p d here e i);

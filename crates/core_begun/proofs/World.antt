@@ -25,7 +25,7 @@ use Rattle.oak_read.specs.Meaning.{Documents}
 use Rattle.oak_machine.specs.declared.event.Draw.{Draw}
 use Rattle.oak_machine.specs.History.{Past}
 use Rattle.oak_machine.specs.Commits.{draw_of, is_in_base, is_in_flight, is_ended}
-use Rattle.core_read.specs.Holds.{the_start, has_revision, here_entry, prop_entry, root_entry, is_at_path, IsWrite, IsSameAt, IsSameBut, IsWhole, IsUndone}
+use Rattle.core_read.specs.Holds.{the_start, has_revision, here_entry, prop_entry, root_entry, is_at_path, IsWrite, IsSameAt, IsSameBut, IsEditWhole, IsUndone}
 use Rattle.core_read.specs.Writes.{is_entry_of, IsOrderedDocument}
 use Rattle.core_read.specs.Committing.{is_marking, IsWriteOp, IsWrittenAt, IsUnwritten, IsPartly}
 use Rattle.core_read.specs.World.{Progress}

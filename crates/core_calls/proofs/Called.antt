@@ -23,7 +23,7 @@ use Rattle.core_heads.proofs.Stays.{tree_at_base_stays}
 use Rattle.jcr_trans.specs.declared.command.Command.{Command}
 use Rattle.jcr_law.specs.declared.law.JcrLaw.{JcrLaw}
 use Rattle.jcr_law.specs.declared.state.State.{State}
-use Rattle.jcr_law.specs.State.{Call, answered, base_tree, call_at, call_of, command_at, is_ok_text, moved, new_state, replied, state_of}
+use Rattle.jcr_law.specs.State.{Call, state_answered, base_tree, call_at, call_of, command_at, is_ok_text, moved, new_state, state_replied, session_state}
 use Rattle.jcr_law.specs.Passing.{state_stays}
 use Rattle.jcr_law.specs.Starting.{call_based, call_has_base}
 use Rattle.jcr_law.specs.Calls.{call_after, call_moved}
@@ -49,7 +49,7 @@ module _ (law : JcrLaw) (begin : Begin) where
   -- ---- a call is made at the base
 
   abbrev at : Past → ℕ → RevVec → Call
-  at past s v = call_at law begin past s v (state_of law begin past s)
+  at past s v = call_at law begin past s v (session_state law begin past s)
 
   -- the base of a call, and the call at it
   by_base : (past : Past) (s : ℕ) (c : Call) → call_of law begin past s ≡ Some c → (v : RevVec) × (base_of past s ≡ Some v) × (at past s v ≡ c)
@@ -65,13 +65,13 @@ module _ (law : JcrLaw) (begin : Begin) where
       ≡ Some (call_at law begin past s v (state_at_login begin (tree_at begin past v)))
   login_call past s v =
       ap (option_map (at (event.Login s v ∷ past) s)) (own s (Some v) (base_of past s))
-      ∙ ap (λ (x : State). Some (call_at law begin past s v x)) (own s (state_at_login begin (tree_at begin past v)) (state_of law begin past s))
+      ∙ ap (λ (x : State). Some (call_at law begin past s v x)) (own s (state_at_login begin (tree_at begin past v)) (session_state law begin past s))
 
   pub refresh_call : (past : Past) (s : ℕ) (v : RevVec) (c : Call) → call_of law begin past s ≡ Some c
       → call_of law begin (event.Refresh s v ∷ past) s ≡ Some (call_moved c v (tree_at begin past v))
   refresh_call past s v c is =
       let b = by_base past s c is in
-      let old : State = state_of law begin past s in
+      let old : State = session_state law begin past s in
       ap (option_map (at (event.Refresh s v ∷ past) s)) (own s (Some v) (base_of past s))
       ∙ (ap (λ (x : State). Some (call_at law begin past s v x)) (own s (moved (option_map_or (tree_at begin past) (base_of past s) (begin_tree begin)) (tree_at begin past v) old) old)
       ∙ (ap (λ (o : Option RevVec). Some (call_at law begin past s v (moved (option_map_or (tree_at begin past) o (begin_tree begin)) (tree_at begin past v) old))) b.1
@@ -81,7 +81,7 @@ module _ (law : JcrLaw) (begin : Begin) where
       → call_of law begin (event.Attach s id ∷ past) s ≡ Some (call_moved c v (tree_at begin past v))
   attach_call past s id v c there is =
       let b = by_base past s c is in
-      let old : State = state_of law begin past s in
+      let old : State = session_state law begin past s in
       let on : base_of (event.Attach s id ∷ past) s ≡ Some v = own s (last_checkpoint past id) (base_of past s) ∙ there in
       ap (option_map (at (event.Attach s id ∷ past) s)) on
       ∙ (ap (λ (x : State). Some (call_at law begin past s v x)) (own s (moved (base_tree begin past s) (base_tree begin (event.Attach s id ∷ past) s) old) old)
@@ -95,16 +95,16 @@ module _ (law : JcrLaw) (begin : Begin) where
       let b = by_base past s c is in
       let ok : Bool = is_ok_text text in
       let drew : Bool = is_some (drawn_since past s) in
-      let old : State = state_of law begin past s in
+      let old : State = session_state law begin past s in
       ap (option_map (at (event.Said s i text ∷ past) s)) b.1
-      ∙ (ap (λ (x : State). Some (call_at law begin past s b.0 x)) (own s (replied law begin past s i text old) old)
-      ∙ (ap (λ (o : Option Command). Some (call_at law begin past s b.0 (option_map_or (λ n. option_map_or (λ w. answered ok drew (call_at law begin past s w old) n) (base_of past s) old) o old))) command
-      ∙ (ap (λ (o : Option RevVec). Some (call_at law begin past s b.0 (option_map_or (λ w. answered ok drew (call_at law begin past s w old) m) o old))) b.1
+      ∙ (ap (λ (x : State). Some (call_at law begin past s b.0 x)) (own s (state_replied law begin past s i text old) old)
+      ∙ (ap (λ (o : Option Command). Some (call_at law begin past s b.0 (option_map_or (λ n. option_map_or (λ w. state_answered ok drew (call_at law begin past s w old) n) (base_of past s) old) o old))) command
+      ∙ (ap (λ (o : Option RevVec). Some (call_at law begin past s b.0 (option_map_or (λ w. state_answered ok drew (call_at law begin past s w old) m) o old))) b.1
       ∙ ap (λ (x : Call). Some (call_after ok drew x m)) b.2)))
 
   -- ---- other events
 
-  pub state_same : (added past : Past) (s : ℕ) → list_any (is_calling s) added ≡ false → state_of law begin (added ++ past) s ≡ state_of law begin past s
+  pub state_same : (added past : Past) (s : ℕ) → list_any (is_calling s) added ≡ false → session_state law begin (added ++ past) s ≡ session_state law begin past s
   state_same [] past s h = refl
   state_same (event.Login t v ∷ added) past s h = let n = neither (t == s) _ h in other (t == s) _ _ _ n.0 (state_same added past s n.1)
   state_same (event.Refresh t v ∷ added) past s h = let n = neither (t == s) _ h in other (t == s) _ _ _ n.0 (state_same added past s n.1)
@@ -127,8 +127,8 @@ module _ (law : JcrLaw) (begin : Begin) where
 
   -- ---- before a login
 
-  pub unbegun : (past : Past) (s : ℕ) → list_any (is_event_of past s) past ≡ false → state_of law begin past s ≡ new_state begin
-  unbegun past s h = subst (λ (p : Past). state_of law begin p s ≡ new_state begin) (nothing_behind past) (state_stays law begin past past [] s h)
+  pub unbegun : (past : Past) (s : ℕ) → list_any (is_event_of past s) past ≡ false → session_state law begin past s ≡ new_state begin
+  unbegun past s h = subst (λ (p : Past). session_state law begin p s ≡ new_state begin) (nothing_behind past) (state_stays law begin past past [] s h)
     where
       nothing_behind : (a : Past) → a ++ [] ≡ a
       nothing_behind [] = refl
@@ -156,24 +156,24 @@ module _ (law : JcrLaw) (begin : Begin) where
     unbased (e ∷ past) s run out none = unbased past s run.1 (neither (is_login_of s e) _ out).1 (neither (is_attach_of s e) _ none).1
 
     -- without a base the state is that of a new session
-    pub state_new : (past : Past) (s : ℕ) → IsRunOf starts says clusters sessions begin past → base_of past s ≡ None → state_of law begin past s ≡ new_state begin
+    pub state_new : (past : Past) (s : ℕ) → IsRunOf starts says clusters sessions begin past → base_of past s ≡ None → session_state law begin past s ≡ new_state begin
     state_new [] s run none = refl
     state_new (event.Login t v ∷ past) s run none =
-        unlike (t == s) v (base_of past s) (state_at_login begin (tree_at begin past v)) (state_of law begin past s) none (state_new past s run.1)
+        unlike (t == s) v (base_of past s) (state_at_login begin (tree_at begin past v)) (session_state law begin past s) none (state_new past s run.1)
     state_new (event.Refresh t v ∷ past) s run none =
-        unlike (t == s) v (base_of past s) (moved (base_tree begin past s) (tree_at begin past v) (state_of law begin past s))
-        (state_of law begin past s) none (state_new past s run.1)
+        unlike (t == s) v (base_of past s) (moved (base_tree begin past s) (tree_at begin past v) (session_state law begin past s))
+        (session_state law begin past s) none (state_new past s run.1)
     state_new (event.Attach t id ∷ past) s run none =
         let kept = some_of (kept_checkpoint past id) run.0.0 in
         let last = kept_last past id kept.0 kept.1 in
-        unlike (t == s) kept.0 (base_of past s) (moved (base_tree begin past s) (base_tree begin (event.Attach t id ∷ past) s) (state_of law begin past s))
-        (state_of law begin past s) (sym (ap (λ (o : Option RevVec). cond (t == s) o (base_of past s)) last) ∙ none) (state_new past s run.1)
+        unlike (t == s) kept.0 (base_of past s) (moved (base_tree begin past s) (base_tree begin (event.Attach t id ∷ past) s) (session_state law begin past s))
+        (session_state law begin past s) (sym (ap (λ (o : Option RevVec). cond (t == s) o (base_of past s)) last) ∙ none) (state_new past s run.1)
     state_new (event.Said t i text ∷ past) s run none =
-        let old : State = state_of law begin past s in
-        ap (λ (o : Option RevVec). cond (t == s) (option_map_or (λ n. option_map_or (λ w. answered (is_ok_text text) (is_some (drawn_since past s)) (call_at law begin past s w old) n) o old) (command_at law s i) old) old) none
+        let old : State = session_state law begin past s in
+        ap (λ (o : Option RevVec). cond (t == s) (option_map_or (λ n. option_map_or (λ w. state_answered (is_ok_text text) (is_some (drawn_since past s)) (call_at law begin past s w old) n) o old) (command_at law s i) old) old) none
         ∙ (by (t == s) (command_at law s i) ∙ state_new past s run.1 none)
       where
-        by : (b : Bool) (o : Option Command) → cond b (option_map_or (λ n. state_of law begin past s) o (state_of law begin past s)) (state_of law begin past s) ≡ state_of law begin past s
+        by : (b : Bool) (o : Option Command) → cond b (option_map_or (λ n. session_state law begin past s) o (session_state law begin past s)) (session_state law begin past s) ≡ session_state law begin past s
         by true None = refl
         by true (Some m) = refl
         by false o = refl
@@ -187,6 +187,6 @@ module _ (law : JcrLaw) (begin : Begin) where
           ∙ (ap (λ (x : State). option_map (λ v. call_at law begin (added ++ past) s v x) (base_of past s)) (state_same added past s h)
           ∙ by (base_of past s) refl)
         where
-          by : (o : Option RevVec) → base_of past s ≡ o → option_map (λ v. call_at law begin (added ++ past) s v (state_of law begin past s)) o ≡ option_map (at past s) o
+          by : (o : Option RevVec) → base_of past s ≡ o → option_map (λ v. call_at law begin (added ++ past) s v (session_state law begin past s)) o ≡ option_map (at past s) o
           by None e = refl
           by (Some v) e = ap (λ (t : Nodes). Some (record (at past s v) { base = t })) (tree_at_base_stays clusters sessions nodes begin starts says s added past run v e)

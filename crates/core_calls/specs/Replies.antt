@@ -3,6 +3,6 @@ use Rattle.std.specs.Prelude.{Bool, false, true}
 use Rattle.jcr_trans.specs.Answers.{Answer, Refused}
 
 -- the answer refuses; each other one accepts
-abbrev pub is_refusal : Answer → Bool
-is_refusal (Refused n ds) = true
-is_refusal _ = false
+abbrev pub is_refusing : Answer → Bool
+is_refusing (Refused n ds) = true
+is_refusing _ = false

@@ -14,7 +14,7 @@ ghost use Rattle.jcr_trans.specs.declared.command.Command.{Command};
 ghost use Rattle.jcr_law.specs.declared.law.JcrLaw.{JcrLaw};
 ghost use Rattle.jcr_law.specs.Growing.{HasAllOf};
 ghost use Rattle.jcr_law.specs.Lasting.{says_of, starts_of};
-ghost use Rattle.jcr_law.specs.State.{Call, call_at, call_of, command_at, is_ok_text, new_state, state_of};
+ghost use Rattle.jcr_law.specs.State.{Call, call_at, call_of, command_at, is_ok_text, new_state, session_state};
 ghost use Rattle.jcr_law.specs.Calls.{call_after, call_moved};
 ghost use Rattle.core_calls.specs.Events.{is_attach_of, is_calling, state_at_login};
 ghost use Rattle.core_calls.specs.Seeing.{SeesTrees};
@@ -26,10 +26,10 @@ pub fn calls_are_at_bases()
         → call_of law begin past s ≡ Some c → base_of past s ≡ Some c.who.base }
     ensures call { (law : JcrLaw) (begin : Begin) (past : Past) (s : ℕ) (c : Call)
         → call_of law begin past s ≡ Some c
-        → c ≡ call_at law begin past s c.who.base (state_of law begin past s) }
+        → c ≡ call_at law begin past s c.who.base (session_state law begin past s) }
     ensures called { (law : JcrLaw) (begin : Begin) (past : Past) (s : ℕ) (v : RevVec)
         → base_of past s ≡ Some v
-        → call_of law begin past s ≡ Some (call_at law begin past s v (state_of law begin past s)) }
+        → call_of law begin past s ≡ Some (call_at law begin past s v (session_state law begin past s)) }
 {}
 
 /// Where sessions see trees, a call is on a tree.
@@ -44,9 +44,9 @@ pub fn calls_are_on_trees()
 pub fn sessions_begin_new()
     ensures unbegun { (law : JcrLaw) (begin : Begin) (past : Past) (s : ℕ)
         → IsFalse (list_any (is_event_of past s) past)
-        → state_of law begin past s ≡ new_state begin }
+        → session_state law begin past s ≡ new_state begin }
     ensures unbased { (law : JcrLaw) (h : History) (s : ℕ) → IsRun (starts_of law) (says_of law) h
-        → base_of h.past s ≡ None → state_of law h.begin h.past s ≡ new_state h.begin }
+        → base_of h.past s ≡ None → session_state law h.begin h.past s ≡ new_state h.begin }
     ensures outside { (law : JcrLaw) (h : History) (s : ℕ) → IsRun (starts_of law) (says_of law) h
         → IsFalse (has_login h.past s) → IsFalse (list_any (is_attach_of s) h.past)
         → base_of h.past s ≡ None }

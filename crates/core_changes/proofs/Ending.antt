@@ -14,7 +14,7 @@ use Rattle.jr_path.specs.declared.path.DocId.TheVariants as id
 use Rattle.jr_rev.specs.declared.vector.RevVec.{RevVec}
 use Rattle.jr_rev.specs.declared.vector.Pin.{Pin}
 use Rattle.jr_tree.specs.declared.shared.CommitChanges.{CommitChanges}
-use Rattle.oak_changes.specs.Reading.{changes_reader, due, fed, fed_next, on_main, on_previous, on_roots, with_document}
+use Rattle.oak_changes.specs.Reading.{changes_reader, due, fed, fed_next, changes_on_main, changes_on_previous, changes_on_roots, with_document}
 use Rattle.oak_changes.specs.declared.changes.ChangesReader.{ChangesReader}
 use Rattle.oak_changes.specs.declared.changes.Step.{Step}
 use Rattle.oak_changes.specs.declared.changes.Step.TheVariants as step
@@ -31,7 +31,7 @@ use Rattle.core_watch.specs.Instants.{first_instants, Instant}
 use Rattle.core_watch.specs.Moments.{HasIdsAmong, Moment}
 use Rattle.core_changes.proofs.Instants.{observing_done}
 use Rattle.oak_machine.specs.declared.event.Start.{Start}
-use Rattle.core_changes.specs.Instants.{after_instants, AreObservable, EndsWith}
+use Rattle.core_changes.specs.Instants.{after_instants, AreObservable, ChangesEndWith}
 
 -- ---- what a step lowers
 
@@ -88,20 +88,20 @@ module _ (ids : List DocId) where
     abbrev IsAt : ℕ → ChangesReader → Type 0
     IsAt p r' = (ahead r' ≡ behind_of ids (id.Node at)) × (phase r'.step < p)
 
-    roots_at : (p : ℕ) (known : Known) (said : List Said) (s : Step) → 1 < p → IsAt p (on_roots (reader known said s))
+    roots_at : (p : ℕ) (known : Known) (said : List Said) (s : Step) → 1 < p → IsAt p (changes_on_roots (reader known said s))
     roots_at p known said s h = (refl, h)
 
-    previous_at : (p : ℕ) (known : Known) (said : List Said) (s : Step) → 2 < p → IsAt p (on_previous (reader known said s))
+    previous_at : (p : ℕ) (known : Known) (said : List Said) (s : Step) → 2 < p → IsAt p (changes_on_previous (reader known said s))
     previous_at p known said s h = by (left_of (roots_wanted pin.sweep pin.base known true at))
       where
-        by : (o : Option Left) → IsAt p (option_map_or (λ left. record (reader known said s) { step = step.Roots left }) o (on_roots (reader known said s)))
+        by : (o : Option Left) → IsAt p (option_map_or (λ left. record (reader known said s) { step = step.Roots left }) o (changes_on_roots (reader known said s)))
         by None = roots_at p known said s (omega (arith, h))
         by (Some left) = (refl, h)
 
-    main_at : (p : ℕ) (known : Known) (said : List Said) (s : Step) → 3 < p → IsAt p (on_main (reader known said s))
+    main_at : (p : ℕ) (known : Known) (said : List Said) (s : Step) → 3 < p → IsAt p (changes_on_main (reader known said s))
     main_at p known said s h = by (left_of (previous_wanted known at))
       where
-        by : (o : Option Left) → IsAt p (option_map_or (λ left. record (reader known said s) { step = step.Previous left }) o (on_previous (reader known said s)))
+        by : (o : Option Left) → IsAt p (option_map_or (λ left. record (reader known said s) { step = step.Previous left }) o (changes_on_previous (reader known said s)))
         by None = previous_at p known said s (omega (arith, h))
         by (Some left) = (refl, h)
 
@@ -111,7 +111,7 @@ module _ (ids : List DocId) where
         now : Known
         now = with_known known left.first (documents_in m.table left.first)
 
-        by : (es : Ids) → left.rest ≡ es → Descends (reader known said (step.Previous left)) (option_map_or (λ more. record (reader now said (step.Previous left)) { step = step.Previous more }) (left_of es) (on_previous (reader now said (step.Previous left))))
+        by : (es : Ids) → left.rest ≡ es → Descends (reader known said (step.Previous left)) (option_map_or (λ more. record (reader now said (step.Previous left)) { step = step.Previous more }) (left_of es) (changes_on_previous (reader now said (step.Previous left))))
         by [] is = let h = previous_at 3 now said (step.Previous left) (omega arith) in inr (inr (h.0, inl h.1))
         by (e ∷ es) is = inr (inr (refl, inr (refl, subst (λ (xs : Ids). length es < length xs) (sym is) (shorter e es))))
 
@@ -121,7 +121,7 @@ module _ (ids : List DocId) where
         now : Known
         now = with_known known left.first (documents_in m.table left.first)
 
-        by : (es : Ids) → left.rest ≡ es → Descends (reader known said (step.Roots left)) (option_map_or (λ more. record (reader now said (step.Roots left)) { step = step.Roots more }) (left_of es) (on_roots (reader now said (step.Roots left))))
+        by : (es : Ids) → left.rest ≡ es → Descends (reader known said (step.Roots left)) (option_map_or (λ more. record (reader now said (step.Roots left)) { step = step.Roots more }) (left_of es) (changes_on_roots (reader now said (step.Roots left))))
         by [] is = let h = roots_at 2 now said (step.Roots left) (omega arith) in inr (inr (h.0, inl h.1))
         by (e ∷ es) is = inr (inr (refl, inr (refl, subst (λ (xs : Ids). length es < length xs) (sym is) (shorter e es))))
 
@@ -241,7 +241,7 @@ done_with (step.Roots left) done = absurd done
 
 -- with what the commits change
 pub changes_at_end : (start : Start) (ids : List DocId) (a : Global) (from : RevVec) (pin : Pin) (i : Instant) (f : ℕ → Instant) → ((n : ℕ) → AreObservable start from pin i (first_instants n f)) → ((n : ℕ) → HasIdsAmong ids (f n).moment)
-    → EndsWith (λ o. o ≡ changes_between (Some start) i.moment.past from pin.base) f (changes_reader a from pin)
+    → ChangesEndWith (λ o. o ≡ changes_between (Some start) i.moment.past from pin.base) f (changes_reader a from pin)
 changes_at_end start ids a from pin i f on are =
     let e = ends ids f (changes_reader a from pin) are in
     let o = done_with (after_instants (first_instants e.0 f) (changes_reader a from pin)).step e.1 in

@@ -7,7 +7,7 @@ use Rattle.jr_path.specs.declared.path.DocId.TheVariants as id
 use Rattle.jr_rev.specs.declared.vector.RevVec.{RevVec}
 use Rattle.jr_rev.specs.declared.vector.Pin.{Pin}
 use Rattle.jr_tree.specs.declared.shared.CommitChanges.{CommitChanges}
-use Rattle.oak_changes.specs.Reading.{changes_reader, due, fed, noted, on_main, on_previous, on_roots, with_document}
+use Rattle.oak_changes.specs.Reading.{changes_reader, due, fed, noted, changes_on_main, changes_on_previous, changes_on_roots, with_document}
 use Rattle.oak_changes.specs.declared.changes.ChangesReader.{ChangesReader}
 use Rattle.oak_changes.specs.declared.changes.Step.{Step}
 use Rattle.oak_changes.specs.declared.changes.Step.TheVariants as step
@@ -20,7 +20,7 @@ use Rattle.oak_read.specs.Meaning.{Documents, documents_in}
 use Rattle.oak_read.specs.Reading.{answer, IsTable}
 use Rattle.oak_read.specs.Wanted.{left_of, previous_wanted, roots_wanted}
 use Rattle.oak_read.specs.declared.wanted.Left.{Left}
-use Rattle.core_keep.specs.Formers.{AreFormers, Formers, Grows}
+use Rattle.core_keep.specs.Formers.{AreFormers, Formers, FormersGrow}
 use Rattle.core_keep.specs.From.{course_from}
 use Rattle.core_begun.specs.Kept.{IsKeptSince}
 use Rattle.core_read.specs.World.{Progress}
@@ -37,25 +37,25 @@ use Rattle.oak_machine.specs.declared.event.Start.{Start}
 abbrev IsSame : ChangesReader → ChangesReader → Type 0
 IsSame r q = (q.from ≡ r.from) × (q.pin ≡ r.pin)
 
-previous_keeps : (r : ChangesReader) → IsSame r (on_previous r)
+previous_keeps : (r : ChangesReader) → IsSame r (changes_on_previous r)
 previous_keeps r = by (left_of (roots_wanted r.pin.sweep r.pin.base r.known true r.at))
   where
-    by : (o : Option Left) → IsSame r (option_map_or (λ left. record r { step = step.Roots left }) o (on_roots r))
+    by : (o : Option Left) → IsSame r (option_map_or (λ left. record r { step = step.Roots left }) o (changes_on_roots r))
     by None = (refl, refl)
     by (Some left) = (refl, refl)
 
-main_keeps : (r : ChangesReader) → IsSame r (on_main r)
+main_keeps : (r : ChangesReader) → IsSame r (changes_on_main r)
 main_keeps r = by (left_of (previous_wanted r.known r.at))
   where
-    by : (o : Option Left) → IsSame r (option_map_or (λ left. record r { step = step.Previous left }) o (on_previous r))
+    by : (o : Option Left) → IsSame r (option_map_or (λ left. record r { step = step.Previous left }) o (changes_on_previous r))
     by None = previous_keeps r
     by (Some left) = (refl, refl)
 
-previous_left : (r : ChangesReader) (o : Option Left) → IsSame r (option_map_or (λ more. record r { step = step.Previous more }) o (on_previous r))
+previous_left : (r : ChangesReader) (o : Option Left) → IsSame r (option_map_or (λ more. record r { step = step.Previous more }) o (changes_on_previous r))
 previous_left r None = previous_keeps r
 previous_left r (Some left) = (refl, refl)
 
-roots_left : (r : ChangesReader) (o : Option Left) → IsSame r (option_map_or (λ more. record r { step = step.Roots more }) o (on_roots r))
+roots_left : (r : ChangesReader) (o : Option Left) → IsSame r (option_map_or (λ more. record r { step = step.Roots more }) o (changes_on_roots r))
 roots_left r None = (refl, refl)
 roots_left r (Some left) = (refl, refl)
 
@@ -95,7 +95,7 @@ module _ (start : Start) where
       → IsObserving start (documents_in table) past formers r → IsObserving start (documents_in table) past formers (fed r (answer table (due r)))
   observing_feeds table past formers done r is world held lists writing reads = feed_step start table is past formers done r.alloc r.from r.pin world held lists writing r.at r.known r.said r.step reads
 
-  pub observing_lasts : (formers more : Formers) (ds now : Documents) (past later : Past) (done : Progress) (r : ChangesReader) → IsKeptSince start now later done → AreHeld start later r.from r.pin → ObservesOn start r.from r.pin ds now past later → Grows formers more → IsObserving start ds past formers r → IsObserving start now later more r
+  pub observing_lasts : (formers more : Formers) (ds now : Documents) (past later : Past) (done : Progress) (r : ChangesReader) → IsKeptSince start now later done → AreHeld start later r.from r.pin → ObservesOn start r.from r.pin ds now past later → FormersGrow formers more → IsObserving start ds past formers r → IsObserving start now later more r
   observing_lasts formers more ds now past later done r world held on grows reads = stands_last start formers more ds now past later done world r.from r.pin held on grows r.at r.known r.said r.step reads
 
   pub observing_gives : (ds : Documents) (past : Past) (formers : Formers) (r : ChangesReader) (o : List CommitChanges) → IsObserving start ds past formers r → r.step ≡ step.Done o → o ≡ changes_between (Some start) past r.from r.pin.base

@@ -20,7 +20,7 @@ use Rattle.oak_machine.specs.History.{begin_tree, Past}
 use Rattle.oak_read.specs.Meaning.{Documents}
 use Rattle.oak_read.specs.Wanted.{Ids, Known}
 use Rattle.core_keep.proofs.Item.{and_both}
-use Rattle.core_keep.specs.Formers.{Formers, Grows}
+use Rattle.core_keep.specs.Formers.{Formers, FormersGrow}
 use Rattle.core_begun.specs.Kept.{IsKeptSince}
 use Rattle.core_keep.specs.Readers.{look_on}
 use Rattle.core_read.proofs.Entries.{same_lists}
@@ -34,7 +34,7 @@ use Rattle.core_changes.proofs.Grouping.{kept_at, sorted_kept}
 use Rattle.core_changes.proofs.Telling.{between_back, itself_between, shown_lasts, stays, tells_on}
 use Rattle.core_changes.specs.Between.{change_of, is_new, IsChange}
 use Rattle.core_changes.specs.Instants.{AreHeld}
-use Rattle.core_changes.specs.Observing.{AreSaid, AreSaying, IsAsking, IsRooted, is_before_node, is_up_to_node, ObservesOn, Stands}
+use Rattle.core_changes.specs.Observing.{AreSaid, AreSaying, IsAskingChanges, AreChangeRootsAsked, is_before_node, is_up_to_node, ObservesOn, Stands}
 use Rattle.oak_machine.specs.declared.event.Start.{Start}
 
 module _ (start : Start) where
@@ -89,7 +89,7 @@ module _ (start : Start) where
       all = λ s c h. are.all s (change_then from s c) h;
     }
 
-  module _ (formers more : Formers) (ds now : Documents) (past later : Past) (done : Progress) (world : IsKeptSince start now later done) (from : RevVec) (pin : Pin) (held : AreHeld start later from pin) (on : ObservesOn start from pin ds now past later) (grows : Grows formers more) where
+  module _ (formers more : Formers) (ds now : Documents) (past later : Past) (done : Progress) (world : IsKeptSince start now later done) (from : RevVec) (pin : Pin) (held : AreHeld start later from pin) (on : ObservesOn start from pin ds now past later) (grows : FormersGrow formers more) where
     abbrev to : RevVec
     to = pin.base
 
@@ -105,7 +105,7 @@ module _ (start : Start) where
     saying_lasts : (known : Known) → AreSaying ds to t known → AreSaying now to t known
     saying_lasts known saying = record { rising = saying.rising; said = λ p d h q seen unswept k. saying.said p d h q seen unswept ((on.reads to (between_back start from pin ds now past later on to (itself_between start later from pin held))).silent p q seen unswept k) }
 
-    asking_lasts : (known : Known) (left : Ids) (p : Path) → IsAsking start ds past formers from to t known left p → IsAsking start now later more from to t known left p
+    asking_lasts : (known : Known) (left : Ids) (p : Path) → IsAskingChanges start ds past formers from to t known left p → IsAskingChanges start now later more from to t known left p
     asking_lasts known left p asking = record {
       document = asking.document;
       there = asking.there;
@@ -117,7 +117,7 @@ module _ (start : Start) where
       listed = λ e i. let l = asking.listed e i in (l.0, grows p e.number l.0 l.1, shown_lasts start ds now past later done world from pin held on p asking.document (is_asked left p) asking.look asking.tells l.0 l.2);
     }
 
-    rooted_lasts : (known : Known) (left : Ids) (p : Path) → IsRooted start ds past from to t known left p → IsRooted start now later from to t known left p
+    rooted_lasts : (known : Known) (left : Ids) (p : Path) → AreChangeRootsAsked start ds past from to t known left p → AreChangeRootsAsked start now later from to t known left p
     rooted_lasts known left p rooted = record {
       document = rooted.document;
       there = rooted.there;

@@ -25,7 +25,7 @@ use Rattle.jr_rev.specs.declared.vector.Pin.{Pin}
 use Rattle.jr_rev.specs.Vectors.{sees}
 use Rattle.jr_rev.proofs.Entries.{number_same}
 use Rattle.jr_tree.specs.Items.{here_of, put_of, written}
-use Rattle.oak_changes.specs.Reading.{due, ended, fed, fed_next, noted, on_main, on_previous, on_roots, settled, with_document}
+use Rattle.oak_changes.specs.Reading.{due, changes_ended, fed, fed_next, noted, changes_on_main, changes_on_previous, changes_on_roots, changes_settled, with_document}
 use Rattle.oak_changes.specs.Saying.{document_said, path_said}
 use Rattle.oak_changes.specs.declared.changes.ChangesReader.{ChangesReader}
 use Rattle.oak_changes.specs.declared.changes.Step.{Step}
@@ -67,7 +67,7 @@ use Rattle.core_changes.proofs.Saying.{document_is, said_all, said_each, written
 use Rattle.core_changes.proofs.Telling.{between_held, itself_between, new_unbound, tells_copy, tells_found, tells_more}
 use Rattle.core_changes.specs.Between.{change_of, IsBetween, IsChange}
 use Rattle.core_changes.specs.Instants.{AreHeld, AreWriting}
-use Rattle.core_changes.specs.Observing.{AreSaid, AreSaying, IsAsking, IsObserving, IsRooted, is_before_node, is_up_to_node, Stands, TellsChanges}
+use Rattle.core_changes.specs.Observing.{AreSaid, AreSaying, IsAskingChanges, IsObserving, AreChangeRootsAsked, is_before_node, is_up_to_node, Stands, TellsChanges}
 use Rattle.std.specs.Cmp.{tied_itself}
 use Rattle.oak_doc.specs.Updates.{of_revision}
 use Rattle.oak_machine.specs.declared.event.Start.{Start}
@@ -147,10 +147,10 @@ module _ (start : Start) where
     IsGoingOn r = IsObserving start ds past formers r
 
     abbrev Asking : Known → Ids → Path → Type 0
-    Asking known left p = IsAsking start ds past formers from to t known left p
+    Asking known left p = IsAskingChanges start ds past formers from to t known left p
 
     abbrev Rooted : Known → Ids → Path → Type 0
-    Rooted known left p = IsRooted start ds past from to t known left p
+    Rooted known left p = AreChangeRootsAsked start ds past from to t known left p
 
     abbrev Saying : Known → Type 0
     Saying known = AreSaying ds to t known
@@ -231,23 +231,23 @@ module _ (start : Start) where
           mine : List Said
           mine = path_said (documents_in known) t from to at (gone_by rooted.document rooted.look)
 
-    roots_read : (at : Path) (known : Known) (said : List Said) (s : Step) → Saying known → Rooted known [] at → Changed (is_before_node at) said → IsGoingOn (on_roots (reader at known said s))
+    roots_read : (at : Path) (known : Known) (said : List Said) (s : Step) → Saying known → Rooted known [] at → Changed (is_before_node at) said → IsGoingOn (changes_on_roots (reader at known said s))
     roots_read at known said s saying rooted changed = more_said known saying at rooted said changed
 
     -- ---- the commit roots
 
     -- with what is left: the next of it, or all is known
     roots_go_on : (at : Path) (known : Known) (said : List Said) (s : Step) (ids : Ids) → Saying known → Rooted known ids at → Changed (is_before_node at) said
-        → IsGoingOn (option_map_or (λ left. record (reader at known said s) { step = step.Roots left }) (left_of ids) (on_roots (reader at known said s)))
+        → IsGoingOn (option_map_or (λ left. record (reader at known said s) { step = step.Roots left }) (left_of ids) (changes_on_roots (reader at known said s)))
     roots_go_on at known said s [] saying rooted changed = roots_read at known said s saying rooted changed
     roots_go_on at known said s (e ∷ es) saying rooted changed = (rooted, saying, changed)
 
     -- ---- the previous documents
 
     -- all are asked for: the commit roots of what is gone by are wanted
-    previous_read : (at : Path) (known : Known) (said : List Said) (s : Step) → Saying known → Asking known [] at → Changed (is_before_node at) said → IsGoingOn (on_previous (reader at known said s))
+    previous_read : (at : Path) (known : Known) (said : List Said) (s : Step) → Saying known → Asking known [] at → Changed (is_before_node at) said → IsGoingOn (changes_on_previous (reader at known said s))
     previous_read at known said s saying asking changed =
-        subst (λ (ids : Ids). IsGoingOn (option_map_or (λ left. record (reader at known said s) { step = step.Roots left }) (left_of ids) (on_roots (reader at known said s)))) (sym wanted_is)
+        subst (λ (ids : Ids). IsGoingOn (option_map_or (λ left. record (reader at known said s) { step = step.Roots left }) (left_of ids) (changes_on_roots (reader at known said s)))) (sym wanted_is)
         (roots_go_on at known said s wanted saying rooted changed)
       where
         wanted : Ids
@@ -278,14 +278,14 @@ module _ (start : Start) where
 
     -- with what is left: the next of it, or all are asked for
     previous_go_on : (at : Path) (known : Known) (said : List Said) (s : Step) (ids : Ids) → Saying known → Asking known ids at → Changed (is_before_node at) said
-        → IsGoingOn (option_map_or (λ left. record (reader at known said s) { step = step.Previous left }) (left_of ids) (on_previous (reader at known said s)))
+        → IsGoingOn (option_map_or (λ left. record (reader at known said s) { step = step.Previous left }) (left_of ids) (changes_on_previous (reader at known said s)))
     previous_go_on at known said s [] saying asking changed = previous_read at known said s saying asking changed
     previous_go_on at known said s (e ∷ es) saying asking changed = (asking, saying, changed)
 
     -- the node's document is there, and alone known
-    main_read : (at : Path) (said : List Said) (s : Step) (d : Document) → ds (id.Node at) ≡ Some d → Changed (is_before_node at) said → IsGoingOn (on_main (reader at ((id.Node at, d) ∷ []) said s))
+    main_read : (at : Path) (said : List Said) (s : Step) (d : Document) → ds (id.Node at) ≡ Some d → Changed (is_before_node at) said → IsGoingOn (changes_on_main (reader at ((id.Node at, d) ∷ []) said s))
     main_read at said s d here changed =
-        subst (λ (ids : Ids). IsGoingOn (option_map_or (λ left. record (reader at known said s) { step = step.Previous left }) (left_of ids) (on_previous (reader at known said s)))) (sym wanted_is)
+        subst (λ (ids : Ids). IsGoingOn (option_map_or (λ left. record (reader at known said s) { step = step.Previous left }) (left_of ids) (changes_on_previous (reader at known said s)))) (sym wanted_is)
         (previous_go_on at known said s (unknown known (listed at d)) saying asking changed)
       where
         known : Known
@@ -332,7 +332,7 @@ module _ (start : Start) where
     -- ---- the next document
 
     -- all are passed: what was told is what the commits change
-    all_passed : (at : Path) (known : Known) (said : List Said) (s : Step) → Changed (λ p. true) said → IsGoingOn (ended (reader at known said s))
+    all_passed : (at : Path) (known : Known) (said : List Said) (s : Step) → Changed (λ p. true) said → IsGoingOn (changes_ended (reader at known said s))
     all_passed at known said s changed = grouped_is start past from to writing said changed
 
     no_node_above : (x : DocId) → ((q : Path) → x ≡ id.Node q → ⊥) → (p : Path) → is_lt (id_cmp (id.Node p) x) ≡ true
@@ -342,7 +342,7 @@ module _ (start : Start) where
 
     -- where each document of a node is passed, or before a document, the changes so far are those before it
     module _ (at : Path) (known : Known) (said : List Said) (s : Step) (passed : Path → Bool) (changed : Changed passed said) where
-      none_left : ((q : Path) → has (id.Node q) table ≡ true → passed q ≡ true) → IsGoingOn (ended (reader at known said s))
+      none_left : ((q : Path) → has (id.Node q) table ≡ true → passed q ≡ true) → IsGoingOn (changes_ended (reader at known said s))
       none_left each = all_passed at known said s (record { each = λ z i. ((changed.each z i).0, refl); all = λ z c h. changed.all z c (each z.change.item.path (changed_there z c)) })
 
       found_next : (e : DocId × Document) → documents_in table e.0 ≡ Some e.1 → ((q : Path) → passed q ≡ true → is_lt (id_cmp (id.Node q) e.0) ≡ true) → ((q : Path) → has (id.Node q) table ≡ true → is_lt (id_cmp (id.Node q) e.0) ≡ true → passed q ≡ true)
@@ -500,7 +500,7 @@ module _ (start : Start) where
               other true m = absurd (false≢true (sym h ∙ (ap (λ (x : DocId). eq_by_cmp id_cmp x first) (ap (λ (j : ℕ). id.Prev j at) (number_same e.number k m) ∙ sym asked_entry.2) ∙ own_id first)))
 
     feed_previous : (at : Path) (known : Known) (said : List Said) (left : Left) → Asking known ((left.first, tt) ∷ left.rest) at → Saying known → Changed (is_before_node at) said
-        → IsGoingOn (settled (noted (reader at known said (step.Previous left)) left.first (documents_in table left.first)))
+        → IsGoingOn (changes_settled (noted (reader at known said (step.Previous left)) left.first (documents_in table left.first)))
     feed_previous at known said left asking saying changed =
         previous_go_on at (with_known known left.first (documents_in table left.first)) said (step.Previous left) left.rest (saying_noted known saying left.first)
         (asking_noted known at left.first left.rest asking) changed
@@ -544,7 +544,7 @@ module _ (start : Start) where
         by x i q seen unswept entry false is_known false is_first h = or_else (is_some (documents_in (with_known known first (documents_in table first)) (commit_root_of x q))) _ h
 
     feed_roots : (at : Path) (known : Known) (said : List Said) (left : Left) → Rooted known ((left.first, tt) ∷ left.rest) at → Saying known → Changed (is_before_node at) said
-        → IsGoingOn (settled (noted (reader at known said (step.Roots left)) left.first (documents_in table left.first)))
+        → IsGoingOn (changes_settled (noted (reader at known said (step.Roots left)) left.first (documents_in table left.first)))
     feed_roots at known said left rooted saying changed =
         roots_go_on at (with_known known left.first (documents_in table left.first)) said (step.Roots left) left.rest (saying_noted known saying left.first)
         (rooted_noted known at left.first left.rest rooted) changed

@@ -15,7 +15,7 @@ use Rattle.oak_machine.specs.History.{Past}
 use Rattle.oak_read.specs.Reading.{IsTable, answer}
 use Rattle.core_begun.specs.Told.{edit_since, IsInUseSince}
 use Rattle.core_read.specs.World.{Progress}
-use Rattle.core_keep.specs.Formers.{AreFormers, Grows}
+use Rattle.core_keep.specs.Formers.{AreFormers, FormersGrow}
 use Rattle.core_begun.specs.Kept.{bounded_since, IsHeldSince, IsKeptSince}
 use Rattle.core_keep.specs.From.{course_from}
 use Rattle.core_watch.specs.Instants.{first_instants, Instant, documents_at}
@@ -53,14 +53,14 @@ abbrev pub AreObservable : Start → RevVec → Pin → Instant → List Instant
 AreObservable start from pin i [] = Unit {0}
 AreObservable start from pin i (n ∷ ns) =
     ObservesOn start from pin (documents_at i) (documents_at n) i.moment.past n.moment.past
-    × Grows i.formers n.formers × CanObserve start from pin n × AreObservable start from pin n ns
+    × FormersGrow i.formers n.formers × CanObserve start from pin n × AreObservable start from pin n ns
 
 -- a reader after the documents of each of some instants have answered it, one after another
 abbrev pub after_instants : List Instant → ChangesReader → ChangesReader
 after_instants is r = fold (λ r i. fed r (answer i.moment.table (due r))) r is
 
 -- after some of instants without end a reader is done, and gives one of these
-abbrev pub EndsWith : (List CommitChanges → Type 0) → (ℕ → Instant) → ChangesReader → Type 0
-EndsWith P f r =
+abbrev pub ChangesEndWith : (List CommitChanges → Type 0) → (ℕ → Instant) → ChangesReader → Type 0
+ChangesEndWith P f r =
     (n : ℕ) × (o : List CommitChanges)
     × ((after_instants (first_instants n f) r).step ≡ step.Done o) × P o

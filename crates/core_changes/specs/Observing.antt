@@ -32,7 +32,7 @@ use Rattle.core_keep.specs.Formers.{Former, Formers, IsShownIn}
 use Rattle.core_keep.specs.From.{course_from}
 use Rattle.core_keep.specs.Readers.{gone_by, Reads}
 use Rattle.core_keep.specs.Standing.{gone_in, gone_of, values_in}
-use Rattle.core_watch.specs.Reading.{AreLeft, is_asked, is_left, ReadsOn}
+use Rattle.core_watch.specs.Reading.{AreToRead, is_asked, is_left, ReadsOn}
 use Rattle.core_watch.specs.Standing.{HasEntry, is_known_or_left}
 use Rattle.core_changes.specs.Between.{IsBetween, IsChange, is_new}
 use Rattle.oak_machine.specs.declared.event.Start.{Start}
@@ -66,7 +66,7 @@ pub record AreSaying (ds : Documents) (to t : RevVec) (known : Known) : Type 0 w
 -- the node's document is known; of the previous documents that it lists just those are left that
 -- weren't asked for; of the others what was found is known; and each former document is shown at
 -- each vector between the two
-pub record IsAsking (start : Start) (ds : Documents) (past : Past) (formers : Formers)
+pub record IsAskingChanges (start : Start) (ds : Documents) (past : Past) (formers : Formers)
     (from to t : RevVec)
     (known : Known) (left : Ids) (p : Path) : Type 0 where
   pub document : Document
@@ -75,7 +75,7 @@ pub record IsAsking (start : Start) (ds : Documents) (past : Past) (formers : Fo
   pub tells : TellsChanges start ds past from to t p document (is_asked left p) look
   pub found : (e : PrevEntry) → IsIn e document.prev → IsTrue (is_asked left p e.number)
       → documents_in known (id.Prev e.number p) ≡ look e.number
-  pub waiting : AreLeft known left
+  pub waiting : AreToRead known left
   pub previous : (x : DocId) → IsTrue (is_left left x)
       → (e : PrevEntry) × IsIn e document.prev × (x ≡ id.Prev e.number p)
   pub listed : (e : PrevEntry) → IsIn e document.prev
@@ -84,7 +84,7 @@ pub record IsAsking (start : Start) (ds : Documents) (past : Past) (formers : Fo
 
 -- all of these were asked for; and of the entries that `to` sees and t doesn't each commit root is
 -- known or left
-pub record IsRooted (start : Start) (ds : Documents) (past : Past) (from to t : RevVec)
+pub record AreChangeRootsAsked (start : Start) (ds : Documents) (past : Past) (from to t : RevVec)
     (known : Known) (left : Ids)
     (p : Path) : Type 0 where
   pub document : Document
@@ -96,7 +96,7 @@ pub record IsRooted (start : Start) (ds : Documents) (past : Past) (from to t : 
   pub roots : (x : Document) → IsIn x (gone_by document look) → (q : Revision) → IsTrue (sees to q)
       → IsFalse (sees t q) → HasEntry true x q
       → IsTrue (is_known_or_left known left (commit_root_of x q))
-  pub waiting : AreLeft known left
+  pub waiting : AreToRead known left
   pub nodes : (x : DocId) → IsTrue (is_left left x) → (q : Path) × (x ≡ id.Node q)
 
 -- the changes so far are just those at the nodes of these paths
@@ -124,10 +124,10 @@ module _ (start : Start) (ds : Documents) (past : Past) (formers : Formers) (fro
   Stands step.First = said ≡ []
   Stands step.Next = AreSaid start past from to (is_up_to_node at) said
   Stands (step.Previous left) =
-      IsAsking start ds past formers from to t known ((left.first, tt) ∷ left.rest) at
+      IsAskingChanges start ds past formers from to t known ((left.first, tt) ∷ left.rest) at
       × AreSaying ds to t known × AreSaid start past from to (is_before_node at) said
   Stands (step.Roots left) =
-      IsRooted start ds past from to t known ((left.first, tt) ∷ left.rest) at
+      AreChangeRootsAsked start ds past from to t known ((left.first, tt) ∷ left.rest) at
       × AreSaying ds to t known
       × AreSaid start past from to (is_before_node at) said
   Stands (step.Done o) = o ≡ changes_between (Some start) past from to

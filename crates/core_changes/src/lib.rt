@@ -23,7 +23,7 @@ ghost use Rattle.oak_machine.specs.Runs.{AreNodes, IsRunOf, MayCommit};
 ghost use Rattle.oak_machine.specs.History.{Begin, Past};
 ghost use Rattle.oak_read.specs.Meaning.{Documents, documents_in};
 ghost use Rattle.oak_read.specs.Reading.{IsTable, answer};
-ghost use Rattle.core_keep.specs.Formers.{AreFormers, Formers, Grows};
+ghost use Rattle.core_keep.specs.Formers.{AreFormers, Formers, FormersGrow};
 ghost use Rattle.core_keep.specs.From.{course_from};
 ghost use Rattle.core_begun.specs.Kept.{IsHeldSince, IsKeptSince};
 ghost use Rattle.oak_machine.specs.declared.event.Start.{Start};
@@ -32,7 +32,7 @@ ghost use Rattle.core_read.specs.World.{Progress};
 ghost use Rattle.core_watch.specs.Instants.{first_instants, Instant};
 ghost use Rattle.core_watch.specs.Moments.{HasIdsAmong};
 ghost use Rattle.core_watch.specs.Reading.{ReadsOn};
-ghost use Rattle.core_changes.specs.Instants.{AreHeld, AreObservable, AreWriting, EndsWith, after_instants};
+ghost use Rattle.core_changes.specs.Instants.{AreHeld, AreObservable, AreWriting, ChangesEndWith, after_instants};
 ghost use Rattle.core_changes.specs.Observing.{IsObserving, ObservesOn};
 
 use oak_machine::Law;
@@ -49,7 +49,7 @@ pub fn observers_read_what_commits_change()
         (i : Instant) (f : ℕ → Instant)
         → ((n : ℕ) → AreObservable start from pin i (first_instants n f))
         → ((n : ℕ) → HasIdsAmong ids (f n).moment)
-        → EndsWith (λ o. o ≡ changes_between (Some start) i.moment.past from pin.base) f
+        → ChangesEndWith (λ o. o ≡ changes_between (Some start) i.moment.past from pin.base) f
         (changes_reader a from pin) }
     ensures done { (start : Start) (a : Global) (from : RevVec) (pin : Pin) (i : Instant)
         (is : List Instant) (o : List CommitChanges) → AreObservable start from pin i is
@@ -72,7 +72,7 @@ pub fn observers_read_on()
     ensures lasts { (start : Start) (formers more : Formers) (ds now : Documents)
         (past later : Past) (done : Progress) (r : ChangesReader) → IsKeptSince start now later done
         → AreHeld start later r.from r.pin → ObservesOn start r.from r.pin ds now past later
-        → Grows formers more → IsObserving start ds past formers r
+        → FormersGrow formers more → IsObserving start ds past formers r
         → IsObserving start now later more r }
     ensures gives { (start : Start) (ds : Documents) (past : Past) (formers : Formers)
         (r : ChangesReader) (o : List CommitChanges) → IsObserving start ds past formers r

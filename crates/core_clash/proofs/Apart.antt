@@ -11,7 +11,7 @@ use Rattle.oak_machine.specs.Commits.{marks_of, is_committed, is_in_base, are_cl
 use Rattle.oak_commit.specs.Clashing.{collision}
 use Rattle.core_clash.specs.Views.{In, mark_at}
 use Rattle.core_clash.specs.Core.{Core, is_path, root_of, MayLast}
-use Rattle.core_clash.specs.Sound.{Sound, Noticed, Stands}
+use Rattle.core_clash.specs.Sound.{Sound, Noticed, MarkStands}
 use Rattle.core_clash.proofs.Pasts.{in_flight}
 use Rattle.core_clash.proofs.Basics.{test, not_both, and_both, any_from, same_path, none_in}
 
@@ -52,7 +52,7 @@ module _ (s : Core) (d : Draw) (sound : Sound s) (may : MayLast s d) (unmarked :
   wrote r p none (inl h) = h
   wrote r p none (inr h) = absurd (none_in p _ none h)
 
-  stands : (r : Revision) (p : Path) (m : Mark) → (s.writers r).left ≡ [] → (s.writers r).undoing ≡ false → In (mark_at p m) (marks_of s.past r) → Stands s r p m
+  stands : (r : Revision) (p : Path) (m : Mark) → (s.writers r).left ≡ [] → (s.writers r).undoing ≡ false → In (mark_at p m) (marks_of s.past r) → MarkStands s r p m
   stands r p m none going mark = record { written = wrote r p none (sound.covered r p m mark going); going = going; mark = mark }
 
   no_clash : (o : Revision) → is_committed s.past o ≡ true → is_in_base s.past d.revision o ≡ false → Clash (marks_of s.past d.revision) (marks_of s.past o) → ⊥

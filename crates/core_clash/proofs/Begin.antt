@@ -32,7 +32,7 @@ use Rattle.oak_machine.specs.Marks.{Marked, mark_cmp, mark_at_cmp, marks_of_writ
 use Rattle.oak_machine.specs.Runs.{IsRunOf, AreNodes}
 use Rattle.core_heads.proofs.Begins.{begins_run}
 use Rattle.core_clash.specs.Views.{In, Once, mark_at, NamesItems}
-use Rattle.core_clash.specs.Core.{Core, MayBegin}
+use Rattle.core_clash.specs.Core.{Core, MayDrawAnew}
 use Rattle.core_clash.proofs.Basics.{In-left, In-right, In-append, is_same_self}
 use Rattle.core_clash.proofs.Firsts.{In-filter, In-from_filter}
 use Rattle.core_clash.proofs.Meetings.{In-insert, In-from_insert}
@@ -125,7 +125,7 @@ names_items t edit ms are k item = (to, from)
     from : In k (flat_map marks_of_write edit.writes) → In k ms
     from h = (In-from_filter is_of_item k ms (subst (λ (xs : List MarkAt). In k xs) (sym are) (In-filter is_of_item k (marks_for t edit.writes) (writes_to k edit.writes [] (inl h)) item))).0
 
-pub may_begin : (clusters : ℕ) (sessions : List ℕ) → AreNodes clusters sessions → (starts : Starts) (says : Says) → StartsProper starts → (s : Core) (begin : Begin) (d : Draw) (left : List Path) → ((o : Revision) → s.old o ≡ true → sees (begin_at clusters begin) o ≡ true) → IsRunOf starts says clusters sessions begin (event.Draw d ∷ s.past) → ((p : Path) (m : Mark) → In (mark_at p m) d.marks → In p left) → Once left → MayBegin s d left
+pub may_begin : (clusters : ℕ) (sessions : List ℕ) → AreNodes clusters sessions → (starts : Starts) (says : Says) → StartsProper starts → (s : Core) (begin : Begin) (d : Draw) (left : List Path) → ((o : Revision) → s.old o ≡ true → sees (begin_at clusters begin) o ≡ true) → IsRunOf starts says clusters sessions begin (event.Draw d ∷ s.past) → ((p : Path) (m : Mark) → In (mark_at p m) d.marks → In p left) → Once left → MayDrawAnew s d left
 may_begin clusters sessions nodes starts says proper s begin d left known run covers once = record {
   begins = begins_run clusters sessions nodes begin starts says d s.past run;
   sees_old = λ o old. sym (ap (λ (x : Option Draw). option_map_or (λ (e : Draw). sees e.base o) x false) here) ∙ good.begins o (known o old);

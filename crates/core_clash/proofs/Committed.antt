@@ -10,7 +10,7 @@ use Rattle.oak_machine.specs.declared.event.Event.TheVariants as event
 use Rattle.oak_machine.specs.Commits.{is_drawn, is_committed}
 use Rattle.oak_commit.specs.Clashing.{noted, collision}
 use Rattle.core_clash.specs.Core.{Core, Docs, root_of, IsDone, MayLast}
-use Rattle.core_clash.specs.Sound.{Sound, Noticed, Stands, IsWhole, has_moved, marked_in}
+use Rattle.core_clash.specs.Sound.{Sound, Noticed, MarkStands, IsWhole, has_moved, marked_in}
 use Rattle.core_clash.proofs.Basics.{same_revision, is_same_self, or_left, or_right, or_cases}
 use Rattle.core_clash.proofs.Pasts.{cause_later, due_later}
 use Rattle.core_clash.proofs.Effects.{Notes}
@@ -63,7 +63,7 @@ module _ (s : Core) (d : Draw) (number : ℕ) (docs : Docs) where
     both_later a b (inl h) = inl (noticed_later a b h)
     both_later a b (inr h) = inr (noticed_later b a h)
 
-    stood : (o : Revision) (q : Path) (m : Mark) → Stands t o q m → Stands s o q m
+    stood : (o : Revision) (q : Path) (m : Mark) → MarkStands t o q m → MarkStands s o q m
     stood o q m h = record { written = h.written; going = h.going; mark = h.mark }
 
     pub commit_keeps : Sound t

@@ -8,7 +8,7 @@ use Rattle.oak_clash.specs.Clashes.{clash, clashing, marks_at, Meets}
 use Rattle.oak_machine.specs.Commits.{is_drawn, is_committed, is_refused, is_ended, is_in_base, are_clashing, marks_of}
 use Rattle.core_clash.specs.Views.{mark_at}
 use Rattle.core_clash.specs.Core.{Core, is_path, IsDone}
-use Rattle.core_clash.specs.Sound.{Sound, Cause, IsTurned}
+use Rattle.core_clash.specs.Sound.{Sound, Cause, TurnedToUndo}
 use Rattle.oak_machine.specs.Sessions.{is_stopped}
 use Rattle.core_clash.proofs.Basics.{not_both, any_from, any_of, and_true, is_path_self}
 use Rattle.core_clash.proofs.Documents.{In-from_marks_at}
@@ -29,7 +29,7 @@ complete s r sound ended running wants apart = by (sound.ended r ended)
     no_cause : (item : Item) (o : Revision) → Cause s.past r item o → ⊥
     no_cause item o c = not_both (are_clashing s.past r o) (meets_clashing (marks_of s.past r) (marks_of s.past o) item c.met) (apart o c.another c.other c.outside)
 
-    why : IsTurned s.past r (s.writers r) → is_committed s.past r ≡ true
+    why : TurnedToUndo s.past r (s.writers r) → is_committed s.past r ≡ true
     why (inl h) = let c = refused_for s.past r h in absurd (no_cause c.0.0 c.0.1 (sound.refusal r c.0.0 c.0.1 c.1))
     why (inr (inl h)) = not_both _ h wants
     why (inr (inr h)) = not_both _ h running

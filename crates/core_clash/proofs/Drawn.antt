@@ -14,11 +14,11 @@ use Rattle.oak_machine.specs.Commits.{draw_of, marks_of, is_drawn, is_refused, i
 use Rattle.oak_commit.specs.Clashing.{Met, collision, Writer}
 use Rattle.core_clash.specs.Views.{In, Once, mark_at, NamesItems}
 use Rattle.core_clash.specs.Core.{Core}
-use Rattle.core_clash.specs.Sound.{Sound, IsTurned, AreBelow, IsListed, Noticed, Stands, IsOf, IsRooted, IsWriterOf, marked_in}
+use Rattle.core_clash.specs.Sound.{Sound, TurnedToUndo, AreBelow, AreDocumentsListed, Noticed, MarkStands, IsOf, IsRooted, IsWriterOf, marked_in}
 use Rattle.core_clash.specs.Collecting.{SeesBounded}
 use Rattle.core_keep.specs.Journal.{is_bounded, is_swept}
-use Rattle.core_clash.specs.Core.{Core, root_of, MayBegin, after_draw}
-use Rattle.core_clash.specs.Sound.{Sound, IsTurned, IsListed, Noticed, Stands, IsOf, IsDue, Cause}
+use Rattle.core_clash.specs.Core.{Core, root_of, MayDrawAnew, core_drawn}
+use Rattle.core_clash.specs.Sound.{Sound, TurnedToUndo, AreDocumentsListed, Noticed, MarkStands, IsOf, IsMarkDue, Cause}
 use Rattle.core_clash.proofs.Basics.{not_both, decide, is_same_self, at_writer, writer_mine, writer_other, some_is}
 use Rattle.core_clash.proofs.Pasts.{cause_later, due_later, live_drawn, marks_drawn, still_drawn}
 
@@ -30,9 +30,9 @@ module _ (s : Core) (d : Draw) (left : List Path) where
   w = record { paths = left; left = left; written = []; due = []; undoing = false; wants = false }
 
   abbrev pub t : Core
-  t = after_draw s d left
+  t = core_drawn s d left
 
-  module _ (sound : Sound s) (may : MayBegin s d left) (above : SeesBounded s.past d.base) where
+  module _ (sound : Sound s) (may : MayDrawAnew s d left) (above : SeesBounded s.past d.base) where
     -- a drawn revision is another than r
     old : (o : Revision) → is_drawn s.past o ≡ true → is_same o r ≡ false
     old o h = by (decide o r)
@@ -131,11 +131,11 @@ module _ (s : Core) (d : Draw) (left : List Path) where
     once : (o : Revision) → Once ((t.writers o).written ++ (t.writers o).left)
     once o = at_writer (λ x v. Once (v.written ++ v.left)) s.writers r w o may.once (λ f. sound.once o)
 
-    listed : (o : Revision) → is_stopped s.past o.cluster ≡ false → IsListed (t.writers o)
-    listed o = at_writer (λ x v. is_stopped s.past x.cluster ≡ false → IsListed v) s.writers r w o (λ on. record { gone = []; all = refl; none = λ h. refl }) (λ f. sound.listed o)
+    listed : (o : Revision) → is_stopped s.past o.cluster ≡ false → AreDocumentsListed (t.writers o)
+    listed o = at_writer (λ x v. is_stopped s.past x.cluster ≡ false → AreDocumentsListed v) s.writers r w o (λ on. record { gone = []; all = refl; none = λ h. refl }) (λ f. sound.listed o)
 
-    stopped : (o : Revision) → (t.writers o).undoing ≡ true → IsTurned s.past o (t.writers o)
-    stopped o = at_writer (λ x v. v.undoing ≡ true → IsTurned s.past x v) s.writers r w o (λ h. absurd (false≢true h)) (λ f h. sound.stopped o h)
+    stopped : (o : Revision) → (t.writers o).undoing ≡ true → TurnedToUndo s.past o (t.writers o)
+    stopped o = at_writer (λ x v. v.undoing ≡ true → TurnedToUndo s.past x v) s.writers r w o (λ h. absurd (false≢true h)) (λ f h. sound.stopped o h)
 
     covered : (o : Revision) (q : Path) (m : Mark) → In (mark_at q m) (marks_of t.past o) → (t.writers o).undoing ≡ false → In q (t.writers o).written ⊎ In q (t.writers o).left
     covered o q m = at_writer (λ x v. In (mark_at q m) (marks_of t.past x) → v.undoing ≡ false → In q v.written ⊎ In q v.left) s.writers r w o
@@ -146,8 +146,8 @@ module _ (s : Core) (d : Draw) (left : List Path) where
     writer_stays : (o : Revision) → is_drawn s.past o ≡ true → t.writers o ≡ s.writers o
     writer_stays o h = writer_other s.writers r w o (old o h)
 
-    due_of : (o : Revision) (g : Met) → In g (t.writers o).due → IsDue t.past o g
-    due_of o g = at_writer (λ x v. In g v.due → IsDue t.past x g) s.writers r w o
+    due_of : (o : Revision) (g : Met) → In g (t.writers o).due → IsMarkDue t.past o g
+    due_of o g = at_writer (λ x v. In g v.due → IsMarkDue t.past x g) s.writers r w o
         (λ h. absurd h)
         (λ f h. let k = sound.due o g h in due_later (event.Draw d) s.past o g (stays o f) (stays g.other (old g.other k.cause.other)) k)
 
@@ -167,12 +167,12 @@ module _ (s : Core) (d : Draw) (left : List Path) where
         by (inl e) = absurd (subst (λ (v : Writer). In q v.written) (writer_mine s.writers r w) (subst (λ (x : Revision). In q (t.writers x).written) e h))
         by (inr f) = f
 
-    stood : (o : Revision) (q : Path) (m : Mark) → is_same o r ≡ false → Stands t o q m → Stands s o q m
+    stood : (o : Revision) (q : Path) (m : Mark) → is_same o r ≡ false → MarkStands t o q m → MarkStands s o q m
     stood o q m f h =
         let e = writer_other s.writers r w o f in
         record { written = subst (λ (v : Writer). In q v.written) e h.written; going = subst (λ (v : Writer). v.undoing ≡ false) e h.going; mark = rw (marks_stay o f) at h.mark }
 
-    noticed : (a o : Revision) (q : Path) (m n : Mark) → (a ≡ o → ⊥) → Stands t a q m → Stands t o q n → clash m n ≡ true → Noticed t a o ⊎ Noticed t o a
+    noticed : (a o : Revision) (q : Path) (m n : Mark) → (a ≡ o → ⊥) → MarkStands t a q m → MarkStands t o q n → clash m n ≡ true → Noticed t a o ⊎ Noticed t o a
     noticed a o q m n apart sa so c = by (sound.noticed a o q m n apart (stood a q m f sa) (stood o q n k so) c)
       where
         f : is_same a r ≡ false

@@ -24,17 +24,17 @@ use Rattle.oak_commit.specs.Clashing.{has, has_mark, noted, collision}
 use Rattle.core_read.specs.Holds.{root_entry}
 use Rattle.core_read.specs.Writes.{IsOrderedDocument}
 use Rattle.core_keep.specs.Journal.{is_bounded, is_swept}
-use Rattle.core_keep.specs.Dropping.{IsLeftAlone, IsSaidStill, IsWithin, IsWithout}
+use Rattle.core_keep.specs.Dropping.{IsLeftAlone, IsSaidStill, IsDocumentWithin, IsWithout}
 use Rattle.std.specs.Map.{keys_of}
-use Rattle.core_keep.specs.Garbage.{is_absent, revisions_in, is_garbage_previous}
+use Rattle.core_keep.specs.Garbage.{is_absent, revisions_kept, is_garbage_previous}
 use Rattle.core_keep.specs.Splits.{main_write, previous_write}
 use Rattle.core_keep.specs.Steps.{IsParted}
 use Rattle.core_keep.proofs.Splits.{split_parts, parted_counts}
 use Rattle.core_keep.proofs.Unseen.{unseen_left, unswept_left, left_within, garbage_without, previous_seen}
 use Rattle.core_clash.specs.Views.{In, AreOrdered}
 use Rattle.core_clash.specs.Core.{Core, Docs, Moved, is_path, with_document, root_of, IsDone, after_event}
-use Rattle.core_clash.specs.Sound.{Sound, Noticed, Stands, IsRooted, has_moved, marked_in}
-use Rattle.core_clash.specs.Collecting.{MayBound, MayPrune, MayRemove, MaySplit, no_documents, with_moved}
+use Rattle.core_clash.specs.Sound.{Sound, Noticed, MarkStands, IsRooted, has_moved, marked_in}
+use Rattle.core_clash.specs.Collecting.{MayBoundCore, MayPruneCore, MayRemoveCore, MaySplitCore, no_documents, with_moved}
 use Rattle.core_clash.proofs.Basics.{and_true, not_both, or_left, or_right, or_cases, same_path, test}
 use Rattle.core_clash.proofs.Pasts.{cause_later, due_later, marks_drawn}
 use Rattle.core_clash.proofs.Updates.{root_moved}
@@ -79,10 +79,10 @@ module _ (s : Core) (number : ℕ) (docs : Docs) (moved : Moved) (sound : Sound 
       by (inl h) = its (sound.ended o h)
       by (inr f) = not_both (is_bounded s.past o) bounded (sound.bounds.settled o (and_true (is_drawn s.past o) _ drawn (ap (λ b. Rattle.std.proofs.Common.not b) f)))
 
-  stood : (o : Revision) (q : Path) (m : Mark) → Stands dropped o q m → Stands s o q m
+  stood : (o : Revision) (q : Path) (m : Mark) → MarkStands dropped o q m → MarkStands s o q m
   stood o q m h = record { written = h.written; going = h.going; mark = h.mark }
 
-  noticed_later : (a b : Revision) (q : Path) (n : Mark) → Stands s b q n → Noticed s a b → Noticed dropped a b
+  noticed_later : (a b : Revision) (q : Path) (n : Mark) → MarkStands s b q n → Noticed s a b → Noticed dropped a b
   noticed_later a b q n so (inl seen) = inl seen
   noticed_later a b q n so (inr (inl f)) = inr (inl f)
   noticed_later a b q n so (inr (inr c)) = inr (inr (by (test (is_bounded s.past b))))
@@ -127,13 +127,13 @@ module _ (s : Core) (number : ℕ) (docs : Docs) (moved : Moved) (sound : Sound 
     noticed = λ a o q m n apart sa so c. both a o q m n (stood a q m sa) (stood o q n so) (sound.noticed a o q m n apart (stood a q m sa) (stood o q n so) c);
   }
     where
-      both : (a o : Revision) (q : Path) (m n : Mark) → Stands s a q m → Stands s o q n → Noticed s a o ⊎ Noticed s o a → Noticed dropped a o ⊎ Noticed dropped o a
+      both : (a o : Revision) (q : Path) (m n : Mark) → MarkStands s a q m → MarkStands s o q n → Noticed s a o ⊎ Noticed s o a → Noticed dropped a o ⊎ Noticed dropped o a
       both a o q m n sa so (inl h) = inl (noticed_later a o q n so h)
       both a o q m n sa so (inr h) = inr (noticed_later o a q m sa h)
 
 -- ---- a bound
 
-pub bound_keeps : (s : Core) (m t : RevVec) → Sound s → MayBound s.past m t → Sound (after_event s (event.Bound m t))
+pub bound_keeps : (s : Core) (m t : RevVec) → Sound s → MayBoundCore s.past m t → Sound (after_event s (event.Bound m t))
 bound_keeps s m t sound may = record {
   ordered = sound.ordered;
   edits = sound.edits;
@@ -251,14 +251,14 @@ unseen false b h f = refl
 
 -- ---- an update that drops garbage
 
-module _ (s : Core) (m t : RevVec) (p : Path) (old : Document) (op : UpdateOp) (keep : Document → Bool) (sound : Sound s) (may : MayPrune s m t p old op keep) (number : ℕ) where
+module _ (s : Core) (m t : RevVec) (p : Path) (old : Document) (op : UpdateOp) (keep : Document → Bool) (sound : Sound s) (may : MayPruneCore s m t p old op keep) (number : ℕ) where
   abbrev pruned : Document
   pruned = after_changes (Some old) op number
 
   ordered_old : AreOrdered p (Some old)
   ordered_old = subst (λ (doc : Option Document). AreOrdered p doc) may.there (sound.ordered p)
 
-  within : IsWithin old pruned
+  within : IsDocumentWithin old pruned
   within = left_within no_documents p m t may.bound.below old op number may.keys may.numbers ordered_old.1 may.garbage
 
   alone : (o : Revision) → is_bounded s.past o ≡ false → IsLeftAlone o old pruned
@@ -314,7 +314,7 @@ module _ (s : Core) (m t : RevVec) (p : Path) (old : Document) (op : UpdateOp) (
 
 -- ---- a document that goes
 
-module _ (s : Core) (m t : RevVec) (p : Path) (old : Document) (sound : Sound s) (may : MayRemove s m t p old) (number : ℕ) where
+module _ (s : Core) (m t : RevVec) (p : Path) (old : Document) (sound : Sound s) (may : MayRemoveCore s m t p old) (number : ℕ) where
   without : (o : Revision) → is_bounded s.past o ≡ false → IsWithout o old
   without o free = garbage_without m t old may.garbage o (unseen (sees m o) _ (may.bound.bounded o) free)
 
@@ -328,7 +328,7 @@ module _ (s : Core) (m t : RevVec) (p : Path) (old : Document) (sound : Sound s)
   unsaid o fresh = unseen (has old.revisions o) (is_swept s.past o) (λ h. may.bound.swept o (said_swept o h)) fresh
     where
       said_swept : (o : Revision) → has old.revisions o ≡ true → sees t o ≡ true
-      said_swept o h = Rattle.core_keep.proofs.Garbage.all_of (sees t) (keys_of old.revisions) (Rattle.core_keep.proofs.Item.and_both (is_absent m t old && list_all (sees m) (revisions_in old)) (list_all (sees t) (keys_of old.revisions)) may.garbage).1 o (Rattle.core_keep.proofs.Garbage.key_in old.revisions o h)
+      said_swept o h = Rattle.core_keep.proofs.Garbage.all_of (sees t) (keys_of old.revisions) (Rattle.core_keep.proofs.Item.and_both (is_absent m t old && list_all (sees m) (revisions_kept old)) (list_all (sees t) (keys_of old.revisions)) may.garbage).1 o (Rattle.core_keep.proofs.Garbage.key_in old.revisions o h)
 
   gone : DropsHere p (Some old) None (s.moved p) [] (may_go s) (is_swept s.past)
   gone = record {
@@ -355,7 +355,7 @@ module _ (s : Core) (m t : RevVec) (p : Path) (old : Document) (sound : Sound s)
 
 -- ---- what a split moves
 
-module _ (s : Core) (read : Documents) (pin : Pin) (p : Path) (old : Document) (entry : PrevEntry) (first number : ℕ) (sound : Sound s) (may : MaySplit s read pin p old) where
+module _ (s : Core) (read : Documents) (pin : Pin) (p : Path) (old : Document) (entry : PrevEntry) (first number : ℕ) (sound : Sound s) (may : MaySplitCore s read pin p old) where
   abbrev left : Document
   left = after_changes (Some old) (main_write read pin old entry) number
 

@@ -24,7 +24,7 @@ use Rattle.oak_clash.specs.declared.mark.Mark.TheVariants.{Exists, Guard, Touch,
 use Rattle.oak_clash.specs.declared.mark.MarkAt.{MarkAt}
 use Rattle.oak_clash.specs.Clashes.{marks_at}
 use Rattle.oak_commit.specs.Looking.{whole}
-use Rattle.oak_commit.specs.Clashing.{Met, found, has, marked, marks_in, met_among, met_with, revisions_in}
+use Rattle.oak_commit.specs.Clashing.{Met, found, has, marked, marks_in, met_among, met_with, marked_revisions}
 use Rattle.oak_doc.specs.declared.document.Document.{Document}
 use Rattle.oak_doc.specs.Updates.{of_revision, values_of_property}
 use Rattle.oak_read.specs.Meaning.{Documents}
@@ -46,7 +46,7 @@ entries_of : Option Document → List (Revision × Bool)
 entries_of None = []
 entries_of (Some d) = fold (λ es r. insert_entry revision_cmp es r true) [] (keys_of d.deleted ++ (keys_of d.guard ++ (keys_of d.touched ++ flat_map (λ e. keys_of e.1) d.props)))
 
-revisions_are : (d : Option Document) → revisions_in d ≡ keys_of (entries_of d)
+revisions_are : (d : Option Document) → marked_revisions d ≡ keys_of (entries_of d)
 unfolding entries_of
 revisions_are None = refl
 revisions_are (Some d) = refl

@@ -9,8 +9,8 @@ use Rattle.oak_machine.specs.declared.event.Event.TheVariants as event
 use Rattle.oak_machine.specs.Commits.{is_drawn, is_ended}
 use Rattle.oak_machine.specs.Sessions.{is_stopped}
 use Rattle.std.specs.Prelude.{◌==◌}
-use Rattle.core_clash.specs.Core.{Core, IsDone, MayFinish, after_finish, after_event, is_quiet}
-use Rattle.core_clash.specs.Sound.{Sound, IsTurned}
+use Rattle.core_clash.specs.Core.{Core, IsDone, MayFinish, core_finished, after_event, is_quiet}
+use Rattle.core_clash.specs.Sound.{Sound, TurnedToUndo}
 use Rattle.core_clash.proofs.Basics.{same_revision, or_cases, or_right}
 use Rattle.core_clash.proofs.Pasts.{cause_later, due_later}
 
@@ -19,7 +19,7 @@ module _ (s : Core) (d : Draw) where
   r = d.revision
 
   abbrev pub t : Core
-  t = after_finish s d
+  t = core_finished s d
 
   module _ (sound : Sound s) (may : MayFinish s d) where
     of_ended : (P : Revision → Type 0) → P r → ((o : Revision) → is_ended s.past o ≡ true → P o) → (o : Revision) → is_ended t.past o ≡ true → P o
@@ -108,7 +108,7 @@ event_keeps s (event.Stop k) q sound = record {
     goes_on true b h = absurd (false≢true (sym h))
     goes_on false b h = h
 
-    turned : (o : Revision) → IsTurned s.past o (s.writers o) → IsTurned (event.Stop k ∷ s.past) o (s.writers o)
+    turned : (o : Revision) → TurnedToUndo s.past o (s.writers o) → TurnedToUndo (event.Stop k ∷ s.past) o (s.writers o)
     turned o (inl h) = inl h
     turned o (inr (inl h)) = inr (inl h)
     turned o (inr (inr h)) = inr (inr (or_right (k == o.cluster) (is_stopped s.past o.cluster) h))

@@ -14,7 +14,7 @@ use Rattle.jr_path.specs.declared.path.Item.{Item}
 use Rattle.jr_path.proofs.Maps.{name_exact}
 use Rattle.oak_clash.specs.declared.mark.Mark.{Mark}
 use Rattle.oak_clash.specs.declared.mark.Mark.TheVariants.{Exists, Guard, Touch, Prop}
-use Rattle.oak_clash.specs.Clashes.{clash, first_mark, is_earlier, earlier_of, item_of}
+use Rattle.oak_clash.specs.Clashes.{clash, first_mark, is_earlier, earlier_of, marked_item}
 use Rattle.oak_commit.specs.Clashing.{met_among}
 use Rattle.core_clash.specs.Views.{In}
 use Rattle.core_clash.proofs.Basics.{test, not_both, any_from, any_of}
@@ -201,34 +201,34 @@ filter_same f g xs ys e s = record {
 
 -- what is met depends on the marks alone
 pub met_same : (p : Path) (ms ns os qs : List Mark) → Same ms ns → Same os qs → met_among p ms os ≡ met_among p ns qs
-met_same p ms ns os qs s t = ap (λ (x : Option Mark). option_map (item_of p) x) (first_same _ _ (filter_same (λ m. list_any (clash m) os) (λ m. list_any (clash m) qs) ms ns (λ m. any_same (clash m) os qs t) s))
+met_same p ms ns os qs s t = ap (λ (x : Option Mark). option_map (marked_item p) x) (first_same _ _ (filter_same (λ m. list_any (clash m) os) (λ m. list_any (clash m) qs) ms ns (λ m. any_same (clash m) os qs t) s))
 
 -- who is met has a mark, and is at that path
 pub met_is : (p : Path) (ms os : List Mark) (item : Item) → met_among p ms os ≡ Some item → (item.path ≡ p) × ((m : Mark) × In m ms)
 met_is p ms os item h = by (first_mark (filter (λ m. list_any (clash m) os) ms)) (first_is (filter (λ m. list_any (clash m) os) ms)) h
   where
-    at_path : (m : Mark) → (item_of p m).path ≡ p
+    at_path : (m : Mark) → (marked_item p m).path ≡ p
     at_path Exists = refl
     at_path Guard = refl
     at_path Touch = refl
     at_path (Prop n) = refl
 
-    by : (x : Option Mark) → First (filter (λ m. list_any (clash m) os) ms) x → option_map (item_of p) x ≡ Some item → (item.path ≡ p) × ((m : Mark) × In m ms)
+    by : (x : Option Mark) → First (filter (λ m. list_any (clash m) os) ms) x → option_map (marked_item p) x ≡ Some item → (item.path ≡ p) × ((m : Mark) × In m ms)
     by None f e = absurd (false≢true (ap (λ (y : Option Item). is_some y) e))
-    by (Some m) f e = (ap (λ (y : Option Item). (unwrap_or y (item_of p m)).path) (sym e) ∙ at_path m, (m, (In-from_filter (λ m. list_any (clash m) os) m ms f.among).0))
+    by (Some m) f e = (ap (λ (y : Option Item). (unwrap_or y (marked_item p m)).path) (sym e) ∙ at_path m, (m, (In-from_filter (λ m. list_any (clash m) os) m ms f.among).0))
 
 -- a mark that clashes is met
 pub met_some : (p : Path) (ms os : List Mark) (m n : Mark) → In m ms → In n os → clash m n ≡ true → (item : Item) × (met_among p ms os ≡ Some item)
 met_some p ms os m n h k c = by (first_mark (filter (λ m. list_any (clash m) os) ms)) (first_is (filter (λ m. list_any (clash m) os) ms))
   where
-    by : (x : Option Mark) → First (filter (λ m. list_any (clash m) os) ms) x → (item : Item) × (option_map (item_of p) x ≡ Some item)
+    by : (x : Option Mark) → First (filter (λ m. list_any (clash m) os) ms) x → (item : Item) × (option_map (marked_item p) x ≡ Some item)
     by None f = absurd (f m (In-filter (λ m. list_any (clash m) os) m ms h (any_of (clash m) n os k c)))
-    by (Some x) f = (item_of p x, refl)
+    by (Some x) f = (marked_item p x, refl)
 
 -- who is met clashes
 pub met_clash : (p : Path) (ms os : List Mark) (item : Item) → met_among p ms os ≡ Some item → (m : Mark) × In m ms × (list_any (clash m) os ≡ true)
 met_clash p ms os item h = by (first_mark (filter (λ m. list_any (clash m) os) ms)) (first_is (filter (λ m. list_any (clash m) os) ms)) h
   where
-    by : (x : Option Mark) → First (filter (λ m. list_any (clash m) os) ms) x → option_map (item_of p) x ≡ Some item → (m : Mark) × In m ms × (list_any (clash m) os ≡ true)
+    by : (x : Option Mark) → First (filter (λ m. list_any (clash m) os) ms) x → option_map (marked_item p) x ≡ Some item → (m : Mark) × In m ms × (list_any (clash m) os ≡ true)
     by None f e = absurd (false≢true (ap (λ (y : Option Item). is_some y) e))
     by (Some m) f e = let k = In-from_filter (λ m. list_any (clash m) os) m ms f.among in (m, k.0, k.1)

@@ -12,7 +12,7 @@ use Rattle.oak_machine.specs.Commits.{is_committed, is_refused, is_ended, is_in_
 use Rattle.oak_commit.specs.Clashing.{Met, noted, collision, Writer}
 use Rattle.core_clash.specs.Views.{In}
 use Rattle.core_clash.specs.Core.{Core, Docs, with_writer, root_of, IsDone, MayMark}
-use Rattle.core_clash.specs.Sound.{Sound, IsTurned, IsListed, Noticed, Stands, IsWhole, IsOf, IsDue, Cause, IsWriterOf, has_moved, marked_in}
+use Rattle.core_clash.specs.Sound.{Sound, TurnedToUndo, AreDocumentsListed, Noticed, MarkStands, IsWhole, IsOf, IsMarkDue, Cause, IsWriterOf, has_moved, marked_in}
 use Rattle.core_clash.proofs.Basics.{test, not_both, at_writer, or_right, some_of}
 use Rattle.core_clash.proofs.Pasts.{cause_later, due_later, live_now, in_flight}
 use Rattle.core_clash.proofs.Effects.{Marks}
@@ -39,13 +39,13 @@ module _ (s : Core) (d : Draw) (f : Met) (rest : List Met) (number : ℕ) (docs 
     same_undoing : (o : Revision) → (t.writers o).undoing ≡ (s.writers o).undoing
     same_undoing o = at_writer (λ x v. v.undoing ≡ (s.writers x).undoing) s.writers r w o refl (λ k. refl)
 
-    listed : (o : Revision) → is_stopped s.past o.cluster ≡ false → IsListed (t.writers o)
-    listed o = at_writer (λ x v. is_stopped s.past x.cluster ≡ false → IsListed v) s.writers r w o (λ on. let l = sound.listed r on in record { gone = l.gone; all = l.all; none = l.none }) (λ k. sound.listed o)
+    listed : (o : Revision) → is_stopped s.past o.cluster ≡ false → AreDocumentsListed (t.writers o)
+    listed o = at_writer (λ x v. is_stopped s.past x.cluster ≡ false → AreDocumentsListed v) s.writers r w o (λ on. let l = sound.listed r on in record { gone = l.gone; all = l.all; none = l.none }) (λ k. sound.listed o)
 
-    stopped : (o : Revision) → (t.writers o).undoing ≡ true → IsTurned s.past o (t.writers o)
-    stopped o = at_writer (λ x v. v.undoing ≡ true → IsTurned s.past x v) s.writers r w o (λ h. not_both _ h may.going.going) (λ k h. sound.stopped o h)
+    stopped : (o : Revision) → (t.writers o).undoing ≡ true → TurnedToUndo s.past o (t.writers o)
+    stopped o = at_writer (λ x v. v.undoing ≡ true → TurnedToUndo s.past x v) s.writers r w o (λ h. not_both _ h may.going.going) (λ k h. sound.stopped o h)
 
-    this_due : IsDue s.past r f
+    this_due : IsMarkDue s.past r f
     this_due = sound.due r f (subst (λ (fs : List Met). In f fs) (sym may.next) (inl refl))
 
     is_of : (q : Path) (o : Revision) (m : Mark) → IsOf s q o m → IsOf t q o m
@@ -60,8 +60,8 @@ module _ (s : Core) (d : Draw) (f : Met) (rest : List Met) (number : ℕ) (docs 
     ended o h (inl c) = inl c
     ended o h (inr u) = inr (rw same_undoing u.0, rw same_written u.1)
 
-    due_of : (o : Revision) (g : Met) → In g (t.writers o).due → IsDue t.past o g
-    due_of o g = at_writer (λ x v. In g v.due → IsDue t.past x g) s.writers r w o
+    due_of : (o : Revision) (g : Met) → In g (t.writers o).due → IsMarkDue t.past o g
+    due_of o g = at_writer (λ x v. In g v.due → IsMarkDue t.past x g) s.writers r w o
         (λ h. due_later _ s.past r g refl refl (sound.due r g (subst (λ (fs : List Met). In g fs) (sym may.next) (inr h))))
         (λ k h. due_later _ s.past o g refl refl (sound.due o g h))
 
@@ -121,7 +121,7 @@ module _ (s : Core) (d : Draw) (f : Met) (rest : List Met) (number : ℕ) (docs 
     both_later a b (inl h) = inl (noticed_later a b h)
     both_later a b (inr h) = inr (noticed_later b a h)
 
-    stood : (o : Revision) (q : Path) (m : Mark) → Stands t o q m → Stands s o q m
+    stood : (o : Revision) (q : Path) (m : Mark) → MarkStands t o q m → MarkStands s o q m
     stood o q m h = record { written = rw same_written at h.written; going = rw same_undoing at h.going; mark = h.mark }
 
     pub mark_keeps : Sound t

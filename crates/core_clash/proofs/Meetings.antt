@@ -23,7 +23,7 @@ use Rattle.oak_clash.specs.declared.mark.MarkAt.{MarkAt}
 use Rattle.oak_clash.specs.Clashes.{clash, marks_at, Meets}
 use Rattle.oak_doc.specs.declared.document.Document.{Document}
 use Rattle.oak_doc.specs.Updates.{of_revision, values_of_property, Props}
-use Rattle.oak_commit.specs.Clashing.{Met, has, has_mark, marked, marks_in, revisions_in, met_among, met_with, found}
+use Rattle.oak_commit.specs.Clashing.{Met, has, has_mark, marked, marks_in, marked_revisions, met_among, met_with, found}
 use Rattle.core_clash.specs.Views.{In, mark_at}
 use Rattle.core_clash.proofs.Basics.{some_is, same_revision, same_name, other_revision, decide, In-left, In-right}
 use Rattle.core_clash.proofs.Documents.{In-marks_at, In-from_marks_at}
@@ -101,7 +101,7 @@ In-sorted (r ∷ rs) es o (inl (inr h)) = In-sorted rs (insert_entry revision_cm
 In-sorted (r ∷ rs) es o (inr h) = In-sorted rs (insert_entry revision_cmp es r true) o (inr (In-insert revision_cmp revision_exact es r o (inr h)))
 
 -- who has a mark there is among the revisions there
-pub In-revisions : (doc : Option Document) (o : Revision) (m : Mark) → marked doc o m ≡ true → In o (revisions_in doc)
+pub In-revisions : (doc : Option Document) (o : Revision) (m : Mark) → marked doc o m ≡ true → In o (marked_revisions doc)
 In-revisions None o m h = absurd (false≢true h)
 In-revisions (Some d) o m h = In-sorted (keys_of d.deleted ++ (keys_of d.guard ++ (keys_of d.touched ++ flat_map (λ e. keys_of e.1) d.props))) [] o (inl (by m h))
   where
@@ -202,7 +202,7 @@ module _ (base : RevVec) (r : Revision) (p : Path) (ms : List MarkAt) (doc : Opt
       let a = met_some p (marks_at p ms) (marks_in doc o) m n (In-marks_at p m ms h) (In-marks_in doc o n k) c in
       let b = met_some p (marks_in doc o) (marks_at p ms) n m (In-marks_in doc o n k) (In-marks_at p m ms h) (clash_swap m n c) in
       let f : Met = record { other = o; mine = a.0; theirs = b.0 } in
-      (f, In-filter_map test_of o f (revisions_in doc) (In-revisions doc o n k) (of_tests f (unsame (decide o r)) a.1 b.1), refl)
+      (f, In-filter_map test_of o f (marked_revisions doc) (In-revisions doc o n k) (of_tests f (unsame (decide o r)) a.1 b.1), refl)
     where
       unsame : (o ≡ r) ⊎ (is_same o r ≡ false) → is_same o r ≡ false
       unsame (inl e) = absurd (apart (sym e))
@@ -213,6 +213,6 @@ module _ (base : RevVec) (r : Revision) (p : Path) (ms : List MarkAt) (doc : Opt
 
   pub meeting : Meeting base r p ms doc (found base r p ms doc)
   meeting = record {
-    each = λ f h. let x = In-from_filter_map test_of f (revisions_in doc) h in is_met x.0 f x.1;
+    each = λ f h. let x = In-from_filter_map test_of f (marked_revisions doc) h in is_met x.0 f x.1;
     all = all_met;
   }

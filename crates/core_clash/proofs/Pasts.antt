@@ -14,7 +14,7 @@ use Rattle.oak_machine.specs.Commits.{draw_of, marks_of, is_drawn, is_committed,
 use Rattle.oak_machine.specs.Runs.{was_live_beside}
 use Rattle.oak_commit.specs.Clashing.{Met}
 use Rattle.core_clash.specs.Views.{In}
-use Rattle.core_clash.specs.Sound.{Cause, IsDue}
+use Rattle.core_clash.specs.Sound.{Cause, IsMarkDue}
 use Rattle.core_clash.proofs.Basics.{or_left, or_right, and_true, and_both}
 
 -- a later draw hides no earlier one
@@ -59,7 +59,7 @@ refused_for (event.Refuse q item o ∷ past) r h = by (is_same r q) (refused_for
     by false rest k = rest k
 refused_for (e ∷ past) r h = refused_for past r h
 
-pub due_later : (e : Event) (past : Past) (r : Revision) (f : Met) → KeepsDraw e past r → KeepsDraw e past f.other → IsDue past r f → IsDue (e ∷ past) r f
+pub due_later : (e : Event) (past : Past) (r : Revision) (f : Met) → KeepsDraw e past r → KeepsDraw e past f.other → IsMarkDue past r f → IsMarkDue (e ∷ past) r f
 due_later e past r f kr ko c = record { cause = cause_later e past r f.mine f.other kr ko c.cause; theirs = rw (kr, ko) c.theirs }
 
 pub in_flight : (past : Past) (r : Revision) (d : Draw) → draw_of past r ≡ Some d → is_ended past r ≡ false → is_in_flight past r ≡ true

@@ -19,9 +19,9 @@ use Rattle.oak_machine.specs.Commits.{marks_of}
 use Rattle.oak_clash.specs.declared.mark.Mark.{Mark}
 use Rattle.core_clash.proofs.Basics.{or_cases}
 use Rattle.core_read.specs.Commits.{Sight}
-use Rattle.core_clash.specs.Core.{Core, Docs, Moved, root_of, MayMark, MayLast, after_mark, after_last, marked_by, lasted_by, after_event, is_quiet}
+use Rattle.core_clash.specs.Core.{Core, Docs, Moved, root_of, MayMark, MayLast, core_after_mark, core_last, core_marked, core_lasted, after_event, is_quiet}
 use Rattle.core_clash.specs.Sound.{Sound, marked_in}
-use Rattle.core_clash.specs.Steps.{Step, draw, write, mark, last, want, undo, finish, bound, prune, remove, split, clear, dropped, other, IsStart, at_start, Reached, begun, more, EndsWell}
+use Rattle.core_clash.specs.Steps.{Step, draw, write, mark, last, want, undo, finish, bound, prune, remove, split, clear, dropped, other, IsCoreStart, at_start, Reached, begun, more, EndsWell}
 use Rattle.core_clash.proofs.Pasts.{in_flight}
 use Rattle.core_clash.proofs.Updates.{mark_is, last_is}
 use Rattle.core_clash.proofs.Undoing.{undoes}
@@ -35,7 +35,7 @@ use Rattle.core_clash.proofs.Steps.{write_step, mark_step, last_step, may_commit
 never : {A : Type 0} → false ≡ true → A
 never h = absurd (false≢true h)
 
-start_sound : (old : Sight) (number : ℕ) (docs : Docs) (moved : Moved) → IsStart old docs moved → Sound (at_start old number docs moved)
+start_sound : (old : Sight) (number : ℕ) (docs : Docs) (moved : Moved) → IsCoreStart old docs moved → Sound (at_start old number docs moved)
 start_sound old number docs moved is = record {
   ordered = is.ordered;
   committed_drawn = λ r h. never h;
@@ -94,19 +94,19 @@ pub reached_sound : (s : Core) → Reached s → Sound s
 reached_sound s (begun old number docs moved is) = start_sound old number docs moved is
 reached_sound t (more {s} reached one) = step_sound one (reached_sound s reached)
 
-mark_ends : (s : Core) (d : Draw) (f : Met) (rest : List Met) → Sound s → MayMark s d f rest → EndsWell s.past → EndsWell (after_mark s d f rest).past
+mark_ends : (s : Core) (d : Draw) (f : Met) (rest : List Met) → Sound s → MayMark s d f rest → EndsWell s.past → EndsWell (core_after_mark s d f rest).past
 mark_ends s d f rest sound may well = by (mark_is (s.docs (root_of s.past f.other)) s.past d.revision f (s.number + 1))
   where
-    by : ((noted (s.docs (root_of s.past f.other)) f.other ≡ false) × (updated (s.docs (root_of s.past f.other)) (mark_op (root_of s.past f.other) f.other d.revision f.theirs) (s.number + 1) ≡ Ok (after_changes (s.docs (root_of s.past f.other)) (mark_op (root_of s.past f.other) f.other d.revision f.theirs) (s.number + 1)))) ⊎ ((g : OpFault) × (updated (s.docs (root_of s.past f.other)) (mark_op (root_of s.past f.other) f.other d.revision f.theirs) (s.number + 1) ≡ Err g)) → EndsWell (after_mark s d f rest).past
-    by (inl h) = subst (λ (x : Result Document OpFault). EndsWell (marked_by s d f rest x).past) (sym h.1) (tt, well)
-    by (inr h) = subst (λ (x : Result Document OpFault). EndsWell (marked_by s d f rest x).past) (sym h.1) (may_refuse_at_mark s d f rest sound may, well)
+    by : ((noted (s.docs (root_of s.past f.other)) f.other ≡ false) × (updated (s.docs (root_of s.past f.other)) (mark_op (root_of s.past f.other) f.other d.revision f.theirs) (s.number + 1) ≡ Ok (after_changes (s.docs (root_of s.past f.other)) (mark_op (root_of s.past f.other) f.other d.revision f.theirs) (s.number + 1)))) ⊎ ((g : OpFault) × (updated (s.docs (root_of s.past f.other)) (mark_op (root_of s.past f.other) f.other d.revision f.theirs) (s.number + 1) ≡ Err g)) → EndsWell (core_after_mark s d f rest).past
+    by (inl h) = subst (λ (x : Result Document OpFault). EndsWell (core_marked s d f rest x).past) (sym h.1) (tt, well)
+    by (inr h) = subst (λ (x : Result Document OpFault). EndsWell (core_marked s d f rest x).past) (sym h.1) (may_refuse_at_mark s d f rest sound may, well)
 
-last_ends : (s : Core) (d : Draw) → Sound s → MayLast s d → EndsWell s.past → EndsWell (after_last s d).past
+last_ends : (s : Core) (d : Draw) → Sound s → MayLast s d → EndsWell s.past → EndsWell (core_last s d).past
 last_ends s d sound may well = by (last_is (s.docs (root_of s.past d.revision)) s.past d.revision (s.number + 1))
   where
-    by : ((is_some (collision (s.docs (root_of s.past d.revision)) d.revision) ≡ false) × (updated (s.docs (root_of s.past d.revision)) (last_op d.revision (marks_of s.past d.revision)) (s.number + 1) ≡ Ok (after_changes (s.docs (root_of s.past d.revision)) (last_op d.revision (marks_of s.past d.revision)) (s.number + 1)))) ⊎ ((e : Revision × Item) × (collision (s.docs (root_of s.past d.revision)) d.revision ≡ Some e) × (updated (s.docs (root_of s.past d.revision)) (last_op d.revision (marks_of s.past d.revision)) (s.number + 1) ≡ Err (fault.Unmet (NoCollision d.revision) (kept.Entry e.0 e.1)))) → EndsWell (after_last s d).past
-    by (inl h) = subst (λ (x : Result Document OpFault). EndsWell (lasted_by s d x).past) (sym h.1) (may_commit s d sound may h.0, well)
-    by (inr h) = subst (λ (x : Result Document OpFault). EndsWell (lasted_by s d x).past) (sym h.2) (may_refuse_at_last s d h.0.0 h.0.1 sound may h.1, well)
+    by : ((is_some (collision (s.docs (root_of s.past d.revision)) d.revision) ≡ false) × (updated (s.docs (root_of s.past d.revision)) (last_op d.revision (marks_of s.past d.revision)) (s.number + 1) ≡ Ok (after_changes (s.docs (root_of s.past d.revision)) (last_op d.revision (marks_of s.past d.revision)) (s.number + 1)))) ⊎ ((e : Revision × Item) × (collision (s.docs (root_of s.past d.revision)) d.revision ≡ Some e) × (updated (s.docs (root_of s.past d.revision)) (last_op d.revision (marks_of s.past d.revision)) (s.number + 1) ≡ Err (fault.Unmet (NoCollision d.revision) (kept.Entry e.0 e.1)))) → EndsWell (core_last s d).past
+    by (inl h) = subst (λ (x : Result Document OpFault). EndsWell (core_lasted s d x).past) (sym h.1) (may_commit s d sound may h.0, well)
+    by (inr h) = subst (λ (x : Result Document OpFault). EndsWell (core_lasted s d x).past) (sym h.2) (may_refuse_at_last s d h.0.0 h.0.1 sound may h.1, well)
 
 event_ends : (s : Core) (e : Event) → is_quiet e ≡ true → EndsWell s.past → EndsWell (after_event s e).past
 event_ends s (event.Draw d) quiet well = never quiet

@@ -15,7 +15,7 @@ use Rattle.oak_machine.specs.Commits.{is_drawn, is_committed, is_refused, is_end
 use Rattle.oak_commit.specs.Clashing.{Met, Writer}
 use Rattle.core_clash.specs.Views.{In}
 use Rattle.core_clash.specs.Core.{Core, undoing_from, refusing, IsGoing}
-use Rattle.core_clash.specs.Sound.{Sound, IsTurned, IsListed, Noticed, Stands, IsWhole, IsOf, IsDue, Cause, IsWriterOf}
+use Rattle.core_clash.specs.Sound.{Sound, TurnedToUndo, AreDocumentsListed, Noticed, MarkStands, IsWhole, IsOf, IsMarkDue, Cause, IsWriterOf}
 use Rattle.core_clash.proofs.Basics.{is_same_self, not_both, decide, same_revision, at_writer, writer_mine, writer_other, or_left, or_right, or_cases}
 use Rattle.core_clash.proofs.Pasts.{cause_later, due_later}
 
@@ -51,15 +51,15 @@ module _ (s : Core) (d : Draw) (item : Item) (other : Revision) where
     refused_drawn o (inl e) = rw (same_revision o r e) drawn
     refused_drawn o (inr h) = sound.refused_drawn o h
 
-    listed : (o : Revision) → is_stopped s.past o.cluster ≡ false → IsListed (t.writers o)
-    listed o = at_writer (λ x v. is_stopped s.past x.cluster ≡ false → IsListed v) s.writers r w o (λ on. let l = sound.listed r on in record { gone = l.gone; all = l.all; none = λ h. absurd (false≢true (sym h)) }) (λ k. sound.listed o)
+    listed : (o : Revision) → is_stopped s.past o.cluster ≡ false → AreDocumentsListed (t.writers o)
+    listed o = at_writer (λ x v. is_stopped s.past x.cluster ≡ false → AreDocumentsListed v) s.writers r w o (λ on. let l = sound.listed r on in record { gone = l.gone; all = l.all; none = λ h. absurd (false≢true (sym h)) }) (λ k. sound.listed o)
 
-    stopped : (o : Revision) → (t.writers o).undoing ≡ true → IsTurned t.past o (t.writers o)
-    stopped o = at_writer (λ x v. v.undoing ≡ true → IsTurned t.past x v) s.writers r w o
+    stopped : (o : Revision) → (t.writers o).undoing ≡ true → TurnedToUndo t.past o (t.writers o)
+    stopped o = at_writer (λ x v. v.undoing ≡ true → TurnedToUndo t.past x v) s.writers r w o
         (λ h. inl (or_left (is_same r r) _ (is_same_self r)))
         (λ k h. before (sound.stopped o h))
       where
-        before : IsTurned s.past o (s.writers o) → IsTurned t.past o (s.writers o)
+        before : TurnedToUndo s.past o (s.writers o) → TurnedToUndo t.past o (s.writers o)
         before (inl h) = inl (or_right (is_same o r) _ h)
         before (inr h) = inr h
 
@@ -97,8 +97,8 @@ module _ (s : Core) (d : Draw) (item : Item) (other : Revision) where
         (λ h. not_both (is_ended s.past r) h going.unended)
         (λ f h. sound.ended o h)
 
-    due_of : (o : Revision) (g : Met) → In g (t.writers o).due → IsDue t.past o g
-    due_of o g = at_writer (λ x v. In g v.due → IsDue t.past x g) s.writers r w o (λ h. absurd h) (λ k h. due_later _ s.past o g refl refl (sound.due o g h))
+    due_of : (o : Revision) (g : Met) → In g (t.writers o).due → IsMarkDue t.past o g
+    due_of o g = at_writer (λ x v. In g v.due → IsMarkDue t.past x g) s.writers r w o (λ h. absurd h) (λ k h. due_later _ s.past o g refl refl (sound.due o g h))
 
     whole : (o : Revision) → is_committed s.past o ≡ true → IsWhole (t.writers o)
     whole o = at_writer (λ x v. is_committed s.past x ≡ true → IsWhole v) s.writers r w o
@@ -110,10 +110,10 @@ module _ (s : Core) (d : Draw) (item : Item) (other : Revision) where
     noticed_later a b k (inr (inl f)) = inr (inl (f.0, rw (writer_other s.writers r w a k) f.1, f.2))
     noticed_later a b k (inr (inr c)) = inr (inr c)
 
-    noticed : (a o : Revision) (q : Path) (m n : Mark) → (a ≡ o → ⊥) → Stands t a q m → Stands t o q n → clash m n ≡ true → Noticed t a o ⊎ Noticed t o a
+    noticed : (a o : Revision) (q : Path) (m n : Mark) → (a ≡ o → ⊥) → MarkStands t a q m → MarkStands t o q n → clash m n ≡ true → Noticed t a o ⊎ Noticed t o a
     noticed a o q m n apart sa so c = by (sound.noticed a o q m n apart (stood a m sa) (stood o n so) c)
       where
-        stood : (x : Revision) (l : Mark) → Stands t x q l → Stands s x q l
+        stood : (x : Revision) (l : Mark) → MarkStands t x q l → MarkStands s x q l
         stood x l h = record { written = rw same_written at h.written; going = (goes x h.going).1; mark = h.mark }
 
         by : Noticed s a o ⊎ Noticed s o a → Noticed t a o ⊎ Noticed t o a

@@ -22,7 +22,7 @@ use Rattle.oak_machine.specs.declared.event.StepKind.TheVariants as kind
 use Rattle.oak_machine.specs.Commits.{is_committed}
 use Rattle.oak_commit.specs.Clashing.{Met, marked, noted}
 use Rattle.core_clash.specs.Views.{In, mark_at}
-use Rattle.core_clash.specs.Core.{Core, Docs, with_document, after_draw, after_write, after_mark, after_last, after_undo, after_finish, is_path}
+use Rattle.core_clash.specs.Core.{Core, Docs, with_document, core_drawn, core_written, core_after_mark, core_last, core_undone, core_finished, is_path}
 use Rattle.core_clash.specs.Sound.{IsRooted}
 use Rattle.core_clash.specs.Steps.{at_start, Reached, begun, more, draw, write, last, finish}
 
@@ -58,10 +58,10 @@ s0 = at_start (λ r. is_same r (start_of 1)) 1 docs (λ p. [])
 
 -- both draw; the first writes /a, the second /a and /b, the first /b
 abbrev s1 : Core
-s1 = after_write (after_draw (after_draw s0 (both 2 0) (a ∷ b ∷ [])) (both 3 1) (a ∷ b ∷ [])) (both 2 0) a (b ∷ [])
+s1 = core_written (core_drawn (core_drawn s0 (both 2 0) (a ∷ b ∷ [])) (both 3 1) (a ∷ b ∷ [])) (both 2 0) a (b ∷ [])
 
 abbrev s2 : Core
-s2 = after_write s1 (both 3 1) a (b ∷ [])
+s2 = core_written s1 (both 3 1) a (b ∷ [])
 
 -- the second has met the first at /a
 abbrev f3 : Met
@@ -76,14 +76,14 @@ told = refl
 
 -- it marks the first, and writes /b
 abbrev s3 : Core
-s3 = after_write (after_mark s2 (both 3 1) f3 []) (both 3 1) b []
+s3 = core_written (core_after_mark s2 (both 3 1) f3 []) (both 3 1) b []
 
 none_met : (s3.writers (at 3)).due ≡ []
 none_met = refl
 
 -- the first meets the second at /b, and marks it
 abbrev s4 : Core
-s4 = after_write s3 (both 2 0) b []
+s4 = core_written s3 (both 2 0) b []
 
 abbrev f2 : Met
 f2 = record { other = at 3; mine = record { path = b; name = Some p }; theirs = record { path = b; name = Some p } }
@@ -92,7 +92,7 @@ met_second : (s4.writers (at 2)).due ≡ f2 ∷ []
 met_second = refl
 
 abbrev s5 : Core
-s5 = after_last (after_last (after_mark s4 (both 2 0) f2 []) (both 3 1)) (both 2 0)
+s5 = core_last (core_last (core_after_mark s4 (both 2 0) f2 []) (both 3 1)) (both 2 0)
 
 -- both are refused, each with its own item and the other
 both_refused : s5.past
@@ -104,7 +104,7 @@ both_refused = refl
 
 -- where the second marks only after the first has committed, it is refused at its mark
 abbrev t3 : Core
-t3 = after_mark (after_last (after_write s2 (both 2 0) b []) (both 2 0)) (both 3 1) f3 []
+t3 = core_after_mark (core_last (core_written s2 (both 2 0) b []) (both 2 0)) (both 3 1) f3 []
 
 refused_at_mark : t3.past
     ≡ event.Refuse (at 3) (record { path = a; name = Some p }) (at 2)
@@ -113,7 +113,7 @@ refused_at_mark : t3.past
 refused_at_mark = refl
 
 -- it undoes /a, and nothing of it is left
-undone : marked ((after_undo t3 (both 3 1) a []).docs a) (at 3) (mark.Prop p) ≡ false
+undone : marked ((core_undone t3 (both 3 1) a []).docs a) (at 3) (mark.Prop p) ≡ false
 undone = refl
 
 -- a commit that is reached whole, over documents that aren't there yet
@@ -136,19 +136,19 @@ apart (inl e) = false≢true (ap (λ (x : List (List ℕ)). is_path a x) (sym e)
 apart (inr h) = h
 
 abbrev z1 : Core
-z1 = after_draw z0 (both 2 0) (a ∷ b ∷ [])
+z1 = core_drawn z0 (both 2 0) (a ∷ b ∷ [])
 
 abbrev z2 : Core
-z2 = after_write z1 (both 2 0) a (b ∷ [])
+z2 = core_written z1 (both 2 0) a (b ∷ [])
 
 abbrev z3 : Core
-z3 = after_write z2 (both 2 0) b []
+z3 = core_written z2 (both 2 0) b []
 
 abbrev z4 : Core
-z4 = after_last z3 (both 2 0)
+z4 = core_last z3 (both 2 0)
 
 abbrev z5 : Core
-z5 = after_finish z4 (both 2 0)
+z5 = core_finished z4 (both 2 0)
 
 reached_1 : Reached z1
 reached_1 = more begun_there (draw (both 2 0) (a ∷ b ∷ []) (record { begins = record { fresh = refl; later = λ r. refl; itself = refl; settled = λ o h. absurd (false≢true h); start = refl; started = not_start }; sees_old = λ o h. subst (λ (x : Revision). sees (both 2 0).base x ≡ true) (sym (same_revision o (start_of 1) h)) refl; new = refl; covers = covers; once = (apart, (λ h. h, tt)); entries = λ m item. (λ h. h, λ h. h) }) (λ o h. absurd (false≢true h)))

@@ -21,7 +21,7 @@ use Rattle.oak_machine.specs.Commits.{marks_of}
 use Rattle.core_read.specs.Holds.{root_entry}
 use Rattle.core_keep.specs.Journal.{is_swept}
 use Rattle.core_clash.specs.Views.{In}
-use Rattle.core_clash.specs.Core.{Core, IsDead, after_clear, cleared, is_path, is_quiet, lasted_by, marked_by, root_of, with_writer}
+use Rattle.core_clash.specs.Core.{Core, IsDead, core_cleared, cleared, is_path, is_quiet, core_lasted, core_marked, root_of, with_writer}
 use Rattle.core_clash.specs.Sound.{IsOf, IsWriterOf, Sound, marked_in}
 use Rattle.core_clash.specs.Steps.{IsUndoneAt, Step}
 use Rattle.core_clash.specs.Steps.Step.{draw, write, mark, last, want, undo, finish, bound, prune, remove, split, clear, dropped, other}
@@ -41,11 +41,11 @@ fewer s o w r p h = at_writer (λ x v. In p v.written → In p (s.writers x).wri
 elsewhere : (s : Core) (o : Revision) (w : Writer) (r : Revision) (p : Path) → is_stopped s.past o.cluster ≡ false → is_stopped s.past r.cluster ≡ true → In p (with_writer s.writers o w r).written → In p (s.writers r).written
 elsewhere s o w r p running stopped = at_writer (λ x v. is_stopped s.past x.cluster ≡ true → In p v.written → In p (s.writers x).written) s.writers o w r (λ t i. not_both (is_stopped s.past o.cluster) t running) (λ f t i. i) stopped
 
-marked_fewer : (s : Core) (d : Draw) (f : Met) (rest : List Met) (x : Result Document OpFault) (r : Revision) (p : Path) → In p ((marked_by s d f rest x).writers r).written → In p (s.writers r).written
+marked_fewer : (s : Core) (d : Draw) (f : Met) (rest : List Met) (x : Result Document OpFault) (r : Revision) (p : Path) → In p ((core_marked s d f rest x).writers r).written → In p (s.writers r).written
 marked_fewer s d f rest (Ok doc) r p = fewer s d.revision _ r p (λ i. i)
 marked_fewer s d f rest (Err g) r p = fewer s d.revision _ r p (λ i. i)
 
-lasted_fewer : (s : Core) (d : Draw) (x : Result Document OpFault) (r : Revision) (p : Path) → In p ((lasted_by s d x).writers r).written → In p (s.writers r).written
+lasted_fewer : (s : Core) (d : Draw) (x : Result Document OpFault) (r : Revision) (p : Path) → In p ((core_lasted s d x).writers r).written → In p (s.writers r).written
 lasted_fewer s d (Ok doc) r p i = i
 lasted_fewer s d (Err (fault.Unmet c (kept.Entry o item))) r p i = fewer s d.revision _ r p (λ i. i) i
 lasted_fewer s d (Err (fault.Unmet c (kept.Number n))) r p i = i
@@ -107,11 +107,11 @@ kept_by past d (event.Recover k) quiet = record { draw = refl; commits = refl; s
 refused_dead : (past : Past) (d : Draw) (e : Event) → draw_of (e ∷ past) d.revision ≡ draw_of past d.revision → is_committed (e ∷ past) d.revision ≡ is_committed past d.revision → is_stopped (e ∷ past) d.revision.cluster ≡ is_stopped past d.revision.cluster → IsDead past d → IsDead (e ∷ past) d
 refused_dead past d e draws commits stops = with_event past d e (record { draw = draws; commits = commits; stays = λ h. stops ∙ h })
 
-marked_dead : (s : Core) (f : Draw) (g : Met) (rest : List Met) (x : Result Document OpFault) (d : Draw) → IsDead s.past d → IsDead (marked_by s f g rest x).past d
+marked_dead : (s : Core) (f : Draw) (g : Met) (rest : List Met) (x : Result Document OpFault) (d : Draw) → IsDead s.past d → IsDead (core_marked s f g rest x).past d
 marked_dead s f g rest (Ok doc) d = refused_dead s.past d _ refl refl refl
 marked_dead s f g rest (Err y) d = refused_dead s.past d _ refl refl refl
 
-lasted_dead : (s : Core) (f : Draw) → is_stopped s.past f.revision.cluster ≡ false → (x : Result Document OpFault) (d : Draw) → IsDead s.past d → IsDead (lasted_by s f x).past d
+lasted_dead : (s : Core) (f : Draw) → is_stopped s.past f.revision.cluster ≡ false → (x : Result Document OpFault) (d : Draw) → IsDead s.past d → IsDead (core_lasted s f x).past d
 lasted_dead s f running (Ok doc) d dead = refused_dead s.past d (event.Commit f.revision) refl (ap (λ b. b || is_committed s.past d.revision) (apart (decide d.revision f.revision))) refl dead
   where
     apart : (d.revision ≡ f.revision) ⊎ (is_same d.revision f.revision ≡ false) → is_same d.revision f.revision ≡ false
@@ -149,7 +149,7 @@ stays_dead {s} (other e quiet) d dead = with_event s.past d e (kept_by s.past d 
 
 -- ---- what is undone
 
-pub undone_begins : (s : Core) (e : Event) (d : Draw) (p : Path) → IsUndoneAt (after_clear s e d p) d.revision p
+pub undone_begins : (s : Core) (e : Event) (d : Draw) (p : Path) → IsUndoneAt (core_cleared s e d p) d.revision p
 undone_begins s e d p h = not_both (is_path p p) (is_path_self p) (without_in p p (s.writers d.revision).written (subst (λ (w : Writer). In p w.written) (writer_mine s.writers d.revision (cleared (s.writers d.revision) p)) h)).1
 
 pub undone_stays : {s t : Core} → Step s t → (r : Revision) (p : Path) → is_stopped s.past r.cluster ≡ true → IsUndoneAt s r p → IsUndoneAt t r p

@@ -19,9 +19,9 @@ use Rattle.oak_machine.specs.Runs.{IsOpen, MayCommit, MayRefuse}
 use Rattle.oak_commit.specs.Writing.{write_op, last_op}
 use Rattle.oak_commit.specs.Clashing.{Met, marked, noted, collision, found, mark_op}
 use Rattle.core_clash.specs.Views.{In, mark_at}
-use Rattle.core_clash.specs.Core.{Core, docs_after, with_document, with_writer, root_of, IsGoing, IsDone, MayWrite, MayMark, MayLast, after_write, after_mark, after_last, marked_by, lasted_by}
+use Rattle.core_clash.specs.Core.{Core, docs_after, with_document, with_writer, root_of, IsGoing, IsDone, MayWrite, MayMark, MayLast, core_written, core_after_mark, core_last, core_marked, core_lasted}
 use Rattle.oak_commit.specs.Looking.{whole}
-use Rattle.core_clash.specs.Sound.{Sound, Cause, Noticed, Stands, IsOf, IsRooted, has_moved, marked_in}
+use Rattle.core_clash.specs.Sound.{Sound, Cause, Noticed, MarkStands, IsOf, IsRooted, has_moved, marked_in}
 use Rattle.std.specs.List.{list_any}
 use Rattle.core_clash.proofs.Whole.{whole_from}
 use Rattle.core_keep.specs.Journal.{is_swept}
@@ -35,7 +35,7 @@ use Rattle.core_clash.proofs.Marked.{mark_keeps}
 use Rattle.core_clash.proofs.Committed.{commit_keeps}
 use Rattle.core_clash.proofs.Refused.{refuse_keeps}
 
-pub write_step : (s : Core) (d : Draw) (p : Path) (rest : List Path) → Sound s → MayWrite s d p rest → Sound (after_write s d p rest)
+pub write_step : (s : Core) (d : Draw) (p : Path) (rest : List Path) → Sound s → MayWrite s d p rest → Sound (core_written s d p rest)
 write_step s d p rest sound may = subst
     (λ (x : Result Document OpFault). Sound (record {
       number = s.number + 1;
@@ -48,21 +48,21 @@ write_step s d p rest sound may = subst
     (sym (write_is (s.docs p) d p (s.number + 1)))
     (write_keeps s d p rest (s.number + 1) (with_document s.docs p (after_changes (s.docs p) (write_op d.revision d.edit.writes d.marks p) (s.number + 1))) (found d.base d.revision p d.marks (whole p (s.docs p) (s.moved p))) sound may (writes s.docs d p (s.number + 1) (sound.ordered p) (sound.edits d.revision d may.going.draw)) (meeting d.base d.revision p d.marks (whole p (s.docs p) (s.moved p))))
 
-pub mark_step : (s : Core) (d : Draw) (f : Met) (rest : List Met) → Sound s → MayMark s d f rest → Sound (after_mark s d f rest)
+pub mark_step : (s : Core) (d : Draw) (f : Met) (rest : List Met) → Sound s → MayMark s d f rest → Sound (core_after_mark s d f rest)
 mark_step s d f rest sound may = by (mark_is (s.docs (root_of s.past f.other)) s.past d.revision f (s.number + 1))
   where
-    by : ((noted (s.docs (root_of s.past f.other)) f.other ≡ false) × (updated (s.docs (root_of s.past f.other)) (mark_op (root_of s.past f.other) f.other d.revision f.theirs) (s.number + 1) ≡ Ok (after_changes (s.docs (root_of s.past f.other)) (mark_op (root_of s.past f.other) f.other d.revision f.theirs) (s.number + 1)))) ⊎ ((g : OpFault) × (updated (s.docs (root_of s.past f.other)) (mark_op (root_of s.past f.other) f.other d.revision f.theirs) (s.number + 1) ≡ Err g)) → Sound (after_mark s d f rest)
-    by (inl h) = subst (λ (x : Result Document OpFault). Sound (marked_by s d f rest x)) (sym h.1)
+    by : ((noted (s.docs (root_of s.past f.other)) f.other ≡ false) × (updated (s.docs (root_of s.past f.other)) (mark_op (root_of s.past f.other) f.other d.revision f.theirs) (s.number + 1) ≡ Ok (after_changes (s.docs (root_of s.past f.other)) (mark_op (root_of s.past f.other) f.other d.revision f.theirs) (s.number + 1)))) ⊎ ((g : OpFault) × (updated (s.docs (root_of s.past f.other)) (mark_op (root_of s.past f.other) f.other d.revision f.theirs) (s.number + 1) ≡ Err g)) → Sound (core_after_mark s d f rest)
+    by (inl h) = subst (λ (x : Result Document OpFault). Sound (core_marked s d f rest x)) (sym h.1)
         (mark_keeps s d f rest (s.number + 1) (with_document s.docs (root_of s.past f.other) (after_changes (s.docs (root_of s.past f.other)) (mark_op (root_of s.past f.other) f.other d.revision f.theirs) (s.number + 1))) sound may (marks s.docs s.past d.revision f (s.number + 1) h.0))
-    by (inr h) = subst (λ (x : Result Document OpFault). Sound (marked_by s d f rest x)) (sym h.1) (refuse_keeps s d f.mine f.other sound may.going (sound.due d.revision f (subst (λ (fs : List Met). In f fs) (sym may.next) (inl refl))).cause)
+    by (inr h) = subst (λ (x : Result Document OpFault). Sound (core_marked s d f rest x)) (sym h.1) (refuse_keeps s d f.mine f.other sound may.going (sound.due d.revision f (subst (λ (fs : List Met). In f fs) (sym may.next) (inl refl))).cause)
 
-pub last_step : (s : Core) (d : Draw) → Sound s → MayLast s d → Sound (after_last s d)
+pub last_step : (s : Core) (d : Draw) → Sound s → MayLast s d → Sound (core_last s d)
 last_step s d sound may = by (last_is (s.docs (root_of s.past d.revision)) s.past d.revision (s.number + 1))
   where
-    by : ((is_some (collision (s.docs (root_of s.past d.revision)) d.revision) ≡ false) × (updated (s.docs (root_of s.past d.revision)) (last_op d.revision (marks_of s.past d.revision)) (s.number + 1) ≡ Ok (after_changes (s.docs (root_of s.past d.revision)) (last_op d.revision (marks_of s.past d.revision)) (s.number + 1)))) ⊎ ((e : Revision × Item) × (collision (s.docs (root_of s.past d.revision)) d.revision ≡ Some e) × (updated (s.docs (root_of s.past d.revision)) (last_op d.revision (marks_of s.past d.revision)) (s.number + 1) ≡ Err (fault.Unmet (NoCollision d.revision) (kept.Entry e.0 e.1)))) → Sound (after_last s d)
-    by (inl h) = subst (λ (x : Result Document OpFault). Sound (lasted_by s d x)) (sym h.1)
+    by : ((is_some (collision (s.docs (root_of s.past d.revision)) d.revision) ≡ false) × (updated (s.docs (root_of s.past d.revision)) (last_op d.revision (marks_of s.past d.revision)) (s.number + 1) ≡ Ok (after_changes (s.docs (root_of s.past d.revision)) (last_op d.revision (marks_of s.past d.revision)) (s.number + 1)))) ⊎ ((e : Revision × Item) × (collision (s.docs (root_of s.past d.revision)) d.revision ≡ Some e) × (updated (s.docs (root_of s.past d.revision)) (last_op d.revision (marks_of s.past d.revision)) (s.number + 1) ≡ Err (fault.Unmet (NoCollision d.revision) (kept.Entry e.0 e.1)))) → Sound (core_last s d)
+    by (inl h) = subst (λ (x : Result Document OpFault). Sound (core_lasted s d x)) (sym h.1)
         (commit_keeps s d (s.number + 1) (with_document s.docs (root_of s.past d.revision) (after_changes (s.docs (root_of s.past d.revision)) (last_op d.revision (marks_of s.past d.revision)) (s.number + 1))) sound may (notes s.docs s.past d.revision (s.number + 1) h.0))
-    by (inr h) = subst (λ (x : Result Document OpFault). Sound (lasted_by s d x)) (sym h.2) (refuse_keeps s d h.0.1 h.0.0 sound may.going (sound.caused (root_of s.past d.revision) d.revision h.0.0 h.0.1 h.1))
+    by (inr h) = subst (λ (x : Result Document OpFault). Sound (core_lasted s d x)) (sym h.2) (refuse_keeps s d h.0.1 h.0.0 sound may.going (sound.caused (root_of s.past d.revision) d.revision h.0.0 h.0.1 h.1))
 
 -- who goes on is open
 is_open : (s : Core) (d : Draw) → Sound s → IsGoing s d → IsOpen s.past d.revision
@@ -97,7 +97,7 @@ no_unseen_clash s r o sound apart cr co clashes =
     wrote x p none (inl h) = h
     wrote x p none (inr h) = absurd (none_in p _ none h)
 
-    stands : (x : Revision) → is_committed s.past x ≡ true → (p : Path) (m : Mark) → In (mark_at p m) (marks_of s.past x) → Stands s x p m
+    stands : (x : Revision) → is_committed s.past x ≡ true → (p : Path) (m : Mark) → In (mark_at p m) (marks_of s.past x) → MarkStands s x p m
     stands x cx p m h = let w = sound.whole x cx in record { written = wrote x p w.left (sound.covered x p m h w.going); going = w.going; mark = h }
 
     seen : (a b : Revision) → is_committed s.past a ≡ true → is_committed s.past b ≡ true → Noticed s a b → is_in_base s.past a b ≡ true

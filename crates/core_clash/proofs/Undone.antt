@@ -17,7 +17,7 @@ use Rattle.core_read.specs.Holds.{root_entry}
 use Rattle.core_keep.specs.Journal.{is_bounded, is_swept}
 use Rattle.core_clash.specs.Views.{In, Once, mark_at}
 use Rattle.core_clash.specs.Core.{Core, Docs, IsDead, MayDrop, MayUndo, after_drop, cleared, is_path, root_of, with_writer, without_path}
-use Rattle.core_clash.specs.Sound.{Sound, IsTurned, IsListed, Noticed, Stands, IsWhole, IsOf, IsDue, IsRooted, IsWriterOf, has_moved, marked_in}
+use Rattle.core_clash.specs.Sound.{Sound, TurnedToUndo, AreDocumentsListed, Noticed, MarkStands, IsWhole, IsOf, IsMarkDue, IsRooted, IsWriterOf, has_moved, marked_in}
 use Rattle.core_clash.proofs.Basics.{not_both, decide, other_revision, at_writer, writer_mine, writer_other, In-left, is_path_self, or_cases, same_path, test}
 use Rattle.core_clash.proofs.Pasts.{in_flight}
 use Rattle.core_clash.proofs.Effects.{Undoes}
@@ -39,8 +39,8 @@ pub record LeavesOut (s : Core) (docs : Docs) (r : Revision) (p : Path) (w : Wri
   pub gone : In p w.written → ⊥
   pub left : (q : Path) → In q (s.writers r).written → IsFreeAt docs r q ⊎ In q w.written
   pub once : Once (w.written ++ w.left)
-  pub listed : is_stopped s.past r.cluster ≡ false → IsListed w
-  pub turned : IsTurned s.past r w
+  pub listed : is_stopped s.past r.cluster ≡ false → AreDocumentsListed w
+  pub turned : TurnedToUndo s.past r w
   pub ended : is_ended s.past r ≡ true → w.written ≡ []
 
 module _ (s : Core) (r : Revision) (p : Path) (w : Writer) (number : ℕ) (docs : Docs) where
@@ -129,8 +129,8 @@ module _ (s : Core) (r : Revision) (p : Path) (w : Writer) (number : ℕ) (docs 
         (λ h. inr (leaves.undoing, leaves.ended h))
         (λ f h. sound.ended o h)
 
-    due_of : (o : Revision) (g : Met) → In g (t.writers o).due → IsDue s.past o g
-    due_of o g = at_writer (λ x v. In g v.due → IsDue s.past x g) s.writers r w o (λ h. sound.due r g (leaves.due g h)) (λ k h. sound.due o g h)
+    due_of : (o : Revision) (g : Met) → In g (t.writers o).due → IsMarkDue s.past o g
+    due_of o g = at_writer (λ x v. In g v.due → IsMarkDue s.past x g) s.writers r w o (λ h. sound.due r g (leaves.due g h)) (λ k h. sound.due o g h)
 
     status : (o : Revision) → is_committed s.past o ≡ true → (o ≡ r) ⊎ (noted (docs (root_of s.past o)) o ≡ true) → noted (docs (root_of s.past o)) o ≡ true
     status o h (inl e) = never (rw e at h)
@@ -141,10 +141,10 @@ module _ (s : Core) (r : Revision) (p : Path) (w : Writer) (number : ℕ) (docs 
     noticed_later a b k (inr (inl f)) = inr (inl (f.0, rw (writer_other s.writers r w a k) f.1, f.2))
     noticed_later a b k (inr (inr c)) = inr (inr (ap (λ (x : Option (Revision × Item)). is_some x) (undoes.collisions (root_of s.past b) b) ∙ c))
 
-    noticed : (a o : Revision) (q : Path) (m n : Mark) → (a ≡ o → ⊥) → Stands t a q m → Stands t o q n → clash m n ≡ true → Noticed t a o ⊎ Noticed t o a
+    noticed : (a o : Revision) (q : Path) (m n : Mark) → (a ≡ o → ⊥) → MarkStands t a q m → MarkStands t o q n → clash m n ≡ true → Noticed t a o ⊎ Noticed t o a
     noticed a o q m n apart sa so c = by (sound.noticed a o q m n apart (stood a m sa) (stood o n so) c)
       where
-        stood : (x : Revision) (l : Mark) → Stands t x q l → Stands s x q l
+        stood : (x : Revision) (l : Mark) → MarkStands t x q l → MarkStands s x q l
         stood x l h =
             let e = writer_other s.writers r w x (goes x h.going) in
             record { written = rw e at h.written; going = rw e at h.going; mark = h.mark }
@@ -170,8 +170,8 @@ module _ (s : Core) (r : Revision) (p : Path) (w : Writer) (number : ℕ) (docs 
       rooted = rooted;
       unrooted = λ o q h. unrooted o q h (sound.unrooted o q (undoes.only_roots q o h));
       once = λ o. at_writer (λ x v. Once (v.written ++ v.left)) s.writers r w o leaves.once (λ f. sound.once o);
-      listed = λ o. at_writer (λ x v. is_stopped s.past x.cluster ≡ false → IsListed v) s.writers r w o leaves.listed (λ f. sound.listed o);
-      stopped = λ o. at_writer (λ x v. v.undoing ≡ true → IsTurned s.past x v) s.writers r w o (λ h. leaves.turned) (λ f. sound.stopped o);
+      listed = λ o. at_writer (λ x v. is_stopped s.past x.cluster ≡ false → AreDocumentsListed v) s.writers r w o leaves.listed (λ f. sound.listed o);
+      stopped = λ o. at_writer (λ x v. v.undoing ≡ true → TurnedToUndo s.past x v) s.writers r w o (λ h. leaves.turned) (λ f. sound.stopped o);
       refusal = sound.refusal;
       covered = covered;
       refused = λ o. at_writer (λ x v. is_refused s.past x ≡ true → v.undoing ≡ true) s.writers r w o (λ h. leaves.undoing) (λ f. sound.refused o);

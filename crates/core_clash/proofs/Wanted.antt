@@ -11,8 +11,8 @@ use Rattle.oak_machine.specs.Sessions.{is_stopped}
 use Rattle.oak_machine.specs.Commits.{is_committed, is_refused, is_ended}
 use Rattle.oak_commit.specs.Clashing.{Met, Writer}
 use Rattle.core_clash.specs.Views.{In}
-use Rattle.core_clash.specs.Core.{Core, undoing_from, after_want, IsGoing}
-use Rattle.core_clash.specs.Sound.{Sound, IsTurned, IsListed, Noticed, Stands, IsWhole, IsOf, IsDue, IsWriterOf}
+use Rattle.core_clash.specs.Core.{Core, undoing_from, core_wanting, IsGoing}
+use Rattle.core_clash.specs.Sound.{Sound, TurnedToUndo, AreDocumentsListed, Noticed, MarkStands, IsWhole, IsOf, IsMarkDue, IsWriterOf}
 use Rattle.core_clash.proofs.Basics.{not_both, decide, at_writer, writer_mine, writer_other}
 
 module _ (s : Core) (d : Draw) where
@@ -23,7 +23,7 @@ module _ (s : Core) (d : Draw) where
   w = record (undoing_from s d) { wants = true }
 
   abbrev pub t : Core
-  t = after_want s d
+  t = core_wanting s d
 
   module _ (sound : Sound s) (going : IsGoing s d) where
     same_written : (o : Revision) → (t.writers o).written ≡ (s.writers o).written
@@ -40,11 +40,11 @@ module _ (s : Core) (d : Draw) where
         by (inl e) = absurd (false≢true (sym (rw (e, writer_mine s.writers r w) at h)))
         by (inr f) = (f, rw (writer_other s.writers r w o f) at h)
 
-    listed : (o : Revision) → is_stopped s.past o.cluster ≡ false → IsListed (t.writers o)
-    listed o = at_writer (λ x v. is_stopped s.past x.cluster ≡ false → IsListed v) s.writers r w o (λ on. let l = sound.listed r on in record { gone = l.gone; all = l.all; none = λ h. absurd (false≢true (sym h)) }) (λ k. sound.listed o)
+    listed : (o : Revision) → is_stopped s.past o.cluster ≡ false → AreDocumentsListed (t.writers o)
+    listed o = at_writer (λ x v. is_stopped s.past x.cluster ≡ false → AreDocumentsListed v) s.writers r w o (λ on. let l = sound.listed r on in record { gone = l.gone; all = l.all; none = λ h. absurd (false≢true (sym h)) }) (λ k. sound.listed o)
 
-    stopped : (o : Revision) → (t.writers o).undoing ≡ true → IsTurned s.past o (t.writers o)
-    stopped o = at_writer (λ x v. v.undoing ≡ true → IsTurned s.past x v) s.writers r w o (λ h. inr (inl refl)) (λ k h. sound.stopped o h)
+    stopped : (o : Revision) → (t.writers o).undoing ≡ true → TurnedToUndo s.past o (t.writers o)
+    stopped o = at_writer (λ x v. v.undoing ≡ true → TurnedToUndo s.past x v) s.writers r w o (λ h. inr (inl refl)) (λ k h. sound.stopped o h)
 
     is_of : (q : Path) (o : Revision) (m : Mark) → IsOf s q o m → IsOf t q o m
     is_of q o m (inl e) = inl e
@@ -62,8 +62,8 @@ module _ (s : Core) (d : Draw) where
         (λ h. not_both (is_ended s.past r) h going.unended)
         (λ f h. sound.ended o h)
 
-    due_of : (o : Revision) (g : Met) → In g (t.writers o).due → IsDue t.past o g
-    due_of o g = at_writer (λ x v. In g v.due → IsDue t.past x g) s.writers r w o (λ h. absurd h) (λ k h. sound.due o g h)
+    due_of : (o : Revision) (g : Met) → In g (t.writers o).due → IsMarkDue t.past o g
+    due_of o g = at_writer (λ x v. In g v.due → IsMarkDue t.past x g) s.writers r w o (λ h. absurd h) (λ k h. sound.due o g h)
 
     whole : (o : Revision) → is_committed s.past o ≡ true → IsWhole (t.writers o)
     whole o = at_writer (λ x v. is_committed s.past x ≡ true → IsWhole v) s.writers r w o
@@ -75,10 +75,10 @@ module _ (s : Core) (d : Draw) where
     noticed_later a b k (inr (inl f)) = inr (inl (f.0, rw (writer_other s.writers r w a k) f.1, f.2))
     noticed_later a b k (inr (inr c)) = inr (inr c)
 
-    noticed : (a o : Revision) (q : Path) (m n : Mark) → (a ≡ o → ⊥) → Stands t a q m → Stands t o q n → clash m n ≡ true → Noticed t a o ⊎ Noticed t o a
+    noticed : (a o : Revision) (q : Path) (m n : Mark) → (a ≡ o → ⊥) → MarkStands t a q m → MarkStands t o q n → clash m n ≡ true → Noticed t a o ⊎ Noticed t o a
     noticed a o q m n apart sa so c = by (sound.noticed a o q m n apart (stood a m sa) (stood o n so) c)
       where
-        stood : (x : Revision) (l : Mark) → Stands t x q l → Stands s x q l
+        stood : (x : Revision) (l : Mark) → MarkStands t x q l → MarkStands s x q l
         stood x l h = record { written = rw same_written at h.written; going = (goes x h.going).1; mark = h.mark }
 
         by : Noticed s a o ⊎ Noticed s o a → Noticed t a o ⊎ Noticed t o a

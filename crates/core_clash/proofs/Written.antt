@@ -20,7 +20,7 @@ use Rattle.oak_clash.specs.declared.mark.MarkAt.{MarkAt}
 use Rattle.core_clash.specs.Views.{In, Once, mark_at}
 use Rattle.core_clash.specs.Core.{Core, Docs, with_writer, root_of, IsDone, MayWrite}
 use Rattle.oak_commit.specs.Looking.{whole}
-use Rattle.core_clash.specs.Sound.{Sound, IsTurned, IsListed, Noticed, Stands, IsWhole, IsOf, IsDue, Cause, IsRooted, IsWriterOf, has_moved, marked_in}
+use Rattle.core_clash.specs.Sound.{Sound, TurnedToUndo, AreDocumentsListed, Noticed, MarkStands, IsWhole, IsOf, IsMarkDue, Cause, IsRooted, IsWriterOf, has_moved, marked_in}
 use Rattle.core_clash.proofs.Basics.{test, not_both, decide, at_writer, writer_mine, writer_other, none_in, In-left, In-right, In-append, and_true, or_left, or_right, or_cases, once_apart, other_revision}
 use Rattle.core_clash.proofs.Pasts.{cause_later, due_later, live_now, marks_drawn, in_flight}
 use Rattle.core_clash.proofs.Effects.{Writes, Meeting, IsMet, AreMarksOf}
@@ -170,8 +170,8 @@ module _ (s : Core) (d : Draw) (p : Path) (rest : List Path) (number : ℕ) (doc
         (rw (append_assoc (s.writers r).written (p ∷ []) rest) (subst (λ (xs : List Path). Once ((s.writers r).written ++ xs)) may.next (sound.once r)))
         (λ f. sound.once o)
 
-    listed : (o : Revision) → is_stopped s.past o.cluster ≡ false → IsListed (t.writers o)
-    listed o = at_writer (λ x v. is_stopped s.past x.cluster ≡ false → IsListed v) s.writers r w o
+    listed : (o : Revision) → is_stopped s.past o.cluster ≡ false → AreDocumentsListed (t.writers o)
+    listed o = at_writer (λ x v. is_stopped s.past x.cluster ≡ false → AreDocumentsListed v) s.writers r w o
         (λ on. let l = sound.listed r on in record {
           gone = l.gone;
           all = rw (append_assoc (s.writers r).written (p ∷ []) rest) (subst (λ (xs : List Path). l.gone ++ ((s.writers r).written ++ xs) ≡ (s.writers r).paths) may.next l.all);
@@ -179,8 +179,8 @@ module _ (s : Core) (d : Draw) (p : Path) (rest : List Path) (number : ℕ) (doc
         })
         (λ f. sound.listed o)
 
-    stopped : (o : Revision) → (t.writers o).undoing ≡ true → IsTurned s.past o (t.writers o)
-    stopped o = at_writer (λ x v. v.undoing ≡ true → IsTurned s.past x v) s.writers r w o (λ h. not_both _ h may.going.going) (λ f h. sound.stopped o h)
+    stopped : (o : Revision) → (t.writers o).undoing ≡ true → TurnedToUndo s.past o (t.writers o)
+    stopped o = at_writer (λ x v. v.undoing ≡ true → TurnedToUndo s.past x v) s.writers r w o (λ h. not_both _ h may.going.going) (λ f h. sound.stopped o h)
 
     covered : (o : Revision) (q : Path) (m : Mark) → In (mark_at q m) (marks_of s.past o) → (t.writers o).undoing ≡ false → In q (t.writers o).written ⊎ In q (t.writers o).left
     covered o q m h = at_writer (λ x v. In (mark_at q m) (marks_of s.past x) → v.undoing ≡ false → In q v.written ⊎ In q v.left) s.writers r w o
@@ -214,7 +214,7 @@ module _ (s : Core) (d : Draw) (p : Path) (rest : List Path) (number : ℕ) (doc
             done (inl c) = or_left (is_committed s.past o) _ c
             done (inr u) = absurd (none_in q _ u.1 h)
 
-    is_due : (f : Met) → IsMet d.base r p d.marks (whole p (s.docs p) (s.moved p)) f → IsDue t.past r f
+    is_due : (f : Met) → IsMet d.base r p d.marks (whole p (s.docs p) (s.moved p)) f → IsMarkDue t.past r f
     is_due f m = by (sound.origin f.other p m.mark.0 (whole_from p f.other (s.docs p) (s.moved p) m.mark.0 m.mark.1))
       where
         not_start : {A : Type 0} → s.old f.other ≡ true → A
@@ -224,7 +224,7 @@ module _ (s : Core) (d : Draw) (p : Path) (rest : List Path) (number : ℕ) (doc
         its n (inl e) = not_start e
         its n (inr h) = h.1
 
-        by : IsOf s p f.other m.mark.0 → IsDue t.past r f
+        by : IsOf s p f.other m.mark.0 → IsMarkDue t.past r f
         by (inl e) = not_start e
         by (inr h) =
             let other : is_drawn s.past f.other ≡ true = marks_drawn s.past f.other (mark_at p m.mark.0) h.1 in
@@ -234,8 +234,8 @@ module _ (s : Core) (d : Draw) (p : Path) (rest : List Path) (number : ℕ) (doc
               theirs = rw marks_are (m.theirs (marks_of s.past f.other) are);
             }
 
-    due_of : (o : Revision) (f : Met) → In f (t.writers o).due → IsDue t.past o f
-    due_of o f = at_writer (λ x v. In f v.due → IsDue t.past x f) s.writers r w o
+    due_of : (o : Revision) (f : Met) → In f (t.writers o).due → IsMarkDue t.past o f
+    due_of o f = at_writer (λ x v. In f v.due → IsMarkDue t.past x f) s.writers r w o
         (λ h. is_due f (meets.each f h))
         (λ k h. due_later _ s.past o f refl refl (sound.due o f h))
 
@@ -256,13 +256,13 @@ module _ (s : Core) (d : Draw) (p : Path) (rest : List Path) (number : ℕ) (doc
     both_later a b (inl h) = inl (noticed_later a b h)
     both_later a b (inr h) = inr (noticed_later b a h)
 
-    stood : (o : Revision) (q : Path) (m : Mark) → is_same o r ≡ false → Stands t o q m → Stands s o q m
+    stood : (o : Revision) (q : Path) (m : Mark) → is_same o r ≡ false → MarkStands t o q m → MarkStands s o q m
     stood o q m f h =
         let e = writer_other s.writers r w o f in
         record { written = subst (λ (v : Writer). In q v.written) e h.written; going = subst (λ (v : Writer). v.undoing ≡ false) e h.going; mark = h.mark }
 
     -- the writer notices whom it meets
-    meets_other : (o : Revision) (q : Path) (m n : Mark) → (r ≡ o → ⊥) → Stands t r q m → Stands s o q n → clash m n ≡ true → Noticed t r o ⊎ Noticed t o r
+    meets_other : (o : Revision) (q : Path) (m n : Mark) → (r ≡ o → ⊥) → MarkStands t r q m → MarkStands s o q n → clash m n ≡ true → Noticed t r o ⊎ Noticed t o r
     meets_other o q m n apart sr so c = by (In-append q (s.writers r).written (p ∷ []) (subst (λ (v : Writer). In q v.written) (writer_mine s.writers r w) sr.written))
       where
         by_due : (f : Met) × In f due × (f.other ≡ o) → (f : Met) × In f (t.writers r).due × (f.other ≡ o)
@@ -277,7 +277,7 @@ module _ (s : Core) (d : Draw) (p : Path) (rest : List Path) (number : ℕ) (doc
         by (inr (inl e)) = inl (unseen e (test (is_in_base s.past r o)))
         by (inr (inr h)) = absurd h
 
-    noticed : (a o : Revision) (q : Path) (m n : Mark) → (a ≡ o → ⊥) → Stands t a q m → Stands t o q n → clash m n ≡ true → Noticed t a o ⊎ Noticed t o a
+    noticed : (a o : Revision) (q : Path) (m n : Mark) → (a ≡ o → ⊥) → MarkStands t a q m → MarkStands t o q n → clash m n ≡ true → Noticed t a o ⊎ Noticed t o a
     noticed a o q m n apart sa so c = by (decide a r) (decide o r)
       where
         by : (a ≡ r) ⊎ (is_same a r ≡ false) → (o ≡ r) ⊎ (is_same o r ≡ false) → Noticed t a o ⊎ Noticed t o a

@@ -32,7 +32,7 @@ SeesBounded past base = (o : Revision) → is_bounded past o ≡ true → sees b
 
 -- a bound sees nothing in flight, and no more than any base in flight; its sweep vector sees no
 -- more than it
-pub record MayBound (past : Past) (m t : RevVec) : Type 0 where
+pub record MayBoundCore (past : Past) (m t : RevVec) : Type 0 where
   pub settled : (o : Revision) → is_in_flight past o ≡ true → sees m o ≡ false
   pub below : (r o : Revision) → is_in_flight past r ≡ true → sees m o ≡ true → is_in_base past r o
       ≡ true
@@ -54,7 +54,7 @@ abbrev pub no_documents : Documents
 no_documents i = None
 
 -- an update drops garbage of a document, and the previous documents that aren't kept are garbage
-pub record MayPrune (s : Core) (m t : RevVec) (p : Path) (old : Document) (op : UpdateOp)
+pub record MayPruneCore (s : Core) (m t : RevVec) (p : Path) (old : Document) (op : UpdateOp)
     (keep : Document → Bool) : Type 0 where
   pub bound : IsBoundOf s.past m t
   pub there : s.docs p ≡ Some old
@@ -75,7 +75,7 @@ after_prune s e p old op keep = record s {
 
 -- a document is garbage of a bound, and what moved from it bounds see, or it was there from the
 -- beginning
-pub record MayRemove (s : Core) (m t : RevVec) (p : Path) (old : Document) : Type 0 where
+pub record MayRemoveCore (s : Core) (m t : RevVec) (p : Path) (old : Document) : Type 0 where
   pub bound : IsBoundOf s.past m t
   pub there : s.docs p ≡ Some old
   pub garbage : is_garbage_document m t old ≡ true
@@ -93,7 +93,7 @@ after_remove s e p = record s {
 
 -- a document that a split has read is as it was then; and what counts in the documents that the
 -- split has read is committed
-pub record MaySplit (s : Core) (read : Documents) (pin : Pin) (p : Path)
+pub record MaySplitCore (s : Core) (read : Documents) (pin : Pin) (p : Path)
     (old : Document) : Type 0 where
   pub there : s.docs p ≡ Some old
   pub order : IsInOrder old
@@ -103,8 +103,8 @@ pub record MaySplit (s : Core) (read : Documents) (pin : Pin) (p : Path)
 
 -- the main update of a split: what it wrote to a previous document goes from the document, which
 -- lists that one first
-abbrev pub after_split : Core → Event → Documents → Pin → Path → Document → PrevEntry → ℕ → Core
-after_split s e read pin p old entry first = record s {
+abbrev pub core_split : Core → Event → Documents → Pin → Path → Document → PrevEntry → ℕ → Core
+core_split s e read pin p old entry first = record s {
   number = s.number + 1;
   docs =
       with_document s.docs p (after_changes (Some old) (main_write read pin old entry)

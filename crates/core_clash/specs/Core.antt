@@ -81,7 +81,7 @@ pub record IsGoing (s : Core) (d : Draw) : Type 0 where
 -- which is other, and nothing
 -- in flight; a list of all its marked documents, each once; and marks of items that are those of
 -- the edit
-pub record MayBegin (s : Core) (d : Draw) (left : List Path) : Type 0 where
+pub record MayDrawAnew (s : Core) (d : Draw) (left : List Path) : Type 0 where
   pub begins : Begins s.past d
   pub sees_old : (o : Revision) → s.old o ≡ true → sees d.base o ≡ true
   pub new : s.old d.revision ≡ false
@@ -90,8 +90,8 @@ pub record MayBegin (s : Core) (d : Draw) (left : List Path) : Type 0 where
   pub entries : NamesItems d.marks d.edit.writes
 
 -- a revision is drawn, and its committer has all its documents still to write
-abbrev pub after_draw : Core → Draw → List Path → Core
-after_draw s d left = record s {
+abbrev pub core_drawn : Core → Draw → List Path → Core
+core_drawn s d left = record s {
   past = event.Draw d ∷ s.past;
   writers =
       with_writer s.writers d.revision (record {
@@ -112,8 +112,8 @@ pub record MayWrite (s : Core) (d : Draw) (p : Path) (rest : List Path) : Type 0
   pub next : (s.writers d.revision).left ≡ p ∷ rest
 
 -- the next document is written, and what is met in it is to be marked
-abbrev pub after_write : Core → Draw → Path → List Path → Core
-after_write s d p rest = record {
+abbrev pub core_written : Core → Draw → Path → List Path → Core
+core_written s d p rest = record {
   number = s.number + 1;
   docs =
       docs_after s.docs p (updated (s.docs p) (write_op d.revision d.edit.writes d.marks p)
@@ -148,8 +148,8 @@ refusing s d e = record s {
 }
 
 -- a mark on another's commit root is made, or the revision is refused since the other is committed
-abbrev pub marked_by : Core → Draw → Met → List Met → Result Document OpFault → Core
-marked_by s d f rest (Ok doc) = record {
+abbrev pub core_marked : Core → Draw → Met → List Met → Result Document OpFault → Core
+core_marked s d f rest (Ok doc) = record {
   number = s.number + 1;
   docs = with_document s.docs (root_of s.past f.other) doc;
   moved = s.moved;
@@ -157,12 +157,12 @@ marked_by s d f rest (Ok doc) = record {
   past = event.Went d.session kind.Mark ∷ s.past;
   writers = with_writer s.writers d.revision (record (s.writers d.revision) { due = rest });
 }
-marked_by s d f rest (Err fault) = refusing s d (event.Refuse d.revision f.mine f.other)
+core_marked s d f rest (Err fault) = refusing s d (event.Refuse d.revision f.mine f.other)
 
 -- the mark is made, or the draw is refused with its own item and the other
-abbrev pub after_mark : Core → Draw → Met → List Met → Core
-after_mark s d f rest =
-    marked_by s d f rest (updated (s.docs (root_of s.past f.other))
+abbrev pub core_after_mark : Core → Draw → Met → List Met → Core
+core_after_mark s d f rest =
+    core_marked s d f rest (updated (s.docs (root_of s.past f.other))
     (mark_op (root_of s.past f.other) f.other d.revision f.theirs) (s.number + 1))
 
 -- no mark to make and no document to write
@@ -172,8 +172,8 @@ pub record MayLast (s : Core) (d : Draw) : Type 0 where
   pub none_left : (s.writers d.revision).left ≡ []
 
 -- the last write is made, which commits, or the revision is refused since a collision is kept
-abbrev pub lasted_by : Core → Draw → Result Document OpFault → Core
-lasted_by s d (Ok doc) = record {
+abbrev pub core_lasted : Core → Draw → Result Document OpFault → Core
+core_lasted s d (Ok doc) = record {
   number = s.number + 1;
   docs = with_document s.docs (root_of s.past d.revision) doc;
   moved = s.moved;
@@ -181,19 +181,19 @@ lasted_by s d (Ok doc) = record {
   past = event.Commit d.revision ∷ s.past;
   writers = s.writers;
 }
-lasted_by s d (Err (fault.Unmet c (kept.Entry o item))) =
+core_lasted s d (Err (fault.Unmet c (kept.Entry o item))) =
     refusing s d (event.Refuse d.revision item o)
-lasted_by s d (Err _) = s
+core_lasted s d (Err _) = s
 
 -- the commit point, or the draw is refused with what is kept as its collision
-abbrev pub after_last : Core → Draw → Core
-after_last s d =
-    lasted_by s d (updated (s.docs (root_of s.past d.revision))
+abbrev pub core_last : Core → Draw → Core
+core_last s d =
+    core_lasted s d (updated (s.docs (root_of s.past d.revision))
     (last_op d.revision (marks_of s.past d.revision)) (s.number + 1))
 
 -- want of memory: the committer turns to undoing, with no event
-abbrev pub after_want : Core → Draw → Core
-after_want s d =
+abbrev pub core_wanting : Core → Draw → Core
+core_wanting s d =
     record s {
       writers = with_writer s.writers d.revision (record (undoing_from s d) {
         wants =
@@ -209,8 +209,8 @@ pub record MayUndo (s : Core) (d : Draw) (p : Path) (rest : List Path) : Type 0 
   pub next : (s.writers d.revision).written ≡ p ∷ rest
 
 -- a document that was written is undone
-abbrev pub after_undo : Core → Draw → Path → List Path → Core
-after_undo s d p rest = record {
+abbrev pub core_undone : Core → Draw → Path → List Path → Core
+core_undone s d p rest = record {
   number = s.number + 1;
   docs = docs_after s.docs p (updated (s.docs p) (undo_op d.revision p) (s.number + 1));
   moved = s.moved;
@@ -231,8 +231,8 @@ pub record MayFinish (s : Core) (d : Draw) : Type 0 where
   pub done : IsDone s d.revision
 
 -- a revision ends
-abbrev pub after_finish : Core → Draw → Core
-after_finish s d = record s { past = event.End d.revision ∷ s.past }
+abbrev pub core_finished : Core → Draw → Core
+core_finished s d = record s { past = event.End d.revision ∷ s.past }
 
 -- ---- a recovery of a stopped cluster node
 
@@ -251,8 +251,8 @@ abbrev pub cleared : Writer → Path → Writer
 cleared w p = record w { written = without_path p w.written; due = []; undoing = true }
 
 -- a recovery undoes it in the document of p
-abbrev pub after_clear : Core → Event → Draw → Path → Core
-after_clear s e d p = record {
+abbrev pub core_cleared : Core → Event → Draw → Path → Core
+core_cleared s e d p = record {
   number = s.number + 1;
   docs = docs_after s.docs p (updated (s.docs p) (undo_op d.revision p) (s.number + 1));
   moved = s.moved;

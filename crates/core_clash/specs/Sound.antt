@@ -32,7 +32,7 @@ pub record Cause (past : Past) (r : Revision) (item : Item) (o : Revision) : Typ
   pub live : was_live_beside past r o ≡ true
 
 -- a mark to make: it causes one's own refusal, and it will cause the other's
-pub record IsDue (past : Past) (r : Revision) (f : Met) : Type 0 where
+pub record IsMarkDue (past : Past) (r : Revision) (f : Met) : Type 0 where
   pub cause : Cause past r f.mine f.other
   pub theirs : Meets (marks_of past f.other) (marks_of past r) f.theirs
 
@@ -74,7 +74,7 @@ abbrev pub IsRooted : Option Document → Revision → Path → Type 0
 IsRooted doc r root = option_map (λ d. commit_root_of d r) doc ≡ Some (id.Node root)
 
 -- r wrote the document of p, doesn't undo, and has this mark there
-pub record Stands (s : Core) (r : Revision) (p : Path) (m : Mark) : Type 0 where
+pub record MarkStands (s : Core) (r : Revision) (p : Path) (m : Mark) : Type 0 where
   pub written : In p (s.writers r).written
   pub going : (s.writers r).undoing ≡ false
   pub mark : In (mark_at p m) (marks_of s.past r)
@@ -87,14 +87,14 @@ pub record IsWhole (w : Writer) : Type 0 where
 
 -- what is undone, what is written and what is left are the documents in their order; nothing is
 -- undone before a refusal
-pub record IsListed (w : Writer) : Type 0 where
+pub record AreDocumentsListed (w : Writer) : Type 0 where
   pub gone : List Path
   pub all : gone ++ (w.written ++ w.left) ≡ w.paths
   pub none : w.undoing ≡ false → gone ≡ []
 
 -- what undoes was refused, or wants memory, or its cluster node was stopped
-abbrev pub IsTurned : Past → Revision → Writer → Type 0
-IsTurned past r w =
+abbrev pub TurnedToUndo : Past → Revision → Writer → Type 0
+TurnedToUndo past r w =
     (is_refused past r ≡ true) ⊎ ((w.wants ≡ true) ⊎ (is_stopped past r.cluster ≡ true))
 
 -- what holds at each moment of the documents, the committers and the past
@@ -134,7 +134,7 @@ pub record Sound (s : Core) : Type 0 where
       → IsWriterOf s p r
   -- each committer of a node that isn't stopped has written exactly the first documents of its
   -- list, or has undone exactly the first of those that it wrote
-  pub listed : (r : Revision) → is_stopped s.past r.cluster ≡ false → IsListed (s.writers r)
+  pub listed : (r : Revision) → is_stopped s.past r.cluster ≡ false → AreDocumentsListed (s.writers r)
   -- each document is written once, and each marked one is written or still to be
   pub once : (r : Revision) → Once ((s.writers r).written ++ (s.writers r).left)
   pub covered : (r : Revision) (p : Path) (m : Mark) → In (mark_at p m) (marks_of s.past r)
@@ -144,11 +144,11 @@ pub record Sound (s : Core) : Type 0 where
   pub ended : (r : Revision) → is_ended s.past r ≡ true → IsDone s r
   -- what undoes was refused, or wants memory, or is undone by a recovery; what a refusal names is
   -- its cause
-  pub stopped : (r : Revision) → (s.writers r).undoing ≡ true → IsTurned s.past r (s.writers r)
+  pub stopped : (r : Revision) → (s.writers r).undoing ≡ true → TurnedToUndo s.past r (s.writers r)
   pub refusal : (r : Revision) (item : Item) (o : Revision) → refusal_of s.past r ≡ Some (item, o)
       → Cause s.past r item o
   -- each mark to make and each collision has its cause
-  pub due : (r : Revision) (f : Met) → In f (s.writers r).due → IsDue s.past r f
+  pub due : (r : Revision) (f : Met) → In f (s.writers r).due → IsMarkDue s.past r f
   pub caused : (p : Path) (r o : Revision) (item : Item) → collision (s.docs p) r ≡ Some (o, item)
       → Cause s.past r item o
   -- what is committed is noted on its commit root, until a bound has swept it, and nothing else is;
@@ -161,5 +161,5 @@ pub record Sound (s : Core) : Type 0 where
   pub unmarked : (r : Revision) → is_committed s.past r ≡ true
       → is_some (collision (s.docs (root_of s.past r)) r) ≡ false
   -- of two committers whose marks clash in a document that both wrote, one noticed the other
-  pub noticed : (r o : Revision) (p : Path) (m n : Mark) → (r ≡ o → ⊥) → Stands s r p m
-      → Stands s o p n → clash m n ≡ true → Noticed s r o ⊎ Noticed s o r
+  pub noticed : (r o : Revision) (p : Path) (m n : Mark) → (r ≡ o → ⊥) → MarkStands s r p m
+      → MarkStands s o p n → clash m n ≡ true → Noticed s r o ⊎ Noticed s o r

@@ -19,47 +19,47 @@ use Rattle.oak_machine.specs.Runs.{MayCommit, MayRefuse}
 use Rattle.oak_commit.specs.Clashing.{Met, marked, noted, collision}
 use Rattle.core_read.specs.Holds.{root_entry}
 use Rattle.core_clash.specs.Views.{AreOrdered, In}
-use Rattle.core_clash.specs.Collecting.{SeesBounded, MayBound, MayPrune, MayRemove, MaySplit, after_prune, after_remove, after_split}
+use Rattle.core_clash.specs.Collecting.{SeesBounded, MayBoundCore, MayPruneCore, MayRemoveCore, MaySplitCore, after_prune, after_remove, core_split}
 use Rattle.core_read.specs.Commits.{Sight}
 use Rattle.std.specs.List.{list_any}
 use Rattle.core_clash.specs.Sound.{has_moved}
-use Rattle.core_clash.specs.Core.{Core, Docs, Moved, IsGoing, MayBegin, MayWrite, MayMark, MayLast, MayUndo, MayFinish, IsDead, MayDrop, after_clear, after_drop, after_draw, after_write, after_mark, after_last, after_want, after_undo, after_finish, after_event, is_quiet}
+use Rattle.core_clash.specs.Core.{Core, Docs, Moved, IsGoing, MayDrawAnew, MayWrite, MayMark, MayLast, MayUndo, MayFinish, IsDead, MayDrop, core_cleared, after_drop, core_drawn, core_written, core_after_mark, core_last, core_wanting, core_undone, core_finished, after_event, is_quiet}
 
 -- one step of one committer, or what comes between: bounds, what collections drop, what splits
 -- move, what a recovery undoes and ends, and events of something else, a stop and the end of a
 -- recovery among them
 pub data Step : Core → Core → Type 0 where
-  draw : {s : Core} (d : Draw) (left : List Path) → MayBegin s d left → SeesBounded s.past d.base
-      → Step s (after_draw s d left)
+  draw : {s : Core} (d : Draw) (left : List Path) → MayDrawAnew s d left → SeesBounded s.past d.base
+      → Step s (core_drawn s d left)
   write : {s : Core} (d : Draw) (p : Path) (rest : List Path) → MayWrite s d p rest
-      → Step s (after_write s d p rest)
+      → Step s (core_written s d p rest)
   mark : {s : Core} (d : Draw) (f : Met) (rest : List Met) → MayMark s d f rest
-      → Step s (after_mark s d f rest)
-  last : {s : Core} (d : Draw) → MayLast s d → Step s (after_last s d)
-  want : {s : Core} (d : Draw) → IsGoing s d → Step s (after_want s d)
+      → Step s (core_after_mark s d f rest)
+  last : {s : Core} (d : Draw) → MayLast s d → Step s (core_last s d)
+  want : {s : Core} (d : Draw) → IsGoing s d → Step s (core_wanting s d)
   undo : {s : Core} (d : Draw) (p : Path) (rest : List Path) → MayUndo s d p rest
-      → Step s (after_undo s d p rest)
-  finish : {s : Core} (d : Draw) → MayFinish s d → Step s (after_finish s d)
-  bound : {s : Core} (m t : RevVec) → MayBound s.past m t → Step s (after_event s (event.Bound m t))
+      → Step s (core_undone s d p rest)
+  finish : {s : Core} (d : Draw) → MayFinish s d → Step s (core_finished s d)
+  bound : {s : Core} (m t : RevVec) → MayBoundCore s.past m t → Step s (after_event s (event.Bound m t))
   prune :
       {s : Core} (e : Event) (m t : RevVec) (p : Path) (old : Document) (op : UpdateOp)
-      (keep : Document → Bool) → is_quiet e ≡ true → MayPrune s m t p old op keep
+      (keep : Document → Bool) → is_quiet e ≡ true → MayPruneCore s m t p old op keep
       → Step s (after_prune s e p old op keep)
   remove : {s : Core} (e : Event) (m t : RevVec) (p : Path) (old : Document) → is_quiet e ≡ true
-      → MayRemove s m t p old → Step s (after_remove s e p)
+      → MayRemoveCore s m t p old → Step s (after_remove s e p)
   split :
       {s : Core} (e : Event) (read : Documents) (pin : Pin) (p : Path) (old : Document)
-      (entry : PrevEntry) (first : ℕ) → is_quiet e ≡ true → MaySplit s read pin p old
-      → Step s (after_split s e read pin p old entry first)
+      (entry : PrevEntry) (first : ℕ) → is_quiet e ≡ true → MaySplitCore s read pin p old
+      → Step s (core_split s e read pin p old entry first)
   clear : {s : Core} (e : Event) (d : Draw) (p : Path) → is_quiet e ≡ true → IsDead s.past d
-      → Step s (after_clear s e d p)
+      → Step s (core_cleared s e d p)
   dropped : {s : Core} (d : Draw) → MayDrop s d → Step s (after_drop s d)
   other : {s : Core} (e : Event) → is_quiet e ≡ true → Step s (after_event s e)
 
 -- documents in order, with marks, statuses and commit roots of what there was from the beginning
 -- alone, and no collision; and
 -- previous documents with such marks
-pub record IsStart (old : Sight) (docs : Docs) (moved : Moved) : Type 0 where
+pub record IsCoreStart (old : Sight) (docs : Docs) (moved : Moved) : Type 0 where
   pub ordered : (p : Path) → AreOrdered p (docs p)
   pub marks : (p : Path) (r : Revision) (m : Mark) → marked (docs p) r m ≡ true → old r ≡ true
   pub notes : (p : Path) (r : Revision) → noted (docs p) r ≡ true → old r ≡ true
@@ -83,7 +83,7 @@ at_start old number docs moved =
 
 -- what can be reached by steps, in every interleaving
 pub data Reached : Core → Type 0 where
-  begun : (old : Sight) (number : ℕ) (docs : Docs) (moved : Moved) → IsStart old docs moved
+  begun : (old : Sight) (number : ℕ) (docs : Docs) (moved : Moved) → IsCoreStart old docs moved
       → Reached (at_start old number docs moved)
   more : {s t : Core} → Reached s → Step s t → Reached t
 

@@ -27,7 +27,7 @@ ghost use Rattle.core_read.specs.Holds.{root_entry};
 ghost use Rattle.std.specs.List.{list_any, filter_map};
 ghost use Rattle.core_keep.specs.Journal.{is_swept};
 ghost use Rattle.core_clash.specs.Views.{In, Once, mark_at};
-ghost use Rattle.core_clash.specs.Core.{Core, IsDead, MayBegin, MayWrite, after_clear, root_of};
+ghost use Rattle.core_clash.specs.Core.{Core, IsDead, MayDrawAnew, MayWrite, core_cleared, root_of};
 ghost use Rattle.oak_commit.specs.Looking.{whole};
 ghost use Rattle.core_clash.specs.Sound.{IsRooted, has_moved, marked_in};
 ghost use Rattle.core_clash.specs.Steps.{EndsWell, IsUndoneAt, Reached, Step};
@@ -78,7 +78,7 @@ pub fn statuses_can_be_trusted()
 pub fn what_is_undone_stays_undone()
     ensures dead { (s t : Core) (d : Draw) → Step s t → IsDead s.past d → IsDead t.past d }
     ensures begins { (s : Core) (e : Event) (d : Draw) (p : _)
-        → IsUndoneAt (after_clear s e d p) d.revision p }
+        → IsUndoneAt (core_cleared s e d p) d.revision p }
     ensures stays { (s t : Core) (d : Draw) (p : _) → Step s t → IsDead s.past d
         → IsUndoneAt s d.revision p → IsUndoneAt t d.revision p }
     ensures marks { (s : Core) (d : Draw) (p m : _) → Reached s → IsDead s.past d
@@ -111,7 +111,7 @@ pub fn draws_may_begin<L: Law>(law: &L)
         → ((o : Revision) → s.old o ≡ true → sees (begin_at clusters begin) o ≡ true)
         → IsRunOf (L.may_start law.now) (L.may_say law.now) clusters sessions begin
         (event.Draw d ∷ s.past) → ((p m : _) → In (mark_at p m) d.marks → In p left) → Once left
-        → MayBegin s d left }
+        → MayDrawAnew s d left }
 {}
 
 /// What a committer finds depends on the marks alone that stand of what its base doesn't see, in

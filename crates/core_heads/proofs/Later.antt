@@ -11,7 +11,7 @@ use Rattle.oak_machine.specs.Commits.{draw_of}
 use Rattle.oak_machine.specs.Heads.{local, last_in, head_of, last_draw_time, published, outs_of}
 use Rattle.core_read.proofs.Latest.{at_most_trans, before_at_most}
 use Rattle.oak_machine.specs.Runs.{IsNode, AreNodes}
-use Rattle.core_heads.specs.Sound.{Sight, Seen, IsAhead, IsGood, Public, IsSoundDraw, IsSoundIn, IsHeld, IsSound}
+use Rattle.core_heads.specs.Sound.{SeenSet, Seen, IsAhead, IsGood, Public, IsSoundDraw, IsSoundIn, IsHeld, IsSound}
 use Rattle.core_heads.proofs.Orders.{before_not, fold_has}
 use Rattle.core_heads.proofs.Below.{with_stands}
 use Rattle.core_heads.proofs.AtStart.{begin_cluster, begin_sees, begin_begun, begin_vector}
@@ -27,7 +27,7 @@ pub record IsLater (clusters : ℕ) (begin : Begin) (past later : Past) : Type 0
   pub heads : (k : ℕ) → IsNode clusters k → (x : Revision) → sees (head_of clusters begin past k) x ≡ true → sees (head_of clusters begin later k) x ≡ true
 
 module _ (clusters : ℕ) (begin : Begin) (past later : Past) (grown : IsLater clusters begin past later) where
-  pub good_kept : (s : Sight) → IsGood begin past s → IsGood begin later s
+  pub good_kept : (s : SeenSet) → IsGood begin past s → IsGood begin later s
   good_kept s good = record { behind = λ o a. good.behind o (grown.ahead o a); closed = λ o d e h. by o d h (grown.drawn o d e) }
     where
       by : (o : Revision) (d : Draw) → s o → (draw_of past o ≡ Some d) ⊎ IsAhead begin past o → (x : Revision) → sees d.base x ≡ true → s x

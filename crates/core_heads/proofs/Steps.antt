@@ -12,7 +12,7 @@ use Rattle.oak_machine.specs.declared.event.Event.{Event}
 use Rattle.oak_machine.specs.declared.event.Event.TheVariants as event
 use Rattle.oak_machine.specs.History.{Begin, Past, begin_of}
 use Rattle.oak_machine.specs.Commits.{draw_of, is_drawn, is_ended}
-use Rattle.oak_machine.specs.Heads.{local, last_in, head_of, last_draw_time, published, outs_of, greater_of, next_draw, greatest_time}
+use Rattle.oak_machine.specs.Heads.{local, last_in, head_of, last_draw_time, published, outs_of, greater_of, drawn_next, greatest_time}
 use Rattle.oak_machine.specs.Runs.{learned, IsNode, AreNodes}
 use Rattle.core_read.proofs.Latest.{at_most_trans, same_revision}
 use Rattle.core_read.proofs.Vectors.{time_before}
@@ -79,7 +79,7 @@ module _ (clusters : ℕ) (sessions : List ℕ) (nodes : AreNodes clusters sessi
 
   -- ---- a Draw
 
-  module _ (d : Draw) (node : IsNode clusters d.revision.cluster) (next : d.revision ≡ next_draw clusters begin past d.revision.cluster) where
+  module _ (d : Draw) (node : IsNode clusters d.revision.cluster) (next : d.revision ≡ drawn_next clusters begin past d.revision.cluster) where
     pub above : last_draw_time past d.revision.cluster < d.revision.time
     above = let t : d.revision.time ≡ max (greatest_time (head_of clusters begin past d.revision.cluster)) (last_draw_time past d.revision.cluster) + 1 = ap (λ (x : Revision). x.time) next in omega arith
 

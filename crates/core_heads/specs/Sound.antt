@@ -15,11 +15,11 @@ use Rattle.oak_machine.specs.Runs.{AreNodes, IsNode, IsRun}
 use Rattle.oak_machine.specs.Sessions.{base_of, is_attached, last_checkpoint}
 
 -- what is seen, as a proposition for each revision
-abbrev pub Sight : Type 1
-Sight = Revision → Type 0
+abbrev pub SeenSet : Type 1
+SeenSet = Revision → Type 0
 
 -- what a vector sees
-abbrev pub Seen : RevVec → Sight
+abbrev pub Seen : RevVec → SeenSet
 Seen v = λ o. IsTrue (sees v o)
 
 -- in flight, or later than the last draw of its node and than what that begins from
@@ -29,13 +29,13 @@ IsAhead begin past o =
     ⊎ ((last_draw_time past o.cluster < o.time) × IsTrue (is_before (begin_of begin o.cluster) o))
 
 -- nothing ahead is seen, and with a drawn revision all that its base sees
-pub record IsGood (begin : Begin) (past : Past) (s : Sight) : Type 0 where
+pub record IsGood (begin : Begin) (past : Past) (s : SeenSet) : Type 0 where
   pub behind : (o : Revision) → IsAhead begin past o → s o → ⊥
   pub closed : (o : Revision) (d : Draw) → draw_of past o ≡ Some d → s o → (x : Revision)
       → IsTrue (sees d.base x) → s x
 
 -- what the cluster nodes have published
-abbrev pub Public : ℕ → Begin → Past → Sight
+abbrev pub Public : ℕ → Begin → Past → SeenSet
 Public clusters begin past = λ o. IsNode clusters o.cluster
     × IsTrue (is_at_most o (published begin past o.cluster))
 

@@ -35,7 +35,7 @@ use Rattle.core_read.proofs.Updates.{own_without, other_without, values_with, so
 use Rattle.core_keep.specs.Standing.{shows_node, HasEntryOf}
 use Rattle.core_keep.specs.Keeps.{Course}
 use Rattle.core_keep.specs.Steps.{AreLeft, AreNotes, IsPruned, IsUnwanted}
-use Rattle.core_keep.specs.Garbage.{revisions_in, is_superseded, are_superseded, is_garbage_previous, is_absent, is_garbage_document}
+use Rattle.core_keep.specs.Garbage.{revisions_kept, is_superseded, are_superseded, is_garbage_previous, is_absent, is_garbage_document}
 use Rattle.core_keep.specs.Dropping.{is_garbage_of, is_number_of, DropsGarbage}
 use Rattle.core_keep.proofs.Item.{latest_of, and_both, cond_some, not_true, either_true}
 use Rattle.core_keep.proofs.Found.{found_append, found_first}
@@ -492,14 +492,14 @@ garbage_unwanted c p m t wider more old garbage = record {
   absent = by (latest (filter (λ e. sees m e.0) old.deleted)) refl (and_both (is_absent m t old) _ first_parts.0).0;
 }
   where
-    parts : ((is_absent m t old && list_all (sees m) (revisions_in old)) ≡ true) × (list_all (sees t) (keys_of old.revisions) ≡ true)
-    parts = and_both (is_absent m t old && list_all (sees m) (revisions_in old)) _ garbage
+    parts : ((is_absent m t old && list_all (sees m) (revisions_kept old)) ≡ true) × (list_all (sees t) (keys_of old.revisions) ≡ true)
+    parts = and_both (is_absent m t old && list_all (sees m) (revisions_kept old)) _ garbage
 
-    first_parts : ((is_absent m t old && list_all (sees m) (revisions_in old)) ≡ true) × (list_all (sees t) (keys_of old.revisions) ≡ true)
+    first_parts : ((is_absent m t old && list_all (sees m) (revisions_kept old)) ≡ true) × (list_all (sees t) (keys_of old.revisions) ≡ true)
     first_parts = parts
 
-    all_seen : (q : Revision) → IsIn q (revisions_in old) → sees m q ≡ true
-    all_seen = all_of (sees m) (revisions_in old) (and_both (is_absent m t old) _ parts.0).1
+    all_seen : (q : Revision) → IsIn q (revisions_kept old) → sees m q ≡ true
+    all_seen = all_of (sees m) (revisions_kept old) (and_both (is_absent m t old) _ parts.0).1
 
     front : (q : Revision) (ks bs cs es fs gs hs : List Revision) → IsIn q ks → IsIn q (ks ++ bs ++ cs ++ es ++ fs ++ gs ++ hs)
     front q ks bs cs es fs gs hs i = in_append_first q _ hs (in_append_first q _ gs (in_append_first q _ fs (in_append_first q _ es (in_append_first q _ cs (in_append_first q ks bs i)))))

@@ -7,7 +7,7 @@ use Rattle.jr_rev.proofs.Bounds.{below_along, below_itself, least_left, least_ri
 use Rattle.oak_doc.specs.declared.document.Document.{Document}
 use Rattle.core_read.specs.Told.{IsIn}
 use Rattle.core_keep.specs.Bounds.{Told, lesser_pair, root_pair, bounding_pairs, kept_pairs, bound_of}
-use Rattle.core_keep.specs.Holding.{Holding, IsPairBelow, IsHoldingStep, Leads, HasRead, IsBelowAll}
+use Rattle.core_keep.specs.Holding.{Holding, IsPairBelow, IsHoldingStep, Leads, IsBoundRead, IsBelowAll}
 use Rattle.core_keep.proofs.Item.{not_true}
 
 pair_along : (a b c : Pin) → IsPairBelow a b → IsPairBelow b c → IsPairBelow a c
@@ -51,14 +51,14 @@ module _ (bound : Pin) where
   all_leads [] a b leads below = subst (λ (h : Holding). IsBelowAll bound h) leads below
   all_leads (x ∷ way) a b leads below = all_leads way x b leads.1 (all_step a x leads.0 below)
 
-  pub read_below : (last : Holding) → HasRead bound last → IsBelowAll bound last
+  pub read_below : (last : Holding) → IsBoundRead bound last → IsBelowAll bound last
   read_below last read = record { head = λ k. (node k).head; pins = λ k. (node k).pins; kept = read.kept }
     where
       node : (k : ℕ) → IsBelowNode k last
       node k = node_leads k (read.way k) (read.at k) last (read.leads k) (record { head = read.head k; pins = read.pins k })
 
   -- then and later
-  pub bound_below : (last now : Holding) (way : List Holding) → HasRead bound last → Leads way last now → IsBelowAll bound now
+  pub bound_below : (last now : Holding) (way : List Holding) → IsBoundRead bound last → Leads way last now → IsBelowAll bound now
   bound_below last now way read leads = all_leads way last now leads (read_below last read)
 
 -- ---- the least of the pairs that were read

@@ -22,9 +22,9 @@ use Rattle.oak_read.specs.Meaning.{Documents}
 use Rattle.oak_read.specs.Shown.{with_previous}
 use Rattle.core_read.specs.Commits.{Sight}
 use Rattle.core_read.specs.Told.{IsIn}
-use Rattle.core_keep.specs.Formers.{AreFormers, Former, Formers, Grows, Had, IsCopyOf}
+use Rattle.core_keep.specs.Formers.{AreFormers, Former, Formers, FormersGrow, Had, IsCopyOf}
 use Rattle.core_keep.specs.Keeps.{Course, edit_in, is_done, Keeps, IsCourse, IsDownward, IsPrevious}
-use Rattle.core_keep.specs.Lookers.{HasNothing, Looks, LooksOn}
+use Rattle.core_keep.specs.Lookers.{HasNoValue, Looks, LooksOn}
 use Rattle.core_keep.specs.Readers.{asked_too, gone_by, IsListed, look_on, look_too}
 use Rattle.core_keep.specs.Standing.{all_at, values_in}
 use Rattle.core_keep.specs.Steps.{IsChangeAt, IsMainAt, IsPruned, IsPreviousAt, IsUnlisted, IsUnwanted}
@@ -64,7 +64,7 @@ looks_begin ds c formers unseen p copy keeps course are unbound is = record {
 
 -- ---- others go on
 
-module _ (ds now : Documents) (formers more : Formers) (grows : Grows formers more) (unseen : Sight) (p : Path) (stood : List Document) (copy : Document) (asked : ℕ → Bool) (look : ℕ → Option Document) (looks : Looks ds formers unseen p stood copy asked look) (goes : LooksOn ds now unseen p copy asked) where
+module _ (ds now : Documents) (formers more : Formers) (grows : FormersGrow formers more) (unseen : Sight) (p : Path) (stood : List Document) (copy : Document) (asked : ℕ → Bool) (look : ℕ → Option Document) (looks : Looks ds formers unseen p stood copy asked look) (goes : LooksOn ds now unseen p copy asked) where
   abbrev later : ℕ → Option Document
   later = look_on asked goes.stays look
 
@@ -75,13 +75,13 @@ module _ (ds now : Documents) (formers more : Formers) (grows : Grows formers mo
   went e a s = ap (λ b. cond (b || goes.stays e.number) (look e.number) None) a ∙ ap (λ b. cond b (look e.number) None) s
 
   -- what is looked at stays, or goes where it has nothing that counts
-  each_look : (e : PrevEntry) → IsIn e copy.prev → (later e.number ≡ look e.number) ⊎ ((later e.number ≡ None) × ((x : Document) → look e.number ≡ Some x → HasNothing unseen x))
+  each_look : (e : PrevEntry) → IsIn e copy.prev → (later e.number ≡ look e.number) ⊎ ((later e.number ≡ None) × ((x : Document) → look e.number ≡ Some x → HasNoValue unseen x))
   each_look e i = by (asked e.number) refl
     where
-      gone : asked e.number ≡ false → IsUnlisted ds p e.number → (x : Document) → look e.number ≡ Some x → HasNothing unseen x
+      gone : asked e.number ≡ false → IsUnlisted ds p e.number → (x : Document) → look e.number ≡ Some x → HasNoValue unseen x
       gone a g x h = elim (looks.left e i a x h) [ inl l ↦ absurd (g l.0 l.1 (l.2).0 (l.2).1 (l.2).2) | inr o ↦ o ]
 
-      by : (b : Bool) → asked e.number ≡ b → (later e.number ≡ look e.number) ⊎ ((later e.number ≡ None) × ((x : Document) → look e.number ≡ Some x → HasNothing unseen x))
+      by : (b : Bool) → asked e.number ≡ b → (later e.number ≡ look e.number) ⊎ ((later e.number ≡ None) × ((x : Document) → look e.number ≡ Some x → HasNoValue unseen x))
       by true a = inl (ap (λ b. cond (b || goes.stays e.number) (look e.number) None) a)
       by false a = elim (goes.previous e i a) [
         | inl same ↦ inl (stayed e a same.0)
@@ -96,16 +96,16 @@ module _ (ds now : Documents) (formers more : Formers) (grows : Grows formers mo
     both None a b h = h
     both (Some z) a b h = found_append (values_of_property z.props n) (values_in n a) o ∙ (ap (option_or (of_revision (values_of_property z.props n) o)) h ∙ sym (found_append (values_of_property z.props n) (values_in n b) o))
 
-    without : (d : Option Document) → ((x : Document) → d ≡ Some x → HasNothing unseen x) → (a b : List Document) → IsSame a b → IsSame a (cons_option d b)
+    without : (d : Option Document) → ((x : Document) → d ≡ Some x → HasNoValue unseen x) → (a b : List Document) → IsSame a b → IsSame a (cons_option d b)
     without None nothing a b h = h
     without (Some z) nothing a b h = h ∙ sym (found_append (values_of_property z.props n) (values_in n b) o ∙ ap (λ u. option_or u (of_revision (values_in n b) o)) (nothing z refl n o counts))
 
-    over_same : (es : List PrevEntry) → ((e : PrevEntry) → IsIn e es → (later e.number ≡ look e.number) ⊎ ((later e.number ≡ None) × ((x : Document) → look e.number ≡ Some x → HasNothing unseen x)))
+    over_same : (es : List PrevEntry) → ((e : PrevEntry) → IsIn e es → (later e.number ≡ look e.number) ⊎ ((later e.number ≡ None) × ((x : Document) → look e.number ≡ Some x → HasNoValue unseen x)))
         → IsSame (filter_map (λ e. later e.number) es) (filter_map (λ e. look e.number) es)
     over_same [] each = refl
     over_same (e ∷ es) each = by (each e (inl refl)) (over_same es (λ f i. each f (inr i)))
       where
-        by : (later e.number ≡ look e.number) ⊎ ((later e.number ≡ None) × ((x : Document) → look e.number ≡ Some x → HasNothing unseen x)) → IsSame (filter_map (λ e. later e.number) es) (filter_map (λ e. look e.number) es)
+        by : (later e.number ≡ look e.number) ⊎ ((later e.number ≡ None) × ((x : Document) → look e.number ≡ Some x → HasNoValue unseen x)) → IsSame (filter_map (λ e. later e.number) es) (filter_map (λ e. look e.number) es)
             → IsSame (cons_option (later e.number) (filter_map (λ e. later e.number) es)) (cons_option (look e.number) (filter_map (λ e. look e.number) es))
         by (inl same) h = subst (λ d. IsSame (cons_option d (filter_map (λ e. later e.number) es)) (cons_option (look e.number) (filter_map (λ e. look e.number) es))) (sym same)
             (both (look e.number) (filter_map (λ e. later e.number) es) (filter_map (λ e. look e.number) es) h)
@@ -133,7 +133,7 @@ module _ (ds now : Documents) (formers more : Formers) (grows : Grows formers mo
       there e x k (inl same) = sym same ∙ k
       there e x k (inr nothing) = absurd (false≢true (ap is_some (sym nothing ∙ k)))
 
-      left : (e : PrevEntry) → IsIn e copy.prev → asked e.number ≡ false → (x : Document) → look e.number ≡ Some x → IsListed now p e.number ⊎ HasNothing unseen x
+      left : (e : PrevEntry) → IsIn e copy.prev → asked e.number ≡ false → (x : Document) → look e.number ≡ Some x → IsListed now p e.number ⊎ HasNoValue unseen x
       left e i a x h = elim (looks.left e i a x h) [
         | inr no_more ↦ inr no_more
         | inl listed ↦ goes.list e.number x (there e x h (looks.follows e i a)) listed
@@ -182,7 +182,7 @@ looks_find ds formers unseen p stood copy asked look looks e i unasked copied = 
 
 module _ (ds now : Documents) (unseen : Sight) (p : Path) (copy : Document) (asked : ℕ → Bool) where
   -- documents of nodes change, and list at least what they listed
-  pub main_looks : (at : Path) (d : Document) → IsMainAt ds now at d → ((old : Document) → ds (id.Node at) ≡ Some old → (e : PrevEntry) → IsIn e old.prev → (x : Document) → ds (id.Prev e.number at) ≡ Some x → IsIn e d.prev ⊎ HasNothing unseen x) → LooksOn ds now unseen p copy asked
+  pub main_looks : (at : Path) (d : Document) → IsMainAt ds now at d → ((old : Document) → ds (id.Node at) ≡ Some old → (e : PrevEntry) → IsIn e old.prev → (x : Document) → ds (id.Prev e.number at) ≡ Some x → IsIn e d.prev ⊎ HasNoValue unseen x) → LooksOn ds now unseen p copy asked
   main_looks at d main lists = record {
     list = λ k x h l. by k x h l (eq_by_cmp path_cmp p at) refl;
     stays = λ k. true;
@@ -193,7 +193,7 @@ module _ (ds now : Documents) (unseen : Sight) (p : Path) (copy : Document) (ask
       still k false h = main.elsewhere.previous k p h
       still k true h = subst (λ (z : Path). now (id.Prev k z) ≡ ds (id.Prev k z)) (sym (same_path p at h)) (main.previous_here k)
 
-      by : (k : ℕ) (x : Document) → ds (id.Prev k p) ≡ Some x → IsListed ds p k → (b : Bool) → eq_by_cmp path_cmp p at ≡ b → IsListed now p k ⊎ HasNothing unseen x
+      by : (k : ℕ) (x : Document) → ds (id.Prev k p) ≡ Some x → IsListed ds p k → (b : Bool) → eq_by_cmp path_cmp p at ≡ b → IsListed now p k ⊎ HasNoValue unseen x
       by k x h l false m = inl (l.0, main.elsewhere.node p m ∙ l.1, l.2)
       by k x h l true m =
           let one : p ≡ at = same_path p at m in
@@ -219,7 +219,7 @@ module _ (ds now : Documents) (unseen : Sight) (p : Path) (copy : Document) (ask
       in_filter keep (f ∷ es) e (inl one) k = subst (λ b. IsIn e (cond b (f ∷ filter keep es) (filter keep es))) (sym (ap keep one ∙ k)) (inl one)
       in_filter keep (f ∷ es) e (inr i) k = elim (keep f) as (λ b. IsIn e (cond b (f ∷ filter keep es) (filter keep es))) [ true ↦ inr (in_filter keep es e i k) | false ↦ in_filter keep es e i k ]
 
-      by : (e : PrevEntry) → IsIn e old.prev → (x : Document) → ds (id.Prev e.number at) ≡ Some x → (b : Bool) → pruned.prev.0 e ≡ b → IsIn e d.prev ⊎ HasNothing unseen x
+      by : (e : PrevEntry) → IsIn e old.prev → (x : Document) → ds (id.Prev e.number at) ≡ Some x → (b : Bool) → pruned.prev.0 e ≡ b → IsIn e d.prev ⊎ HasNoValue unseen x
       by e i x k true m = inl (subst (λ l. IsIn e l) (sym pruned.prev.1) (in_filter pruned.prev.0 old.prev e i m))
       by e i x k false m = inr (λ n o counts. is_none (of_revision (values_of_property x.props n) o) (λ y has. false≢true (sym (unbound o counts) ∙ (pruned.prev.2 e i m x k n o (ap is_some has)).0)))
 
@@ -277,7 +277,7 @@ module _ (ds now : Documents) (c : Course) (keeps : Keeps ds c) (course : IsCour
       previous = λ e i a. inl (refl, stay e.number p);
     }
       where
-        list : (k : ℕ) (x : Document) → ds (id.Prev k p) ≡ Some x → IsListed ds p k → (b : Bool) → eq_by_cmp path_cmp p at ≡ b → IsListed now p k ⊎ HasNothing unseen x
+        list : (k : ℕ) (x : Document) → ds (id.Prev k p) ≡ Some x → IsListed ds p k → (b : Bool) → eq_by_cmp path_cmp p at ≡ b → IsListed now p k ⊎ HasNoValue unseen x
         list k x h l false m = inl (l.0, elsewhere.node p m ∙ l.1, l.2)
         list k x h l true m =
             let one : p ≡ at = same_path p at m in

@@ -19,7 +19,7 @@ use Rattle.jr_tree.specs.Trees.{node_at}
 use Rattle.oak_doc.specs.declared.document.Document.{Document}
 use Rattle.oak_doc.specs.Updates.{document_of}
 use Rattle.oak_read.specs.Meaning.{Documents, found_node, commit_root_of}
-use Rattle.core_read.specs.Commits.{Commits, Sight, tree_of}
+use Rattle.core_read.specs.Commits.{Commits, Sight, tree_seen}
 use Rattle.core_keep.specs.Garbage.{is_garbage_document}
 
 abbrev a : Path
@@ -65,7 +65,7 @@ afterwards (id.Node p) = cond (eq_by_cmp path_cmp p a) (Some made_again) None
 afterwards (id.Prev k p) = None
 afterwards id.Settings = None
 
-not_in_tree : node_at (tree_of all adders) a ≡ None
+not_in_tree : node_at (tree_seen all adders) a ≡ None
 not_in_tree = refl
 
 but_found : found_node afterwards everything everything a ≡ Some (record { props = []; born = Some (rev 3 2) })

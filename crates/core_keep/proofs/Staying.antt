@@ -27,7 +27,7 @@ use Rattle.core_read.proofs.Latest.{before_itself}
 use Rattle.core_keep.specs.Standing.{all_at, shows_value, values_in}
 use Rattle.core_keep.specs.Keeps.{Course, edit_in, is_done, Keeps, IsCourse}
 use Rattle.core_keep.specs.Steps.{IsChangeAt, IsMainAt, IsSameBesides, IsPruned, IsMoved, IsUnwanted, IsPreviousAt, IsUnlisted}
-use Rattle.core_keep.specs.Formers.{AreFormers, Former, former_now, Formers, Grows, IsAmong, IsCopyOf, IsFollowed, IsFormer, IsKeptIn, StaysOn, with_former}
+use Rattle.core_keep.specs.Formers.{AreFormers, Former, former_now, Formers, FormersGrow, IsAmong, IsCopyOf, IsFollowed, IsFormer, IsKeptIn, StaysOn, with_former}
 use Rattle.core_keep.proofs.Item.{either_true, entry_done, is_none, not_true, some_of}
 use Rattle.core_keep.proofs.AtPath.{listed, same_all, value_split}
 use Rattle.core_keep.proofs.Main.{AreOpen, listed_kept, value_now}
@@ -250,7 +250,7 @@ module _ (ds now : Documents) (c : Course) (course : IsCourse c) where
 -- ---- a split lists what it moved: the document becomes a former one
 
 -- a former document more, of a number that had none
-pub grows_by : (formers : Formers) (p : Path) (k : ℕ) (f : Former) → formers p k ≡ None → Grows formers (with_former formers p k f)
+pub grows_by : (formers : Formers) (p : Path) (k : ℕ) (f : Former) → formers p k ≡ None → FormersGrow formers (with_former formers p k f)
 grows_by formers p k f new q j g h = by (eq_by_cmp path_cmp q p) refl (j == k) refl
   where
     by : (a : Bool) → eq_by_cmp path_cmp q p ≡ a → (b : Bool) → (j == k) ≡ b → cond (eq_by_cmp path_cmp q p && (j == k)) (Some f) (formers q j) ≡ Some g
@@ -309,7 +309,7 @@ module _ (ds now : Documents) (c : Course) (keeps : Keeps ds c) (course : IsCour
     copies = λ q k g z h there. copies_by q k g z h there (eq_by_cmp path_cmp q p) refl (k == e.number) refl;
   }
     where
-      more : Grows formers (with_former formers p e.number f)
+      more : FormersGrow formers (with_former formers p e.number f)
       more = grows_by formers p e.number f new
 
       -- what stood stands

@@ -24,8 +24,8 @@ use Rattle.oak_read.specs.Meaning.{Documents}
 use Rattle.core_read.specs.Told.{IsIn}
 use Rattle.core_read.specs.Writes.{IsOrderedDocument}
 use Rattle.core_read.proofs.Latest.{same_revision}
-use Rattle.core_keep.specs.Garbage.{revisions_in, is_absent, is_superseded, are_superseded, is_garbage_document, is_garbage_previous}
-use Rattle.core_keep.specs.Dropping.{is_garbage_of, DropsGarbage, IsLeftAlone, IsWithout, IsSaidStill, IsWithin}
+use Rattle.core_keep.specs.Garbage.{revisions_kept, is_absent, is_superseded, are_superseded, is_garbage_document, is_garbage_previous}
+use Rattle.core_keep.specs.Dropping.{is_garbage_of, DropsGarbage, IsLeftAlone, IsWithout, IsSaidStill, IsDocumentWithin}
 use Rattle.core_keep.proofs.Item.{and_both, is_none, not_true}
 use Rattle.core_keep.proofs.Garbage.{without_at, key, by_keys, after_keys, hit_by, unlisted_from, IsUnlistedFrom, drops_deleted, drops_root, drops_status, drops_value, one_deleted, one_root, one_status, one_value, same_parts, sorted_keys, deleted_garbage, root_garbage, status_garbage, value_garbage, over, all_of, key_in, property_in, in_append_first, in_append_second, in_flat}
 
@@ -153,7 +153,7 @@ module _ (ds : Documents) (p : Path) (m t : RevVec) (below : (r : Revision) → 
   was_some true o h = absurd (false≢true h)
   was_some false o h = h
 
-  pub left_within : IsWithin old final
+  pub left_within : IsDocumentWithin old final
   left_within = record {
     deleted = λ q h. was_some (by_keys drops_deleted keys q) _ (sym (ap is_some (ap (λ (d : Document). of_revision d.deleted q) shape ∙ (ap (λ (es : List (Revision × Bool)). of_revision es q) from.deleted ∙ after_keys (λ d. d.deleted) drops_deleted one_deleted keys old rise.names q))) ∙ h);
     roots = λ q h. was_some (by_keys drops_root keys q) _ (sym (ap is_some (ap (λ (d : Document). of_revision d.commit_root q) shape ∙ (ap (λ (es : List (Revision × ℕ)). of_revision es q) from.roots ∙ after_keys (λ d. d.commit_root) drops_root one_root keys old rise.names q))) ∙ h);
@@ -181,10 +181,10 @@ garbage_without m t old garbage q unseen = record {
       (in_flat (λ p. keys_of p.1) old.props f.0 q f.1 (subst (λ (es : List (Revision × Option Property)). IsIn q (keys_of es)) (sym f.3) (key_in (values_of_property old.props n) q (ap is_some h)))))));
 }
   where
-    seen : (r : Revision) → IsIn r (revisions_in old) → sees m r ≡ true
-    seen = all_of (sees m) (revisions_in old) (and_both (is_absent m t old) _ (and_both (is_absent m t old && list_all (sees m) (revisions_in old)) _ garbage).0).1
+    seen : (r : Revision) → IsIn r (revisions_kept old) → sees m r ≡ true
+    seen = all_of (sees m) (revisions_kept old) (and_both (is_absent m t old) _ (and_both (is_absent m t old && list_all (sees m) (revisions_kept old)) _ garbage).0).1
 
-    none : {X : Type 0} (es : List (Revision × X)) → (IsIn q (keys_of es) → IsIn q (revisions_in old)) → of_revision es q ≡ None
+    none : {X : Type 0} (es : List (Revision × X)) → (IsIn q (keys_of es) → IsIn q (revisions_kept old)) → of_revision es q ≡ None
     none es inside = is_none _ (λ x h. false≢true (sym unseen ∙ seen q (inside (key_in es q (ap is_some h)))))
 
 -- a previous document that is garbage has no entry that the bound doesn't see

@@ -73,7 +73,7 @@ pub record IsSaidStill (q : Revision) (old d : Document) : Type 0 where
   pub revisions : of_revision d.revisions q ≡ of_revision old.revisions q
 
 -- all that a document has by revision was there, and it has its name
-pub record IsWithin (old d : Document) : Type 0 where
+pub record IsDocumentWithin (old d : Document) : Type 0 where
   pub deleted : (q : Revision) → IsTrue (is_some (of_revision d.deleted q))
       → IsTrue (is_some (of_revision old.deleted q))
   pub roots : (q : Revision) → IsTrue (is_some (of_revision d.commit_root q))

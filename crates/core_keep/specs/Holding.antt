@@ -33,7 +33,7 @@ Leads (x ∷ xs) a b = IsHoldingStep a x × Leads xs x b
 
 -- a bound was read: each cluster node's head and pins, if it wasn't gone, at a moment of its own,
 -- and then, last, the settings; and it is at most all of these
-pub record HasRead (bound : Pin) (last : Holding) : Type 0 where
+pub record IsBoundRead (bound : Pin) (last : Holding) : Type 0 where
   pub at : ℕ → Holding
   pub way : ℕ → List Holding
   pub leads : (k : ℕ) → Leads (way k) (at k) last

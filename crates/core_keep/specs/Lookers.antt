@@ -18,8 +18,8 @@ use Rattle.core_keep.specs.Standing.{values_in}
 use Rattle.core_keep.specs.Steps.{IsUnlisted}
 
 -- a document has no value of the revisions that count
-abbrev pub HasNothing : Sight → Document → Type 0
-HasNothing unseen x =
+abbrev pub HasNoValue : Sight → Document → Type 0
+HasNoValue unseen x =
     (n : Name) (o : Revision) → IsTrue (unseen o) → of_revision (values_of_property x.props n) o
     ≡ None
 
@@ -34,7 +34,7 @@ pub record Looks (ds : Documents) (formers : Formers) (unseen : Sight) (p : Path
   pub follows : (e : PrevEntry) → IsIn e copy.prev → IsFalse (asked e.number)
       → (look e.number ≡ ds (id.Prev e.number p)) ⊎ (look e.number ≡ None)
   pub left : (e : PrevEntry) → IsIn e copy.prev → IsFalse (asked e.number) → (x : Document)
-      → look e.number ≡ Some x → IsListed ds p e.number ⊎ HasNothing unseen x
+      → look e.number ≡ Some x → IsListed ds p e.number ⊎ HasNoValue unseen x
   pub former : (e : PrevEntry) → IsIn e copy.prev → (f : Former) × (formers p e.number ≡ Some f)
       × ((n : Name) (o : Revision) (y : Option Property) → IsTrue (unseen o) → Had f n o y
       → of_revision (values_in n stood) o ≡ Some y)
@@ -44,7 +44,7 @@ pub record Looks (ds : Documents) (formers : Formers) (unseen : Sight) (p : Path
 pub record LooksOn (ds now : Documents) (unseen : Sight) (p : Path) (copy : Document)
     (asked : ℕ → Bool) : Type 0 where
   pub list : (k : ℕ) (x : Document) → ds (id.Prev k p) ≡ Some x → IsListed ds p k → IsListed now p k
-      ⊎ HasNothing unseen x
+      ⊎ HasNoValue unseen x
   pub stays : ℕ → Bool
   pub previous : (e : PrevEntry) → IsIn e copy.prev → IsFalse (asked e.number)
       → (IsTrue (stays e.number) × (now (id.Prev e.number p) ≡ ds (id.Prev e.number p)))

@@ -27,10 +27,10 @@ ghost use Rattle.core_keep.specs.Bounds.{Told, kept_pairs, bound_of};
 ghost use Rattle.core_keep.specs.Dropping.{DropsGarbage, IsLeftAlone, IsWithout};
 ghost use Rattle.core_keep.specs.From.{falling_from, course_from, AreSoundFrom, IsFirst};
 ghost use Rattle.core_keep.specs.Garbage.{is_garbage_document};
-ghost use Rattle.core_keep.specs.Holding.{Holding, HasRead, IsBelowAll, IsPairBelow, Leads};
+ghost use Rattle.core_keep.specs.Holding.{Holding, IsBoundRead, IsBelowAll, IsPairBelow, Leads};
 ghost use Rattle.core_keep.specs.Keeps.{edit_in, is_done, Course, IsCourse, IsDownward, IsHeldPair, Keeps};
 ghost use Rattle.core_keep.specs.Readers.{gone_by, Reads, GoesOn, asked_too, look_on, look_too};
-ghost use Rattle.core_keep.specs.Formers.{AreFormers, Former, Formers, Grows, IsCopyOf, IsFollowed, IsFormer, IsShownIn};
+ghost use Rattle.core_keep.specs.Formers.{AreFormers, Former, Formers, FormersGrow, IsCopyOf, IsFollowed, IsFormer, IsShownIn};
 ghost use Rattle.core_keep.specs.Lookers.{Looks, LooksOn};
 ghost use Rattle.core_keep.specs.Standing.{all_at};
 ghost use Rattle.std.specs.Option.{option_map_or};
@@ -40,7 +40,7 @@ ghost use Rattle.core_keep.specs.Steps.{IsSameBesides, IsChangeAt, IsMainAt, IsP
 /// The bound of a collection that reads each cluster node at a moment of its own, and then the
 /// settings, is at most every pair that is held then and later, and each head.
 pub fn bounds_are_below()
-    ensures later { (bound : Pin) (last now : Holding) (way : List Holding) → HasRead bound last
+    ensures later { (bound : Pin) (last now : Holding) (way : List Holding) → IsBoundRead bound last
         → Leads way last now → IsBelowAll bound now }
     ensures told { (root : Document) (nodes : List Told) (settings : Document) (n : Told) (x : Pin)
         → IsIn n nodes → IsIn x (n.head ∷ n.pins) → IsPairBelow (bound_of root nodes settings) x }
@@ -159,7 +159,7 @@ pub fn committers_look_on()
         → Looks ds formers unseen p (all_at ds p) copy (λ k. false) (λ k. ds (id.Prev k p)) }
     ensures lasts { (ds now : Documents) (formers more : Formers) (unseen : Sight) (p : Path)
         (stood : List Document) (copy : Document) (asked : ℕ → Bool) (look : ℕ → Option Document)
-        → Grows formers more → Looks ds formers unseen p stood copy asked look
+        → FormersGrow formers more → Looks ds formers unseen p stood copy asked look
         → (goes : LooksOn ds now unseen p copy asked)
         → Looks now more unseen p stood copy asked (look_on asked goes.stays look) }
     ensures finds { (ds : Documents) (formers : Formers) (unseen : Sight) (p : Path)

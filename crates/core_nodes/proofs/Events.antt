@@ -24,7 +24,7 @@ use Rattle.oak_machine.specs.Laws.{Says, Starts}
 use Rattle.oak_machine.specs.Runs.{AreNodes, IsNode, IsRunOf}
 use Rattle.oak_machine.specs.Sessions.{has_left, has_login, is_recovered, is_stopped, is_stopped_under}
 use Rattle.oak_node.specs.declared.pending.Note.{Note}
-use Rattle.oak_node.specs.Heads.{IsInFlight, finished, greatest_time, next_draw, with_draw}
+use Rattle.oak_node.specs.Heads.{IsInFlight, finished, latest_time, next_draw, with_draw}
 use Rattle.oak_node.specs.Memory.{NodeState, IsMemory, begun, last_draw, own_entry}
 use Rattle.oak_node.specs.Notes.{with_note, without_seen}
 use Rattle.oak_node.specs.Pins.{pin_now, with_pin}
@@ -139,11 +139,11 @@ module _ (begin : Begin) where
   -- ---- what touches no head
 
   -- the revision that the node draws next
-  pub next_is : (clusters : ℕ) (past : Past) (k : ℕ) (s : NodeState) → IsMemoryOf begin clusters past k s → next_draw s ≡ Rattle.oak_machine.specs.Heads.next_draw clusters begin past k
+  pub next_is : (clusters : ℕ) (past : Past) (k : ℕ) (s : NodeState) → IsMemoryOf begin clusters past k s → next_draw s ≡ Rattle.oak_machine.specs.Heads.drawn_next clusters begin past k
   next_is clusters past k s is =
-      ap (λ (v : RevVec). record { time = max (greatest_time v) s.last_time + 1; counter = 0; cluster = s.cluster }) is.head
-      ∙ (ap (λ (t : ℕ). record { time = max (greatest_time (head_of clusters begin past k)) t + 1; counter = 0; cluster = s.cluster }) is.last
-      ∙ ap (λ (j : ℕ). record { time = max (greatest_time (head_of clusters begin past k)) (last_draw_time past k) + 1; counter = 0; cluster = j }) is.cluster)
+      ap (λ (v : RevVec). record { time = max (latest_time v) s.last_time + 1; counter = 0; cluster = s.cluster }) is.head
+      ∙ (ap (λ (t : ℕ). record { time = max (latest_time (head_of clusters begin past k)) t + 1; counter = 0; cluster = s.cluster }) is.last
+      ∙ ap (λ (j : ℕ). record { time = max (latest_time (head_of clusters begin past k)) (last_draw_time past k) + 1; counter = 0; cluster = j }) is.cluster)
 
   pub pins_kept : (clusters : ℕ) (past : Past) (k : ℕ) (s : NodeState) (pins : List (ℕ × Pin)) → IsMemoryOf begin clusters past k s → IsStrictlySortedBy nat_cmp (keys_of pins) → IsMemoryOf begin clusters past k (record s { pins = pins })
   pins_kept clusters past k s pins is sorted = record {

@@ -44,7 +44,7 @@ pub fn memories_follow_the_journal<L: Law>(law: &L)
         → IsMemoryOf begin clusters [] k (begun k (begin_at clusters begin)) }
     ensures next { (begin : Begin) (clusters : ℕ) (past : Past) (k : ℕ) (s : NodeState)
         → IsMemoryOf begin clusters past k s
-        → next_draw s ≡ Rattle.oak_machine.specs.Heads.next_draw clusters begin past k }
+        → next_draw s ≡ Rattle.oak_machine.specs.Heads.drawn_next clusters begin past k }
     ensures drawn { let runs = IsRunOf (L.may_start law.now) (L.may_say law.now) in
         (begin : Begin) (clusters : ℕ) (sessions : List ℕ) (past : Past) (d : Draw)
         (s : NodeState) → AreNodes clusters sessions

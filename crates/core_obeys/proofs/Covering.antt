@@ -16,7 +16,7 @@ use Rattle.jr_tree.proofs.Pointwise.{same_path as path_same}
 use Rattle.jr_items.specs.Names.{lock_owner, lock_is_deep}
 use Rattle.jr_items.specs.Items.{same_path, is_flag, is_versionable, is_checked_in, upward}
 use Rattle.jcr_lock.specs.Locks.{lock_covers, is_lock, frozen_by}
-use Rattle.jcr_marks.specs.Marks.{are_same, locks_anew, is_frozen_anew, is_path}
+use Rattle.jcr_marks.specs.Marks.{are_same, locks_anew, is_frozen_anew, is_this_path}
 use Rattle.jcr_marks.proofs.Membership.{IsIn}
 use Rattle.core_obeys.proofs.Views.{view_of}
 use Rattle.core_obeys.proofs.Steps.{IsLocked, below, is_frozen}
@@ -164,9 +164,9 @@ pub frozen_above : (t : Nodes) (p a : Path) → frozen_by t p ≡ Some a → IsI
 frozen_above t p a h = found_in (is_versionable t) (upward p) a (is_found t p a h).1
 
 pub frozen_anew : (t u : Nodes) (a : Path) (rest : List Name) → is_frozen (view_of u) a rest ≡ true → is_frozen (view_of t) a rest ≡ false → is_frozen_anew t u (below a rest) ≡ true
-frozen_anew t u a rest later before = ap (λ o. option_map_or (λ q. not (is_path (frozen_by t (below a rest)) q)) o false) (frozen_is u a rest later) ∙ by (frozen_by t (below a rest)) refl
+frozen_anew t u a rest later before = ap (λ o. option_map_or (λ q. not (is_this_path (frozen_by t (below a rest)) q)) o false) (frozen_is u a rest later) ∙ by (frozen_by t (below a rest)) refl
   where
-    by : (o : Option Path) → frozen_by t (below a rest) ≡ o → not (is_path o a) ≡ true
+    by : (o : Option Path) → frozen_by t (below a rest) ≡ o → not (is_this_path o a) ≡ true
     by None e = refl
     by (Some q) e = elim (true_or_false (same_path a q)) [
       | inr k ↦ ap not k

@@ -26,7 +26,7 @@ use Rattle.oak_clash.specs.declared.mark.Mark.TheVariants.{Exists, Guard, Touch,
 use Rattle.oak_clash.specs.declared.mark.MarkAt.{MarkAt}
 use Rattle.jcr_marks.proofs.Membership.{Has, IsIn}
 use Rattle.oak_machine.specs.History.{Begin, begin_tree}
-use Rattle.core_obeys.specs.Tidy.{BeginsTidy, HasDistinctIds, is_of_node, is_node_marked}
+use Rattle.core_obeys.specs.Tidy.{BeginsTidy, HasDistinctIds, is_node_mark, is_node_marked}
 use Rattle.core_obeys.proofs.Views.{view_of}
 use Rattle.core_obeys.proofs.Clash.{IsStrong}
 use Rattle.core_obeys.proofs.Steps.{IsWhole}
@@ -129,10 +129,10 @@ distinct_of t distinct id p q h k = distinct p q (uuid_text id) (named_text id _
 
 pub strong_of : (p : Path) (ms : List MarkAt) → is_node_marked p ms ≡ true → IsStrong p ms
 strong_of p ms h =
-    let it = any_of (λ (m : MarkAt). eq_by_cmp path_cmp p m.path && is_of_node m.mark) ms h in
+    let it = any_of (λ (m : MarkAt). eq_by_cmp path_cmp p m.path && is_node_mark m.mark) ms h in
     by it.0.path it.0.mark it.1 (first _ _ it.2) (second _ _ it.2)
   where
-    by : (q : Path) (m : Mark) → IsIn (record { path = q; mark = m }) ms → eq_by_cmp path_cmp p q ≡ true → is_of_node m ≡ true → IsStrong p ms
+    by : (q : Path) (m : Mark) → IsIn (record { path = q; mark = m }) ms → eq_by_cmp path_cmp p q ≡ true → is_node_mark m ≡ true → IsStrong p ms
     by q Exists i e k = inl (subst (λ (r : Path). Has r Exists ms) (sym (same_path p q e)) i)
     by q Guard i e k = inr (subst (λ (r : Path). Has r Guard ms) (sym (same_path p q e)) i)
     by q Touch i e k = absurd (false≢true k)

@@ -8,7 +8,7 @@ use Rattle.jr_items.specs.Names.{primary_type, mixin_types}
 use Rattle.jr_items.specs.Items.{child_path}
 use Rattle.jr_types.specs.declared.TypeDef.{TypeDef}
 use Rattle.jr_types.specs.Types.{NodeTypes}
-use Rattle.jr_types.specs.Rules.{Child, property_faults, child_faults}
+use Rattle.jr_types.specs.Rules.{PresentChild, property_faults, child_faults}
 use Rattle.oak_machine.specs.declared.event.Draw.{Draw}
 use Rattle.core_obeys.proofs.Views.Series.{Over, Then}
 use Rattle.core_obeys.proofs.Views.{IsOne, Series, View, Sight, IsStill, IsKept, base, seen, after, same_has, same_prop, same_has_after, same_prop_after, has_stays, prop_stays, some_or_none}
@@ -18,7 +18,7 @@ use Rattle.core_obeys.proofs.Steps.{IsStep, AreSteps, within_itself, strong_unma
 abbrev pub types_in : View → Path → NodeTypes
 types_in v p = record { primary = v.prop p primary_type; mixins = v.prop p mixin_types }
 
-abbrev pub child_in : View → Path → Name → Option Child
+abbrev pub child_in : View → Path → Name → Option PresentChild
 child_in v p n = cond (v.has (child_path p n)) (Some (v.prop (child_path p n) primary_type)) None
 
 -- no rule fails

@@ -10,7 +10,7 @@ use Rattle.jr_path.specs.declared.path.Item.{Item}
 use Rattle.jr_rev.specs.declared.revision.Revision.{Revision}
 use Rattle.jr_rev.specs.Revisions.{is_same}
 use Rattle.jr_rev.proofs.Order.{same_revision}
-use Rattle.jr_items.specs.Refusals.{clash, out_of_memory}
+use Rattle.jr_items.specs.Refusals.{clash_refusal, out_of_memory}
 use Rattle.jr_tree.specs.Trees.{Nodes}
 use Rattle.oak_machine.specs.declared.event.Draw.{Draw}
 use Rattle.oak_machine.specs.declared.event.Event.{Event}
@@ -127,7 +127,7 @@ module _ (clusters : ℕ) (sessions : List ℕ) (nodes : AreNodes clusters sessi
 abbrev byte_at : ℕ → List ℕ → Option ℕ
 byte_at n text = slice_get text n
 
-no_ten : (item : Item) (o : Revision) → byte_at 4 (no_text (clash item o)) ≡ Some 48
+no_ten : (item : Item) (o : Revision) → byte_at 4 (no_text (clash_refusal item o)) ≡ Some 48
 unfolding digits
 no_ten item o = refl
 
@@ -139,7 +139,7 @@ no_sixteen : byte_at 4 (no_text out_of_memory) ≡ Some 54
 unfolding digits
 no_sixteen = refl
 
-begins_no : (item : Item) (o : Revision) → byte_at 0 (no_text (clash item o)) ≡ Some 110
+begins_no : (item : Item) (o : Revision) → byte_at 0 (no_text (clash_refusal item o)) ≡ Some 110
 begins_no item o = refl
 
 -- an answer that is no refusal
@@ -174,7 +174,7 @@ same_byte a b e = ap (λ o. unwrap_or o a) e
 
 -- once a draw was made that isn't refused, the reply is no 10
 pub no_clash_told : (law : JcrLaw) (h : History) (s : ℕ) (m : Command) (d : Draw) (text : List ℕ) (item : Item) (o : Revision)
-    → refusal_of h.past d.revision ≡ None → AfterDraw law h s m d text → text ≢ no_text (clash item o)
+    → refusal_of h.past d.revision ≡ None → AfterDraw law h s m d text → text ≢ no_text (clash_refusal item o)
 no_clash_told law h s m d _ item o none (accepted c made call) e =
     let n : 111 ≡ 110 = same_byte 111 110 (sym (shows_ok (committed_answer c (tree_at h.begin h.past d.base) d.revision m) (committed_shown c (tree_at h.begin h.past d.base) d.revision m)) ∙ (ap (byte_at 0) e ∙ begins_no item o)) in omega (arith, n)
 no_clash_told law h s m d _ item o none (clash_told i q is) e = absurd (false≢true (ap (λ (x : Option (Item × Revision)). is_some x) (sym none ∙ is)))

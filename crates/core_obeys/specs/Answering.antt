@@ -9,7 +9,7 @@ use Rattle.jr_rev.specs.Vectors.{sees}
 use Rattle.jr_tree.specs.declared.edit.Edit.{Edit}
 use Rattle.jr_tree.specs.declared.edit.Write.{Write}
 use Rattle.jr_tree.specs.declared.shared.Refusal.{Refusal}
-use Rattle.jr_items.specs.Refusals.{clash, out_of_memory}
+use Rattle.jr_items.specs.Refusals.{clash_refusal, out_of_memory}
 use Rattle.oak_clash.specs.declared.mark.MarkAt.{MarkAt}
 use Rattle.oak_machine.specs.declared.event.Draw.{Draw}
 use Rattle.oak_machine.specs.declared.event.Event.TheVariants as event
@@ -59,7 +59,7 @@ pub data AnswersDraw (law : JcrLaw) (h : History) (m : Command) (d : Draw)
   accepting : (text : List ℕ) → Accepts law h m d text → AnswersDraw law h m d text
   -- 10: another commit, made or under way, clashes in the item; the base of the draw doesn't see it
   clashing : (item : Item) (o : Revision) → Cause h.past d.revision item o
-      → AnswersDraw law h m d (no_text (clash item o))
+      → AnswersDraw law h m d (no_text (clash_refusal item o))
   hindered : (text : List ℕ) → IsHindered h d.session text → AnswersDraw law h m d text
 
 -- the text answers the command m of s, which commits, and for which nothing was drawn

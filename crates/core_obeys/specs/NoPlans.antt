@@ -8,7 +8,7 @@ use Rattle.jr_tree.specs.Edits.{applied}
 use Rattle.jr_tree.specs.Trees.{Nodes}
 use Rattle.jr_items.specs.Items.{first_of}
 use Rattle.jr_items.specs.Names.{version_storage}
-use Rattle.jr_items.specs.Refusals.{checked_in, dangling as names_nothing, locked, over_limit, own_rule}
+use Rattle.jr_items.specs.Refusals.{checked_in, dangling_refusal as names_nothing, locked, over_limit, own_rule}
 use Rattle.jr_types.specs.declared.TypeDef.{TypeDef}
 use Rattle.jr_rules.specs.Violations.{Violation, first_violation}
 use Rattle.jcr_ref.specs.References.{dangling}

@@ -27,14 +27,14 @@ HasDistinctIds t = (p q : Path) (id : List ℕ) → one_text (property_at t p uu
     → one_text (property_at t q uuid) ≡ Some id → p ≡ q
 
 -- a mark is one of a node as a whole: of its existence, or a guard
-abbrev pub is_of_node : Mark → Bool
-is_of_node Exists = true
-is_of_node Guard = true
-is_of_node _ = false
+abbrev pub is_node_mark : Mark → Bool
+is_node_mark Exists = true
+is_node_mark Guard = true
+is_node_mark _ = false
 
 -- the node at a path has an Exists or Guard mark
 abbrev pub is_node_marked : Path → List MarkAt → Bool
-is_node_marked p ms = list_any (λ m. eq_by_cmp path_cmp p m.path && is_of_node m.mark) ms
+is_node_marked p ms = list_any (λ m. eq_by_cmp path_cmp p m.path && is_node_mark m.mark) ms
 
 -- an edit on the tree at its base: identifiers stand once there, and change under a mark of their
 -- node; no node that stays ceases to be an `nt:frozenNode`

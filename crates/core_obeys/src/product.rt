@@ -4,7 +4,7 @@ ghost use Rattle.jr_path.specs.declared.path.Item.{Item};
 ghost use Rattle.jr_rev.specs.declared.revision.Revision.{Revision};
 ghost use Rattle.jr_rev.specs.declared.vector.RevVec.{RevVec};
 ghost use Rattle.jr_tree.specs.Trees.{IsTree};
-ghost use Rattle.jr_items.specs.Refusals.{clash};
+ghost use Rattle.jr_items.specs.Refusals.{clash_refusal};
 ghost use Rattle.jr_types.specs.Rules.{TypesOk};
 ghost use Rattle.jcr_trans.specs.declared.command.Command.{Command};
 ghost use Rattle.jcr_law.specs.declared.law.JcrLaw.{JcrLaw};
@@ -75,5 +75,5 @@ pub fn what_clashes_with_nothing_is_not_refused()
         (item : Item) (o : Revision) → IsNodesRun (starts_of law) (says_of law) h
         → NameOthers h.past → draw_since h.past s ≡ Some d
         → command_at law s (next_index h.past s) ≡ Some m → IsUnclashing h.past d.revision
-        → SaysBy law h s (next_index h.past s) text → text ≢ no_text (clash item o) }
+        → SaysBy law h s (next_index h.past s) text → text ≢ no_text (clash_refusal item o) }
 {}

@@ -21,7 +21,7 @@ use Rattle.oak_doc.specs.declared.update.Change.TheVariants as change
 use Rattle.oak_doc.specs.Updates.{of_revision, with_revision, values_of_property, changed, document_of, after_changes}
 use Rattle.oak_read.specs.Meaning.{Documents, commit_root_of, main_of, path_of}
 use Rattle.jr_tree.specs.Items.{here_of, put_of, written}
-use Rattle.core_read.specs.Holds.{here_entry, prop_entry, root_entry, is_at_path, IsWrite, IsSameAt, IsWhole, IsUndone}
+use Rattle.core_read.specs.Holds.{here_entry, prop_entry, root_entry, is_at_path, IsWrite, IsSameAt, IsEditWhole, IsUndone}
 use Rattle.core_read.specs.Committing.{entry_of, entries_at, rooting, is_marking, IsWriteOp, IsWrittenAt, IsUnwritten, IsPartly}
 use Rattle.jr_tree.proofs.Pointwise.{same_path}
 use Rattle.core_read.proofs.Updates.{own_with, values_with, some_not_empty}
@@ -304,7 +304,7 @@ silent_at None b f h = refl
 silent_at (Some x) b f h = absurd (false≢true (sym h ∙ f refl))
 
 -- each path of the edit is written: the edit is whole
-pub whole_of : (ds : Documents) (r : Revision) (ws : List Write) (root : Path) (done : Path → Bool) → IsPartly ds r ws root done → ((p : Path) → list_any (is_at_path p) ws ≡ true → done p ≡ true) → IsWhole ds r ws root
+pub whole_of : (ds : Documents) (r : Revision) (ws : List Write) (root : Path) (done : Path → Bool) → IsPartly ds r ws root done → ((p : Path) → list_any (is_at_path p) ws ≡ true → done p ≡ true) → IsEditWhole ds r ws root
 whole_of ds r ws root done part all = record {
   node = λ p. by p (done p) refl;
   prop = λ p n. by_prop p n (done p) refl;

@@ -10,7 +10,7 @@ use Rattle.jr_rev.specs.declared.revision.Revision.{Revision}
 use Rattle.jr_tree.specs.declared.edit.Write.TheVariants.{Here, Gone, Put, Unset}
 use Rattle.jr_tree.specs.Trees.{property_at}
 use Rattle.jr_tree.specs.Items.{put_of}
-use Rattle.core_read.specs.Commits.{Commits, Sight, tree_of, last}
+use Rattle.core_read.specs.Commits.{Commits, Sight, tree_seen, last}
 
 abbrev a : Path
 a = codes "a" ∷ []
@@ -34,7 +34,7 @@ unclosed = (rev 4, Here a ∷ []) ∷ (rev 3, Gone a ∷ Unset a n ∷ []) ∷ (
 abbrev even : Sight
 even r = r.time == 2 || r.time == 4
 
-unclosed_tree : property_at (tree_of even unclosed) a n ≡ None
+unclosed_tree : property_at (tree_seen even unclosed) a n ≡ None
 unclosed_tree = refl
 
 unclosed_last : last (put_of a n) even unclosed ≡ Some (Some x)
@@ -44,7 +44,7 @@ unclosed_last = refl
 abbrev put_unseen : Commits
 put_unseen = (rev 4, Here a ∷ []) ∷ (rev 3, Put a n x ∷ []) ∷ (rev 2, Gone a ∷ []) ∷ (rev 1, Here a ∷ []) ∷ []
 
-put_unseen_tree : property_at (tree_of all put_unseen) a n ≡ None
+put_unseen_tree : property_at (tree_seen all put_unseen) a n ≡ None
 put_unseen_tree = refl
 
 put_unseen_last : last (put_of a n) all put_unseen ≡ Some (Some x)
@@ -54,7 +54,7 @@ put_unseen_last = refl
 abbrev gone_unseen : Commits
 gone_unseen = (rev 4, Here a ∷ []) ∷ (rev 3, Gone a ∷ []) ∷ (rev 2, Put a n x ∷ []) ∷ (rev 1, Here a ∷ []) ∷ []
 
-gone_unseen_tree : property_at (tree_of all gone_unseen) a n ≡ None
+gone_unseen_tree : property_at (tree_seen all gone_unseen) a n ≡ None
 gone_unseen_tree = refl
 
 gone_unseen_last : last (put_of a n) all gone_unseen ≡ Some (Some x)

@@ -9,12 +9,12 @@ use Rattle.jr_path.specs.declared.path.Path.{Path}
 use Rattle.jr_path.specs.declared.path.DocId.TheVariants as id
 use Rattle.jr_rev.specs.declared.vector.RevVec.{RevVec}
 use Rattle.oak_doc.specs.declared.document.Document.{Document}
-use Rattle.core_read.specs.Start.{start_document, start_documents, system, versions}
+use Rattle.core_read.specs.Start.{start_document, start_documents, path_of_system, versions}
 
 -- the document, by which of the three paths it is
 abbrev chosen : RevVec → Path → Bool → Bool → Bool → Option Document
 chosen v p a b c =
-    cond a (Some (start_document v p (codes "rep:versionStorage"))) (cond b (Some (start_document v p (codes "rep:system"))) (cond c (Some (start_document v p (codes "nt:unstructured"))) None))
+    cond a (Some (start_document v p (codes "rep:versionStorage"))) (cond b (Some (start_document v p (codes "rep:path_of_system"))) (cond c (Some (start_document v p (codes "nt:unstructured"))) None))
 
 from_some : (c d : Document) → Some c ≡ Some d → c ≡ d
 from_some c d h = ap (λ o. unwrap_or o c) h
@@ -26,4 +26,4 @@ whole v p d false false true h = let e = from_some _ d h in (ap (λ (d : Documen
 whole v p d false false false h = absurd (false≢true (ap is_some h))
 
 pub start_whole : (v : RevVec) (p : Path) (d : Document) → start_documents v (id.Node p) ≡ Some d → (d.prev ≡ []) × (d.id ≡ id.Node p)
-start_whole v p d = whole v p d (eq_by_cmp path_cmp p versions) (eq_by_cmp path_cmp p system) (eq_by_cmp path_cmp p [])
+start_whole v p d = whole v p d (eq_by_cmp path_cmp p versions) (eq_by_cmp path_cmp p path_of_system) (eq_by_cmp path_cmp p [])

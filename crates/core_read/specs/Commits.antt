@@ -20,9 +20,9 @@ Sight = Revision → Bool
 
 -- the tree that is seen: the edits that are seen, applied to nothing in ascending order, each with
 -- its revision
-abbrev pub tree_of : Sight → Commits → Nodes
-tree_of s [] = []
-tree_of s (e ∷ es) = cond (s e.0) (applied (Some e.0) (tree_of s es) e.1) (tree_of s es)
+abbrev pub tree_seen : Sight → Commits → Nodes
+tree_seen s [] = []
+tree_seen s (e ∷ es) = cond (s e.0) (applied (Some e.0) (tree_seen s es) e.1) (tree_seen s es)
 
 -- what the last write of an item writes, over the edits that are seen
 abbrev pub last : {X : Type 0} → (Write → Option X) → Sight → Commits → Option X

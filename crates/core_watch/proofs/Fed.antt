@@ -32,7 +32,7 @@ use Rattle.jr_tree.specs.Trees.{Nodes, born_of, born_at, node_at, is_child_of}
 use Rattle.oak_doc.specs.declared.document.Document.{Document}
 use Rattle.oak_read.specs.Meaning.{Documents, documents_in, path_of, commit_root_of, child_found, found_node}
 use Rattle.oak_read.specs.Wanted.{Known, Ids, unknown, listed, previous_wanted, roots_wanted, left_of}
-use Rattle.oak_read.specs.Reading.{IsTable, answer, child_at, due, ended, fed, fed_main, fed_next, noted, on_main, on_previous, on_roots, settled, with_known}
+use Rattle.oak_read.specs.Reading.{IsTable, answer, child_path_in, due, ended, fed, fed_main, fed_next, noted, on_main, on_previous, on_roots, settled, with_known}
 use Rattle.oak_read.specs.declared.wanted.Left.{Left}
 use Rattle.oak_read.specs.declared.reader.Reader.{Reader}
 use Rattle.oak_read.specs.declared.reader.Step.{Step}
@@ -74,7 +74,7 @@ use Rattle.core_begun.proofs.Told.{tree_since}
 use Rattle.oak_machine.specs.declared.event.Start.{Start}
 use Rattle.core_keep.proofs.Readers.{known_there, known_born, reads_more, root_by}
 use Rattle.core_watch.specs.Standing.{HasEntry, is_known_or_left, Child, children_to, dated, HasNames, HasBegun, IsOnWay}
-use Rattle.core_watch.specs.Reading.{IsCopy, AreCopies, is_left, is_asked, IsAsking, IsRooted, IsFresh, Stands, IsReading}
+use Rattle.core_watch.specs.Reading.{IsCopy, AreCopies, is_left, is_asked, IsAsking, AreRootsAsked, IsUnknownBehind, Stands, ReadsTree}
 use Rattle.core_watch.proofs.Left.{all_rising, all_unknown, among_roots, any_back, any_front, either, is_root, unknown_left, noted_at, noted_rising, still_known, still_unknown, same_known, now_known}
 use Rattle.core_watch.proofs.Children.{child_order, dated_are, dated_more, one_more_child, no_children, all_children, same_children}
 use Rattle.core_watch.proofs.Behind.{Entries, behind, has, each_found, IsNext, next_is, nothing_behind}
@@ -242,13 +242,13 @@ module _ (start : Start) where
     reader parent at known names s = record { alloc = a; pin = pin; parent = parent; at = at; known = known; names = names; step = s }
 
     abbrev Reads : Reader → Type 0
-    Reads r = IsReading start ds past formers r
+    Reads r = ReadsTree start ds past formers r
 
     abbrev Asking : Known → Ids → Path → Type 0
     Asking known left p = IsAsking ds course formers pin.base pin.sweep known left p
 
     abbrev Rooted : Known → Ids → Bool → Path → Type 0
-    Rooted known left whole p = IsRooted ds course pin.base pin.sweep known left whole p
+    Rooted known left whole p = AreRootsAsked ds course pin.base pin.sweep known left whole p
 
     told : IsToldSince start past
     told = world.told
@@ -304,7 +304,7 @@ module _ (start : Start) where
       node_born : born_of (found_node (documents_in known) pin.sweep pin.base at) ≡ born_at tree at
       node_born = known_born ds course pin.base pin.sweep at rooted.document (λ k. true) rooted.look rooted.reads (documents_in known) rooted.there rooted.found gone_says tree (shows_at start past world.first told pin.base held.base)
 
-    roots_read : (parent : Option Path) (at : Path) (known : Known) (names : List Child) (s : Step) → Copies known → Rooted known [] (is_none parent) at → IsOnWay is_lt tree parent at names → IsFresh at known → Reads (on_roots (reader parent at known names s))
+    roots_read : (parent : Option Path) (at : Path) (known : Known) (names : List Child) (s : Step) → Copies known → Rooted known [] (is_none parent) at → IsOnWay is_lt tree parent at names → IsUnknownBehind at known → Reads (on_roots (reader parent at known names s))
     roots_read None at known names s copies rooted way fresh = record { copies = copies; stands = known_node known copies true at rooted refl }
     roots_read (Some p) at known names s copies rooted way fresh = record { copies = copies; stands = (record { child = way.child; so_far = named (child_name p at way.child) }, fresh) }
       where
@@ -319,13 +319,13 @@ module _ (start : Start) where
 
     -- ---- the commit roots
 
-    roots_stand : (parent : Option Path) (at : Path) (known : Known) (names : List Child) (e : DocId × Unit {0}) (es : Ids) → Rooted known (e ∷ es) (is_none parent) at → IsOnWay is_lt tree parent at names → IsFresh at known
+    roots_stand : (parent : Option Path) (at : Path) (known : Known) (names : List Child) (e : DocId × Unit {0}) (es : Ids) → Rooted known (e ∷ es) (is_none parent) at → IsOnWay is_lt tree parent at names → IsUnknownBehind at known
         → Stands ds course formers tree pin parent at known names (step.Roots (record { first = e.0; rest = es }))
     roots_stand None at known names e es rooted way fresh = (rooted, way, fresh)
     roots_stand (Some p) at known names e es rooted way fresh = (rooted, way, fresh)
 
     -- with what is left: the next of it, or all is known
-    roots_go_on : (parent : Option Path) (at : Path) (known : Known) (names : List Child) (s : Step) (ids : Ids) → Copies known → Rooted known ids (is_none parent) at → IsOnWay is_lt tree parent at names → IsFresh at known
+    roots_go_on : (parent : Option Path) (at : Path) (known : Known) (names : List Child) (s : Step) (ids : Ids) → Copies known → Rooted known ids (is_none parent) at → IsOnWay is_lt tree parent at names → IsUnknownBehind at known
         → Reads (option_map_or (λ left. record (reader parent at known names s) { step = step.Roots left }) (left_of ids) (on_roots (reader parent at known names s)))
     roots_go_on parent at known names s [] copies rooted way fresh = roots_read parent at known names s copies rooted way fresh
     roots_go_on parent at known names s (e ∷ es) copies rooted way fresh = record { copies = copies; stands = roots_stand parent at known names e es rooted way fresh }
@@ -333,7 +333,7 @@ module _ (start : Start) where
     -- ---- the previous documents
 
     -- all are asked for: the commit roots of what is gone by are wanted
-    previous_read : (parent : Option Path) (at : Path) (known : Known) (names : List Child) (s : Step) → Copies known → Asking known [] at → IsOnWay is_lt tree parent at names → IsFresh at known → Reads (on_previous (reader parent at known names s))
+    previous_read : (parent : Option Path) (at : Path) (known : Known) (names : List Child) (s : Step) → Copies known → Asking known [] at → IsOnWay is_lt tree parent at names → IsUnknownBehind at known → Reads (on_previous (reader parent at known names s))
     previous_read parent at known names s copies asking way fresh =
         subst (λ (ids : Ids). Reads (option_map_or (λ left. record (reader parent at known names s) { step = step.Roots left }) (left_of ids) (on_roots (reader parent at known names s)))) (sym wanted_is)
         (roots_go_on parent at known names s wanted copies rooted way fresh)
@@ -364,19 +364,19 @@ module _ (start : Start) where
               (λ x h. absurd (false≢true h));
         }
 
-    asking_stands : (parent : Option Path) (at : Path) (known : Known) (names : List Child) (e : DocId × Unit {0}) (es : Ids) → Asking known (e ∷ es) at → IsOnWay is_lt tree parent at names → IsFresh at known
+    asking_stands : (parent : Option Path) (at : Path) (known : Known) (names : List Child) (e : DocId × Unit {0}) (es : Ids) → Asking known (e ∷ es) at → IsOnWay is_lt tree parent at names → IsUnknownBehind at known
         → Stands ds course formers tree pin parent at known names (step.Previous (record { first = e.0; rest = es }))
     asking_stands None at known names e es asking way fresh = (asking, way, fresh)
     asking_stands (Some p) at known names e es asking way fresh = (asking, way, fresh)
 
     -- with what is left: the next of it, or all are asked for
-    previous_go_on : (parent : Option Path) (at : Path) (known : Known) (names : List Child) (s : Step) (ids : Ids) → Copies known → Asking known ids at → IsOnWay is_lt tree parent at names → IsFresh at known
+    previous_go_on : (parent : Option Path) (at : Path) (known : Known) (names : List Child) (s : Step) (ids : Ids) → Copies known → Asking known ids at → IsOnWay is_lt tree parent at names → IsUnknownBehind at known
         → Reads (option_map_or (λ left. record (reader parent at known names s) { step = step.Previous left }) (left_of ids) (on_previous (reader parent at known names s)))
     previous_go_on parent at known names s [] copies asking way fresh = previous_read parent at known names s copies asking way fresh
     previous_go_on parent at known names s (e ∷ es) copies asking way fresh = record { copies = copies; stands = asking_stands parent at known names e es asking way fresh }
 
     -- the node's document is known, and none of the previous documents that it lists
-    main_read : (parent : Option Path) (at : Path) (known : Known) (names : List Child) (s : Step) → Copies known → (c : Document) → documents_in known (id.Node at) ≡ Some c → ((k : ℕ) → documents_in known (id.Prev k at) ≡ None) → IsOnWay is_lt tree parent at names → IsFresh at known → Reads (on_main (reader parent at known names s))
+    main_read : (parent : Option Path) (at : Path) (known : Known) (names : List Child) (s : Step) → Copies known → (c : Document) → documents_in known (id.Node at) ≡ Some c → ((k : ℕ) → documents_in known (id.Prev k at) ≡ None) → IsOnWay is_lt tree parent at names → IsUnknownBehind at known → Reads (on_main (reader parent at known names s))
     main_read parent at known names s copies c there none way fresh =
         subst (λ (ids : Ids). Reads (option_map_or (λ left. record (reader parent at known names s) { step = step.Previous left }) (left_of ids) (on_previous (reader parent at known names s)))) (sym wanted_is)
         (previous_go_on parent at known names s (unknown known (listed at c)) copies asking way fresh)
@@ -425,11 +425,11 @@ module _ (start : Start) where
         at p d false e k = copies.each p d k
 
     -- a node's document that is noted is no previous one
-    fresh_node : (at : Path) (known : Known) (y : Path) (o : Option Document) → IsFresh at known → IsFresh at (with_known known (id.Node y) o)
+    fresh_node : (at : Path) (known : Known) (y : Path) (o : Option Document) → IsUnknownBehind at known → IsUnknownBehind at (with_known known (id.Node y) o)
     fresh_node at known y o fresh q k h = beside known (id.Node y) o (id.Prev k q) (prev_node k q y) ∙ fresh q k h
 
     -- the document of the node is there: it is noted
-    node_noted : (parent : Option Path) (at : Path) (known : Known) (names : List Child) (s : Step) → Copies known → (d : Document) → documents_in table (id.Node at) ≡ Some d → ((k : ℕ) → documents_in known (id.Prev k at) ≡ None) → IsOnWay is_lt tree parent at names → IsFresh at known
+    node_noted : (parent : Option Path) (at : Path) (known : Known) (names : List Child) (s : Step) → Copies known → (d : Document) → documents_in table (id.Node at) ≡ Some d → ((k : ℕ) → documents_in known (id.Prev k at) ≡ None) → IsOnWay is_lt tree parent at names → IsUnknownBehind at known
         → Reads (on_main (reader parent at (with_known known (id.Node at) (Some d)) names s))
     node_noted parent at known names s copies d there none way fresh =
         let c = from_some (documents_in (with_known known (id.Node at) (Some d)) (id.Node at)) (now_known known (id.Node at) (Some d) refl) in
@@ -542,13 +542,13 @@ module _ (start : Start) where
             by Equal h = sym (ap is_lt (id_total.congr (id.Node (p ++ n ∷ [])) (id.Node at) (id.Node q) h ∙ above))
             by Greater h = sym (least (id.Node (p ++ n ∷ [])) (document_there (p ++ n ∷ []) some) (id_total.antisymm (id.Node at) (id.Node (p ++ n ∷ [])) ∙ ap ordering_reverse h))
 
-    feed_next : (p : Path) (at : Path) (known : Known) (names : List Child) → Copies known → HasNames is_le tree p at names → IsFresh at known → Reads (fed_next (reader (Some p) at known names step.Next) (option_map (λ e. e.1) (slice_get (behind (id.Node at) table) 0)))
+    feed_next : (p : Path) (at : Path) (known : Known) (names : List Child) → Copies known → HasNames is_le tree p at names → IsUnknownBehind at known → Reads (fed_next (reader (Some p) at known names step.Next) (option_map (λ e. e.1) (slice_get (behind (id.Node at) table) 0)))
     feed_next p at known names copies way fresh = by (behind (id.Node at) table) refl
       where
         by : (es : Entries) → behind (id.Node at) table ≡ es → Reads (fed_next (reader (Some p) at known names step.Next) (option_map (λ e. e.1) (slice_get es 0)))
         by [] none = ends p at known names copies way (λ n some. not_behind (id.Node (p ++ n ∷ [])) (id.Node at) (nothing_behind (id.Node at) table none (id.Node (p ++ n ∷ [])) (document_there (p ++ n ∷ []) some)))
         by (e ∷ more) first =
-            subst (λ (x : DocId). Reads (option_map_or (λ q. settled (noted (reader (Some p) q known names step.Next) x (Some e.1))) (child_at (Some p) x) (ended (reader (Some p) at known names step.Next)))) (sym id_is)
+            subst (λ (x : DocId). Reads (option_map_or (λ q. settled (noted (reader (Some p) q known names step.Next) x (Some e.1))) (child_path_in (Some p) x) (ended (reader (Some p) at known names step.Next)))) (sym id_is)
             (at_id e.0 refl)
           where
             next : IsNext (id.Node at) table e
@@ -563,7 +563,7 @@ module _ (start : Start) where
             past_it : ((q : Path) → e.0 ≡ id.Node q → is_child_of p q ≡ false) → Reads (ended (reader (Some p) at known names step.Next))
             past_it other = ends p at known names copies way (strays p at e way.child next other)
 
-            at_id : (x : DocId) → e.0 ≡ x → Goes x (child_at (Some p) x)
+            at_id : (x : DocId) → e.0 ≡ x → Goes x (child_path_in (Some p) x)
             at_id (id.Node q) same = at_node (is_child_of p q) refl
               where
                 above : id_cmp (id.Node at) (id.Node q) ≡ Less
@@ -678,10 +678,10 @@ module _ (start : Start) where
               other false m = refl
               other true m = absurd (false≢true (sym h ∙ (ap (λ (x : DocId). eq_by_cmp id_cmp x first) (ap (λ (j : ℕ). id.Prev j at) (number_same e.number k m) ∙ sym asked_entry.2) ∙ Rattle.oak_read.proofs.Walking.own_id first)))
 
-    fresh_previous : (at : Path) (known : Known) (k : ℕ) (y : DocId) (o : Option Document) → y ≡ id.Prev k at → IsFresh at known → IsFresh at (with_known known y o)
+    fresh_previous : (at : Path) (known : Known) (k : ℕ) (y : DocId) (o : Option Document) → y ≡ id.Prev k at → IsUnknownBehind at known → IsUnknownBehind at (with_known known y o)
     fresh_previous at known k y o one fresh q j h = beside known y o (id.Prev j q) (λ e. behind_apart at q h (same_of_prev j k q at (e ∙ one))) ∙ fresh q j h
 
-    feed_previous : (parent : Option Path) (at : Path) (known : Known) (names : List Child) (left : Left) → Copies known → Asking known ((left.first, tt) ∷ left.rest) at → IsOnWay is_lt tree parent at names → IsFresh at known
+    feed_previous : (parent : Option Path) (at : Path) (known : Known) (names : List Child) (left : Left) → Copies known → Asking known ((left.first, tt) ∷ left.rest) at → IsOnWay is_lt tree parent at names → IsUnknownBehind at known
         → Reads (settled (noted (reader parent at known names (step.Previous left)) left.first (documents_in table left.first)))
     feed_previous parent at known names left copies asking way fresh =
         let k = asking.previous left.first (first_left left.first left.rest) in
@@ -726,13 +726,13 @@ module _ (start : Start) where
             (there_by (documents_in table (commit_root_of x q)) q (rooted.reads.said x i q seen unswept (from_entry whole x q entry)))))
         by x i q seen unswept entry false is_known false is_first h = or_else (is_some (documents_in (with_known known first (documents_in table first)) (commit_root_of x q))) _ h
 
-    feed_roots : (parent : Option Path) (at : Path) (known : Known) (names : List Child) (left : Left) → Copies known → Rooted known ((left.first, tt) ∷ left.rest) (is_none parent) at → IsOnWay is_lt tree parent at names → IsFresh at known
+    feed_roots : (parent : Option Path) (at : Path) (known : Known) (names : List Child) (left : Left) → Copies known → Rooted known ((left.first, tt) ∷ left.rest) (is_none parent) at → IsOnWay is_lt tree parent at names → IsUnknownBehind at known
         → Reads (settled (noted (reader parent at known names (step.Roots left)) left.first (documents_in table left.first)))
     feed_roots parent at known names left copies rooted way fresh =
         let n = rooted.nodes left.first (first_left left.first left.rest) in
         roots_go_on parent at (with_known known left.first (documents_in table left.first)) names (step.Roots left) left.rest (copies_noted known copies left.first)
         (rooted_noted known copies (is_none parent) at left.first left.rest rooted) way
-        (subst (λ (y : DocId). IsFresh at (with_known known y (documents_in table y))) (sym n.1) (fresh_node at known n.0 (documents_in table (id.Node n.0)) fresh))
+        (subst (λ (y : DocId). IsUnknownBehind at (with_known known y (documents_in table y))) (sym n.1) (fresh_node at known n.0 (documents_in table (id.Node n.0)) fresh))
 
     -- ---- any step
 
@@ -749,5 +749,5 @@ module _ (start : Start) where
     feed_step (Some p) at known names (step.Done o) copies stands = record { copies = copies; stands = stands }
 
   pub reading_feeds : (table : Entries) (past : Past) (formers : Formers) (done : Progress) (r : Reader) → IsTable table → IsKeptSince start (documents_in table) past done → IsHeldSince start past r.pin.base r.pin.sweep
-      → AreFormers (documents_in table) (course_from start past) formers → IsReading start (documents_in table) past formers r → IsReading start (documents_in table) past formers (fed r (answer table (due r)))
+      → AreFormers (documents_in table) (course_from start past) formers → ReadsTree start (documents_in table) past formers r → ReadsTree start (documents_in table) past formers (fed r (answer table (due r)))
   reading_feeds table past formers done r is world held are reads = feed_step table is past formers done r.alloc r.pin world held are r.parent r.at r.known r.names r.step reads.copies reads.stands

@@ -26,7 +26,7 @@ use Rattle.oak_read.specs.declared.reader.Step.TheVariants as step
 use Rattle.oak_read.proofs.Walking.{same_id}
 use Rattle.core_read.proofs.Entries.{is_less}
 use Rattle.core_watch.specs.Standing.{Child}
-use Rattle.core_watch.specs.Moments.{Moment, HasIdsAmong, answered, after_moments, first_of, IsDone}
+use Rattle.core_watch.specs.Moments.{Moment, HasIdsAmong, answered, after_moments, first_moments, IsReaderDone}
 use Rattle.core_watch.proofs.Behind.{not_below_itself}
 use Rattle.core_watch.proofs.Ending.{next_rises}
 
@@ -50,7 +50,7 @@ IsLower s' s = (phase s' < phase s) ⊎ ((phase s' ≡ phase s) × (rest_of s' <
 
 -- after an answer a reader is done, or at a later document, or further at the same
 abbrev Moves : Moment → Path → Step → Reader → Type 0
-Moves m at s r' = IsDone r'.step ⊎ (((id_cmp (id.Node at) (id.Node r'.at) ≡ Less) × (is_some (documents_in m.table (id.Node r'.at)) ≡ true)) ⊎ ((r'.at ≡ at) × IsLower r'.step s))
+Moves m at s r' = IsReaderDone r'.step ⊎ (((id_cmp (id.Node at) (id.Node r'.at) ≡ Less) × (is_some (documents_in m.table (id.Node r'.at)) ≡ true)) ⊎ ((r'.at ≡ at) × IsLower r'.step s))
 
 module _ (m : Moment) (a : Global) (pin : Pin) (at : Path) (names : List Child) where
   abbrev reader : Option Path → Known → Step → Reader
@@ -109,7 +109,7 @@ module _ (m : Moment) (a : Global) (pin : Pin) (at : Path) (names : List Child) 
   any_move is parent known (step.Done o) = inl tt
   any_move is parent known step.Next = by (next_rises m (reader parent known step.Next) is refl)
     where
-      by : IsDone (answered (reader parent known step.Next) m).step ⊎ ((id_cmp (id.Node at) (id.Node (answered (reader parent known step.Next) m).at) ≡ Less) × (is_some (documents_in m.table (id.Node (answered (reader parent known step.Next) m).at)) ≡ true))
+      by : IsReaderDone (answered (reader parent known step.Next) m).step ⊎ ((id_cmp (id.Node at) (id.Node (answered (reader parent known step.Next) m).at) ≡ Less) × (is_some (documents_in m.table (id.Node (answered (reader parent known step.Next) m).at)) ≡ true))
           → Moves m at step.Next (answered (reader parent known step.Next) m)
       by (inl done) = inl done
       by (inr risen) = inr (inl risen)
@@ -169,7 +169,7 @@ module _ (x y : DocId) (less : id_cmp x y ≡ Less) where
 -- ---- the end
 
 abbrev Ends : (ℕ → Moment) → Reader → Type 0
-Ends f r = (n : ℕ) × IsDone (after_moments (first_of n f) r).step
+Ends f r = (n : ℕ) × IsReaderDone (after_moments (first_moments n f) r).step
 
 one_more : (f : ℕ → Moment) (r : Reader) → Ends (λ i. f (suc i)) (answered r (f 0)) → Ends f r
 one_more f r e = (suc e.0, e.1)
@@ -233,7 +233,7 @@ module _ (ids : List DocId) where
 
 -- ---- with what the tree has
 
-pub done_with : (s : Step) → IsDone s → (o : ReadOut) × (s ≡ step.Done o)
+pub done_with : (s : Step) → IsReaderDone s → (o : ReadOut) × (s ≡ step.Done o)
 done_with (step.Done o) done = (o, refl)
 done_with step.Main done = absurd done
 done_with step.Next done = absurd done

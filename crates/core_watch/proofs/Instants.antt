@@ -18,9 +18,9 @@ use Rattle.oak_machine.specs.History.{Past}
 use Rattle.oak_machine.specs.Commits.{tree_at}
 use Rattle.core_keep.specs.Keeps.{Course}
 use Rattle.core_watch.specs.Standing.{Child, path_read, AreChildrenOf, IsNodeOf}
-use Rattle.core_watch.specs.Moments.{after_moments, answered, EndsWith, first_of, HasIdsAmong, IsFor, Moment}
+use Rattle.core_watch.specs.Moments.{after_moments, answered, ReaderEndsWith, first_moments, HasIdsAmong, IsReaderFor, Moment}
 use Rattle.core_keep.specs.Formers.{Formers}
-use Rattle.core_watch.specs.Reading.{IsReading, Stands}
+use Rattle.core_watch.specs.Reading.{ReadsTree, Stands}
 use Rattle.core_watch.specs.Instants.{Instant, AreReadable, documents_at, first_instants, moments_of}
 use Rattle.core_watch.proofs.Fed.{reading_feeds}
 use Rattle.core_watch.proofs.Finite.{ends, done_with}
@@ -43,10 +43,10 @@ module _ (start : Start) where
   children_only t None p q o some h = absurd (false≢true (ap is_some some))
   children_only t (Some x) p q o some h = let same : x ≡ q = cc in subst (λ (y : Path). AreChildrenOf t y o) same h
 
-  pub begins_node : (ds : Documents) (past : Past) (formers : Formers) (a : Global) (pin : Pin) (p : Path) → IsReading start ds past formers (node_reader a pin p)
+  pub begins_node : (ds : Documents) (past : Past) (formers : Formers) (a : Global) (pin : Pin) (p : Path) → ReadsTree start ds past formers (node_reader a pin p)
   begins_node ds past formers a pin p = record { copies = record { rising = refl; each = λ q d h. absurd (false≢true (ap is_some h)) }; stands = refl }
 
-  pub begins_children : (ds : Documents) (past : Past) (formers : Formers) (a : Global) (pin : Pin) (p : Path) → IsReading start ds past formers (children_reader a pin p)
+  pub begins_children : (ds : Documents) (past : Past) (formers : Formers) (a : Global) (pin : Pin) (p : Path) → ReadsTree start ds past formers (children_reader a pin p)
   begins_children ds past formers a pin p = record { copies = record { rising = refl; each = λ q d h. absurd (false≢true (ap is_some h)) }; stands = (record { least = refl; none = refl }, refl) }
 
   given : (ds : Documents) (c : Course) (formers : Formers) (t : Nodes) (pin : Pin) (parent : Option Path) (at : Path) (known : Known) (names : List Child) (o : ReadOut) → Stands ds c formers t pin parent at known names (step.Done o) → IsGiven t parent (unwrap_or parent at) o
@@ -54,21 +54,21 @@ module _ (start : Start) where
   given ds c formers t pin (Some p) at known names o h = h
 
   -- where it is done it gives that of the tree at its base
-  gives : (ds : Documents) (past : Past) (formers : Formers) (r : Reader) (o : ReadOut) → IsReading start ds past formers r → r.step ≡ step.Done o → IsGiven (tree_at (Some start) past r.pin.base) r.parent (path_read r) o
+  gives : (ds : Documents) (past : Past) (formers : Formers) (r : Reader) (o : ReadOut) → ReadsTree start ds past formers r → r.step ≡ step.Done o → IsGiven (tree_at (Some start) past r.pin.base) r.parent (path_read r) o
   gives ds past formers r o reading done = given ds (course_from start past) formers (tree_at (Some start) past r.pin.base) r.pin r.parent r.at r.known r.names o (subst (λ (s : Step). Stands ds (course_from start past) formers (tree_at (Some start) past r.pin.base) r.pin r.parent r.at r.known r.names s) done reading.stands)
 
-  pub gives_node : (ds : Documents) (past : Past) (formers : Formers) (r : Reader) (o : ReadOut) → IsReading start ds past formers r → r.parent ≡ None → r.step ≡ step.Done o → IsNodeOf (tree_at (Some start) past r.pin.base) (path_read r) o
+  pub gives_node : (ds : Documents) (past : Past) (formers : Formers) (r : Reader) (o : ReadOut) → ReadsTree start ds past formers r → r.parent ≡ None → r.step ≡ step.Done o → IsNodeOf (tree_at (Some start) past r.pin.base) (path_read r) o
   gives_node ds past formers r o reading none done = node_only (tree_at (Some start) past r.pin.base) r.parent (path_read r) o none (gives ds past formers r o reading done)
 
-  pub gives_children : (ds : Documents) (past : Past) (formers : Formers) (r : Reader) (p : Path) (o : ReadOut) → IsReading start ds past formers r → r.parent ≡ Some p → r.step ≡ step.Done o → AreChildrenOf (tree_at (Some start) past r.pin.base) p o
+  pub gives_children : (ds : Documents) (past : Past) (formers : Formers) (r : Reader) (p : Path) (o : ReadOut) → ReadsTree start ds past formers r → r.parent ≡ Some p → r.step ≡ step.Done o → AreChildrenOf (tree_at (Some start) past r.pin.base) p o
   gives_children ds past formers r p o reading some done = children_only (tree_at (Some start) past r.pin.base) r.parent (path_read r) p o some (gives ds past formers r o reading done)
 
   -- after all answers it gives, where it is done, what the tree of the first instant has
-  run : (is : List Instant) (i : Instant) (r : Reader) → AreReadable start r.pin i is → IsReading start (documents_at i) i.moment.past i.formers r → (o : ReadOut) → (after_moments (moments_of is) r).step ≡ step.Done o → IsGiven (tree_at (Some start) i.moment.past r.pin.base) r.parent (path_read r) o
+  run : (is : List Instant) (i : Instant) (r : Reader) → AreReadable start r.pin i is → ReadsTree start (documents_at i) i.moment.past i.formers r → (o : ReadOut) → (after_moments (moments_of is) r).step ≡ step.Done o → IsGiven (tree_at (Some start) i.moment.past r.pin.base) r.parent (path_read r) o
   run [] i r on reading o done = gives (documents_at i) i.moment.past i.formers r o reading done
   run (k ∷ is) i r on reading o done =
-      let kept : IsFor r.pin r.parent (path_read r) (answered r k.moment) = fed_keeps r (answer k.moment.table (due r)) in
-      let now : IsReading start (documents_at k) k.moment.past k.formers (answered r k.moment) =
+      let kept : IsReaderFor r.pin r.parent (path_read r) (answered r k.moment) = fed_keeps r (answer k.moment.table (due r)) in
+      let now : ReadsTree start (documents_at k) k.moment.past k.formers (answered r k.moment) =
       reading_feeds start k.moment.table k.moment.past k.formers (on.2).done r (on.2).ordered (on.2).kept (on.2).held (on.2).listed
       (reading_lasts start i.formers k.formers (documents_at i) (documents_at k) i.moment.past k.moment.past r on.0 on.1 reading) in
       let rest : IsGiven (tree_at (Some start) k.moment.past (answered r k.moment).pin.base) (answered r k.moment).parent (path_read (answered r k.moment)) o =
@@ -85,20 +85,20 @@ module _ (start : Start) where
   reads_children a pin p i is o on done = run is i (children_reader a pin p) on (begins_children (documents_at i) i.moment.past i.formers a pin p) o done
 
   -- the moments of the first instants are the first of the moments
-  firsts : (n : ℕ) (f : ℕ → Instant) → moments_of (first_instants n f) ≡ first_of n (λ i. (f i).moment)
+  firsts : (n : ℕ) (f : ℕ → Instant) → moments_of (first_instants n f) ≡ first_moments n (λ i. (f i).moment)
   firsts zero f = refl
   firsts (suc n) f = ap (λ (ms : List Moment). (f 0).moment ∷ ms) (firsts n (λ i. f (suc i)))
 
   -- it ends so, as long as the documents that come have finitely many ids
   module _ (ids : List DocId) (a : Global) (pin : Pin) (p : Path) (i : Instant) (f : ℕ → Instant) (on : (n : ℕ) → AreReadable start pin i (first_instants n f)) (among : (n : ℕ) → HasIdsAmong ids (f n).moment) where
-    pub node_at_end : EndsWith (IsNodeOf (tree_at (Some start) i.moment.past pin.base) p) (λ n. (f n).moment) (node_reader a pin p)
+    pub node_at_end : ReaderEndsWith (IsNodeOf (tree_at (Some start) i.moment.past pin.base) p) (λ n. (f n).moment) (node_reader a pin p)
     node_at_end =
         let e = ends ids (λ n. (f n).moment) (node_reader a pin p) among in
-        let o = done_with (after_moments (first_of e.0 (λ n. (f n).moment)) (node_reader a pin p)).step e.1 in
+        let o = done_with (after_moments (first_moments e.0 (λ n. (f n).moment)) (node_reader a pin p)).step e.1 in
         (e.0, o.0, o.1, reads_node a pin p i (first_instants e.0 f) o.0 (on e.0) (ap (λ (ms : List Moment). (after_moments ms (node_reader a pin p)).step) (firsts e.0 f) ∙ o.1))
 
-    pub children_at_end : EndsWith (AreChildrenOf (tree_at (Some start) i.moment.past pin.base) p) (λ n. (f n).moment) (children_reader a pin p)
+    pub children_at_end : ReaderEndsWith (AreChildrenOf (tree_at (Some start) i.moment.past pin.base) p) (λ n. (f n).moment) (children_reader a pin p)
     children_at_end =
         let e = ends ids (λ n. (f n).moment) (children_reader a pin p) among in
-        let o = done_with (after_moments (first_of e.0 (λ n. (f n).moment)) (children_reader a pin p)).step e.1 in
+        let o = done_with (after_moments (first_moments e.0 (λ n. (f n).moment)) (children_reader a pin p)).step e.1 in
         (e.0, o.0, o.1, reads_children a pin p i (first_instants e.0 f) o.0 (on e.0) (ap (λ (ms : List Moment). (after_moments ms (children_reader a pin p)).step) (firsts e.0 f) ∙ o.1))

@@ -16,13 +16,13 @@ use Rattle.core_keep.specs.Keeps.{Course}
 use Rattle.core_keep.specs.Readers.{look_on}
 use Rattle.core_keep.proofs.Readers.{reads_on, shown_on}
 use Rattle.core_watch.specs.Standing.{Child}
-use Rattle.core_keep.specs.Formers.{Formers, Grows}
-use Rattle.core_watch.specs.Reading.{IsCopy, AreCopies, is_asked, IsAsking, IsRooted, Stands, IsReading, ReadsOn}
+use Rattle.core_keep.specs.Formers.{Formers, FormersGrow}
+use Rattle.core_watch.specs.Reading.{IsCopy, AreCopies, is_asked, IsAsking, AreRootsAsked, Stands, ReadsTree, ReadsOn}
 use Rattle.oak_machine.specs.declared.event.Start.{Start}
 use Rattle.core_keep.specs.From.{course_from}
 
 module _ (start : Start) where
-  module _ (pin : Pin) (formers more : Formers) (ds now : Documents) (past later : Past) (on : ReadsOn start pin ds now past later) (grows : Grows formers more) where
+  module _ (pin : Pin) (formers more : Formers) (ds now : Documents) (past later : Past) (on : ReadsOn start pin ds now past later) (grows : FormersGrow formers more) where
     abbrev c : Course
     c = course_from start past
 
@@ -56,7 +56,7 @@ module _ (start : Start) where
           (l.0, grows p e.number l.0 l.1, shown_on ds now c c' (sees pin.base) (sees pin.sweep) p asking.document (is_asked left p) asking.look asking.reads (on.goes p asking.document (is_asked left p)) l.0 l.2);
     }
 
-    rooted_lasts : (known : Known) → AreCopies ds c formers pin.base pin.sweep known → (left : Ids) (whole : Bool) (p : Path) → IsRooted ds c pin.base pin.sweep known left whole p → IsRooted now c' pin.base pin.sweep known left whole p
+    rooted_lasts : (known : Known) → AreCopies ds c formers pin.base pin.sweep known → (left : Ids) (whole : Bool) (p : Path) → AreRootsAsked ds c pin.base pin.sweep known left whole p → AreRootsAsked now c' pin.base pin.sweep known left whole p
     rooted_lasts known copies left whole p rooted = record {
       document = rooted.document;
       there = rooted.there;
@@ -84,7 +84,7 @@ module _ (start : Start) where
     stands_last (Some p) at known names (step.Done o) copies stands = stands
 
   -- what others do leaves a reader reading the tree
-  pub reading_lasts : (formers more : Formers) (ds now : Documents) (past later : Past) (r : Reader) → ReadsOn start r.pin ds now past later → Grows formers more → IsReading start ds past formers r → IsReading start now later more r
+  pub reading_lasts : (formers more : Formers) (ds now : Documents) (past later : Past) (r : Reader) → ReadsOn start r.pin ds now past later → FormersGrow formers more → ReadsTree start ds past formers r → ReadsTree start now later more r
   reading_lasts formers more ds now past later r on grows reading = record {
     copies = copies_last r.pin formers more ds now past later on grows r.known reading.copies;
     stands = subst (λ (tree : Nodes). Stands now (course_from start later) more tree r.pin r.parent r.at r.known r.names r.step) (sym on.tree) (stands_last r.pin formers more ds now past later on grows r.parent r.at r.known r.names r.step reading.copies reading.stands);

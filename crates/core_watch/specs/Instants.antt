@@ -8,7 +8,7 @@ use Rattle.core_read.specs.World.{Progress}
 use Rattle.oak_machine.specs.declared.event.Start.{Start}
 use Rattle.core_begun.specs.Kept.{IsHeldSince, IsKeptSince}
 use Rattle.core_keep.specs.From.{course_from}
-use Rattle.core_keep.specs.Formers.{AreFormers, Formers, Grows}
+use Rattle.core_keep.specs.Formers.{AreFormers, Formers, FormersGrow}
 use Rattle.core_watch.specs.Moments.{Moment}
 use Rattle.core_watch.specs.Reading.{ReadsOn}
 
@@ -36,7 +36,7 @@ abbrev pub AreReadable : Start → Pin → Instant → List Instant → Type 0
 AreReadable start pin i [] = Unit {0}
 AreReadable start pin i (n ∷ ns) =
     ReadsOn start pin (documents_at i) (documents_at n) i.moment.past n.moment.past
-    × Grows i.formers n.formers × CanRead start pin n × AreReadable start pin n ns
+    × FormersGrow i.formers n.formers × CanRead start pin n × AreReadable start pin n ns
 
 -- the moments of some instants
 abbrev pub moments_of : List Instant → List Moment

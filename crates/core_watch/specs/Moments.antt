@@ -30,7 +30,7 @@ abbrev pub after_moments : List Moment → Reader → Reader
 after_moments ms r = fold answered r ms
 
 -- a reader at this pin, of the children of a path or of a node, made for the path p
-pub record IsFor (pin : Pin) (parent : Option Path) (p : Path) (r : Reader) : Type 0 where
+pub record IsReaderFor (pin : Pin) (parent : Option Path) (p : Path) (r : Reader) : Type 0 where
   pub same_pin : r.pin ≡ pin
   pub same_kind : r.parent ≡ parent
   pub same_path : path_read r ≡ p
@@ -41,14 +41,14 @@ roots_left (step.Roots left) = suc (length left.rest)
 roots_left _ = 0
 
 -- a reader is done
-abbrev pub IsDone : Step → Type 0
-IsDone (step.Done o) = Unit {0}
-IsDone _ = ⊥
+abbrev pub IsReaderDone : Step → Type 0
+IsReaderDone (step.Done o) = Unit {0}
+IsReaderDone _ = ⊥
 
 -- the first n of moments without end
-abbrev pub first_of : ℕ → (ℕ → Moment) → List Moment
-first_of zero f = []
-first_of (suc n) f = f 0 ∷ first_of n (λ i. f (suc i))
+abbrev pub first_moments : ℕ → (ℕ → Moment) → List Moment
+first_moments zero f = []
+first_moments (suc n) f = f 0 ∷ first_moments n (λ i. f (suc i))
 
 -- at a moment the documents are in store order, and each has one of these ids
 pub record HasIdsAmong (ids : List DocId) (m : Moment) : Type 0 where
@@ -57,6 +57,6 @@ pub record HasIdsAmong (ids : List DocId) (m : Moment) : Type 0 where
       → IsTrue (list_any (eq_by_cmp id_cmp x) ids)
 
 -- after some of moments without end a reader is done, and gives one of these
-abbrev pub EndsWith : (ReadOut → Type 0) → (ℕ → Moment) → Reader → Type 0
-EndsWith P f r =
-    (n : ℕ) × (o : ReadOut) × ((after_moments (first_of n f) r).step ≡ step.Done o) × P o
+abbrev pub ReaderEndsWith : (ReadOut → Type 0) → (ℕ → Moment) → Reader → Type 0
+ReaderEndsWith P f r =
+    (n : ℕ) × (o : ReadOut) × ((after_moments (first_moments n f) r).step ≡ step.Done o) × P o

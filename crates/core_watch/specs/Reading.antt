@@ -52,7 +52,7 @@ pub record AreCopies (ds : Documents) (c : Course) (formers : Formers) (v t : Re
       → IsCopy ds c formers v t p d
 
 -- what is left to be read stands in store order, and isn't known
-pub record AreLeft (known : Known) (left : Ids) : Type 0 where
+pub record AreToRead (known : Known) (left : Ids) : Type 0 where
   pub rising : IsTrue (is_sorted id_cmp left)
   pub unknown : IsTrue (list_all (λ e. is_none (documents_in known e.0)) left)
 
@@ -74,7 +74,7 @@ pub record IsAsking (ds : Documents) (c : Course) (formers : Formers) (v t : Rev
   pub reads : Reads ds c (sees v) (sees t) p document (is_asked left p) look
   pub found : (e : PrevEntry) → IsIn e document.prev → IsTrue (is_asked left p e.number)
       → documents_in known (id.Prev e.number p) ≡ look e.number
-  pub waiting : AreLeft known left
+  pub waiting : AreToRead known left
   pub previous : (x : DocId) → IsTrue (is_left left x) → (e : PrevEntry) × IsIn e document.prev
       × (x ≡ id.Prev e.number p)
   pub listed : (e : PrevEntry) → IsIn e document.prev → (f : Former) × (formers p e.number ≡ Some f)
@@ -82,7 +82,7 @@ pub record IsAsking (ds : Documents) (c : Course) (formers : Formers) (v t : Rev
 
 -- all of these were asked for; and of the entries that v sees and t doesn't each commit root is
 -- known or left
-pub record IsRooted (ds : Documents) (c : Course) (v t : RevVec) (known : Known) (left : Ids)
+pub record AreRootsAsked (ds : Documents) (c : Course) (v t : RevVec) (known : Known) (left : Ids)
     (whole : Bool) (p : Path) : Type 0 where
   pub document : Document
   pub there : documents_in known (id.Node p) ≡ Some document
@@ -93,12 +93,12 @@ pub record IsRooted (ds : Documents) (c : Course) (v t : RevVec) (known : Known)
   pub roots : (x : Document) → IsIn x (gone_by document look) → (q : Revision) → IsTrue (sees v q)
       → IsFalse (sees t q) → HasEntry whole x q
       → IsTrue (is_known_or_left known left (commit_root_of x q))
-  pub waiting : AreLeft known left
+  pub waiting : AreToRead known left
   pub nodes : (x : DocId) → IsTrue (is_left left x) → (q : Path) × (x ≡ id.Node q)
 
 -- no previous document of a node behind this one is known
-abbrev pub IsFresh : Path → Known → Type 0
-IsFresh at known =
+abbrev pub IsUnknownBehind : Path → Known → Type 0
+IsUnknownBehind at known =
     (q : Path) (k : ℕ) → IsTrue (is_lt (id_cmp (id.Node at) (id.Node q)))
     → documents_in known (id.Prev k q) ≡ None
 
@@ -108,19 +108,19 @@ module _ (ds : Documents) (c : Course) (formers : Formers) (tree : Nodes) (pin :
   Stands None at known names step.Main = known ≡ []
   Stands (Some p) at known names step.Main = HasBegun p at names × (known ≡ [])
   Stands None at known names step.Next = ⊥
-  Stands (Some p) at known names step.Next = HasNames is_le tree p at names × IsFresh at known
+  Stands (Some p) at known names step.Next = HasNames is_le tree p at names × IsUnknownBehind at known
   Stands parent at known names (step.Previous left) =
       IsAsking ds c formers pin.base pin.sweep known ((left.first, tt) ∷ left.rest) at
-      × IsOnWay is_lt tree parent at names × IsFresh at known
+      × IsOnWay is_lt tree parent at names × IsUnknownBehind at known
   Stands parent at known names (step.Roots left) =
-      IsRooted ds c pin.base pin.sweep known ((left.first, tt) ∷ left.rest) (is_none parent) at
-      × IsOnWay is_lt tree parent at names × IsFresh at known
+      AreRootsAsked ds c pin.base pin.sweep known ((left.first, tt) ∷ left.rest) (is_none parent) at
+      × IsOnWay is_lt tree parent at names × IsUnknownBehind at known
   Stands None at known names (step.Done o) = IsNodeOf tree at o
   Stands (Some p) at known names (step.Done o) = AreChildrenOf tree p o
 
 -- a reader of a node or of children reads the tree at its base: what it knows are copies of
 -- documents, and it stands where its step says
-pub record IsReading (start : Start) (ds : Documents) (past : Past) (formers : Formers) (r : Reader)
+pub record ReadsTree (start : Start) (ds : Documents) (past : Past) (formers : Formers) (r : Reader)
     : Type 0 where
   pub copies : AreCopies ds (course_from start past) formers r.pin.base r.pin.sweep r.known
   pub stands :

@@ -41,10 +41,10 @@ ghost use Rattle.core_keep.specs.Steps.{IsChangeAt, IsMainAt, IsMoved, IsPreviou
 ghost use Rattle.oak_doc.specs.declared.document.PrevEntry.{PrevEntry};
 ghost use Rattle.core_read.specs.Writes.{IsOrderedDocument};
 ghost use Rattle.core_watch.specs.Standing.{path_read, AreChildrenOf, IsNodeOf};
-ghost use Rattle.core_keep.specs.Formers.{AreFormers, Former, former_now, Formers, Grows, IsCopyOf, with_former};
-ghost use Rattle.core_watch.specs.Reading.{IsReading, ReadsOn};
+ghost use Rattle.core_keep.specs.Formers.{AreFormers, Former, former_now, Formers, FormersGrow, IsCopyOf, with_former};
+ghost use Rattle.core_watch.specs.Reading.{ReadsTree, ReadsOn};
 ghost use Rattle.core_watch.specs.Instants.{AreReadable, first_instants, Instant, moments_of};
-ghost use Rattle.core_watch.specs.Moments.{after_moments, answered, EndsWith, first_of, HasIdsAmong, IsDone, IsFor, Moment, roots_left};
+ghost use Rattle.core_watch.specs.Moments.{after_moments, answered, ReaderEndsWith, first_moments, HasIdsAmong, IsReaderDone, IsReaderFor, Moment, roots_left};
 
 /// Any reader ends, whatever comes between its steps, as long as the documents that come have
 /// finitely many ids. One of a node is done after its first answer and one for each commit root
@@ -53,13 +53,13 @@ ghost use Rattle.core_watch.specs.Moments.{after_moments, answered, EndsWith, fi
 pub fn readers_end()
     ensures ends { (ids : List DocId) (f : ℕ → Moment) (r : Reader)
         → ((i : ℕ) → HasIdsAmong ids (f i)) → (n : ℕ)
-        × IsDone (after_moments (first_of n f) r).step }
+        × IsReaderDone (after_moments (first_moments n f) r).step }
     ensures node { (a : Global) (pin : Pin) (p : Path) (k : Moment) (ms : List Moment)
         → ((d : Document) → documents_in k.table (id.Node p) ≡ Some d → d.prev ≡ [])
         → roots_left (answered (node_reader a pin p) k).step ≤ length ms
-        → IsDone (after_moments (k ∷ ms) (node_reader a pin p)).step }
+        → IsReaderDone (after_moments (k ∷ ms) (node_reader a pin p)).step }
     ensures rises { (m : Moment) (r : Reader) → IsTable m.table → r.step ≡ step.Next
-        → IsDone (answered r m).step ⊎ ((id_cmp (id.Node r.at) (id.Node (answered r m).at)
+        → IsReaderDone (answered r m).step ⊎ ((id_cmp (id.Node r.at) (id.Node (answered r m).at)
         ≡ Less) × IsTrue (is_some (documents_in m.table (id.Node (answered r m).at)))) }
 {}
 
@@ -71,12 +71,12 @@ pub fn readers_read_the_tree()
     ensures node { (start : Start) (ids : List DocId) (a : Global) (pin : Pin) (p : Path)
         (i : Instant) (f : ℕ → Instant) → ((n : ℕ) → AreReadable start pin i (first_instants n f))
         → ((n : ℕ) → HasIdsAmong ids (f n).moment)
-        → EndsWith (IsNodeOf (tree_at (Some start) i.moment.past pin.base) p) (λ n. (f n).moment)
+        → ReaderEndsWith (IsNodeOf (tree_at (Some start) i.moment.past pin.base) p) (λ n. (f n).moment)
         (node_reader a pin p) }
     ensures children { (start : Start) (ids : List DocId) (a : Global) (pin : Pin) (p : Path)
         (i : Instant) (f : ℕ → Instant) → ((n : ℕ) → AreReadable start pin i (first_instants n f))
         → ((n : ℕ) → HasIdsAmong ids (f n).moment)
-        → EndsWith (AreChildrenOf (tree_at (Some start) i.moment.past pin.base) p)
+        → ReaderEndsWith (AreChildrenOf (tree_at (Some start) i.moment.past pin.base) p)
         (λ n. (f n).moment) (children_reader a pin p) }
     ensures node_done { (start : Start) (a : Global) (pin : Pin) (p : Path) (i : Instant)
         (is : List Instant) (o : ReadOut) → AreReadable start pin i is
@@ -93,26 +93,26 @@ pub fn readers_read_the_tree()
 /// it was made for.
 pub fn readers_read_on()
     ensures begins { (start : Start) (ds : Documents) (past : Past) (formers : Formers) (a : Global)
-        (pin : Pin) (p : Path) → IsReading start ds past formers (node_reader a pin p)
-        × IsReading start ds past formers (children_reader a pin p) }
+        (pin : Pin) (p : Path) → ReadsTree start ds past formers (node_reader a pin p)
+        × ReadsTree start ds past formers (children_reader a pin p) }
     ensures feeds { (start : Start) (table : List (DocId × Document)) (past : Past)
         (formers : Formers) (done : Progress) (r : Reader) → IsTable table
         → IsKeptSince start (documents_in table) past done
         → IsHeldSince start past r.pin.base r.pin.sweep → AreFormers (documents_in table)
-        (course_from start past) formers → IsReading start (documents_in table) past formers r
-        → IsReading start (documents_in table) past formers (fed r (answer table (due r))) }
+        (course_from start past) formers → ReadsTree start (documents_in table) past formers r
+        → ReadsTree start (documents_in table) past formers (fed r (answer table (due r))) }
     ensures lasts { (start : Start) (formers more : Formers) (ds now : Documents)
         (past later : Past) (r : Reader) → ReadsOn start r.pin ds now past later
-        → Grows formers more → IsReading start ds past formers r
-        → IsReading start now later more r }
+        → FormersGrow formers more → ReadsTree start ds past formers r
+        → ReadsTree start now later more r }
     ensures node { (start : Start) (ds : Documents) (past : Past) (formers : Formers) (r : Reader)
-        (o : ReadOut) → IsReading start ds past formers r → r.parent ≡ None → r.step ≡ step.Done o
+        (o : ReadOut) → ReadsTree start ds past formers r → r.parent ≡ None → r.step ≡ step.Done o
         → IsNodeOf (tree_at (Some start) past r.pin.base) (path_read r) o }
     ensures children { (start : Start) (ds : Documents) (past : Past) (formers : Formers)
-        (r : Reader) (p : Path) (o : ReadOut) → IsReading start ds past formers r
+        (r : Reader) (p : Path) (o : ReadOut) → ReadsTree start ds past formers r
         → r.parent ≡ Some p → r.step ≡ step.Done o
         → AreChildrenOf (tree_at (Some start) past r.pin.base) p o }
-    ensures keeps { (r : Reader) (x : Reply) → IsFor r.pin r.parent (path_read r) (fed r x) }
+    ensures keeps { (r : Reader) (x : Reply) → IsReaderFor r.pin r.parent (path_read r) (fed r x) }
 {}
 
 /// What others do lets readers at a held pin read on: writes and undos, marks and notes, documents

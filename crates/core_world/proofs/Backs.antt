@@ -14,7 +14,7 @@ use Rattle.jr_rev.specs.Revisions.{is_at_most}
 use Rattle.oak_doc.specs.declared.document.Document.{Document}
 use Rattle.oak_doc.specs.declared.update.UpdateOp.{UpdateOp}
 use Rattle.oak_doc.specs.declared.update.OpFault.TheVariants as fault
-use Rattle.oak_doc.specs.Updates.{after_changes, is_met, refusal, updated}
+use Rattle.oak_doc.specs.Updates.{after_changes, is_met, update_refusal, updated}
 use Rattle.oak_machine.specs.declared.event.Event.{Event}
 use Rattle.oak_machine.specs.declared.event.Event.TheVariants as event
 use Rattle.oak_machine.specs.declared.event.StepKind.TheVariants as kind
@@ -63,8 +63,8 @@ done_at t x op o = with_result t x (cond (is_none o && not false) (Err fault.Abs
 pub update_is : (t : Table) (x : DocId) (op : UpdateOp) → op.id ≡ x → op.create ≡ false → op.cond ≡ None → after_update t op ≡ done_at t x op (found t x)
 update_is t x op at create met =
     ap (λ i. with_result t i (updated (found t i) op (next_number t))) at
-    ∙ (ap (λ b. with_result t x (cond (is_none (found t x) && not b) (Err fault.Absent) (cond (is_met (found t x) op.cond) (Ok (after_changes (found t x) op (next_number t))) (Err (refusal (found t x) op.cond))))) create
-    ∙ ap (λ c. with_result t x (cond (is_none (found t x) && not false) (Err fault.Absent) (cond (is_met (found t x) c) (Ok (after_changes (found t x) op (next_number t))) (Err (refusal (found t x) c))))) met)
+    ∙ (ap (λ b. with_result t x (cond (is_none (found t x) && not b) (Err fault.Absent) (cond (is_met (found t x) op.cond) (Ok (after_changes (found t x) op (next_number t))) (Err (update_refusal (found t x) op.cond))))) create
+    ∙ ap (λ c. with_result t x (cond (is_none (found t x) && not false) (Err fault.Absent) (cond (is_met (found t x) c) (Ok (after_changes (found t x) op (next_number t))) (Err (update_refusal (found t x) c))))) met)
 
 -- the root after an update of it alone
 pub told_root : (t : Table) (d : Document) (op : UpdateOp) → op.id ≡ id.Node [] → op.create ≡ false → op.cond ≡ None → nodes_in t [] ≡ Some d → nodes_in (after_update t op) [] ≡ Some (after_changes (Some d) op (next_number t))

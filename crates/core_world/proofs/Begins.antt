@@ -21,13 +21,13 @@ use Rattle.oak_doc.specs.declared.document.Document.{Document}
 use Rattle.oak_read.specs.Meaning.{Documents, documents_in, latest}
 use Rattle.oak_store.specs.Tables.{by_id}
 use Rattle.core_read.specs.Holds.{has_revision, root_entry}
-use Rattle.core_read.specs.Start.{start_document as core_document, start_documents as core_documents, system, versions}
+use Rattle.core_read.specs.Start.{start_document as core_document, start_documents as core_documents, path_of_system, versions}
 use Rattle.core_read.proofs.Start.{start_whole}
 use Rattle.oak_doc.specs.Updates.{of_revision}
 use Rattle.core_clash.proofs.Basics.{same_path, same_revision}
-use Rattle.core_clash.specs.Steps.{IsStart}
+use Rattle.core_clash.specs.Steps.{IsCoreStart}
 use Rattle.core_clash.specs.Views.{AreOrdered}
-use Rattle.core_world.specs.Start.{start_document, start_documents, start_root, start_table}
+use Rattle.core_world.specs.Start.{node_of_start, documents_of_start, start_root, start_table}
 use Rattle.core_world.specs.States.{nodes_in}
 use Rattle.core_world.proofs.Tables.{other_node}
 use Rattle.core_keep.specs.Standing.{all_at, gone_in, shows_node, shows_value, values_in}
@@ -42,7 +42,7 @@ use Rattle.core_read.specs.Commits.{Sight}
 -- ---- the documents of the start
 
 abbrev mine : ℕ → ℕ → Documents
-mine c n = documents_in (by_id (start_documents c n))
+mine c n = documents_in (by_id (documents_of_start c n))
 
 -- a document that lists no previous ones
 abbrev alone : Option Document → List Document
@@ -69,7 +69,7 @@ one_entry r x h = by (is_same r (start_of 1)) refl h
     by false k h = absurd (false≢true h)
 
 -- so are the marks of a document of the start
-only_start : (p : Path) (type : Name) (number : ℕ) (r : Revision) (m : Mark) → has_mark (start_document p type number) r m ≡ true → r ≡ start_of 1
+only_start : (p : Path) (type : Name) (number : ℕ) (r : Revision) (m : Mark) → has_mark (node_of_start p type number) r m ≡ true → r ≡ start_of 1
 only_start p type number r Exists h = one_entry r false h
 only_start p type number r Guard h = absurd (false≢true h)
 only_start p type number r Touch h = absurd (false≢true h)
@@ -90,7 +90,7 @@ module _ (c n : ℕ) where
     named = λ d h. ap (λ (d : Document). d.id) (from_some _ d h);
   }
 
-  system_alike : IsAlike system (mine c n (id.Node system)) (core_documents (start c) (id.Node system))
+  system_alike : IsAlike path_of_system (mine c n (id.Node path_of_system)) (core_documents (start c) (id.Node path_of_system))
   system_alike = record {
     root = λ r. refl;
     said = λ r. refl;
@@ -120,24 +120,24 @@ module _ (c n : ℕ) where
     named = λ d e. absurd (false≢true (ap is_some (sym h ∙ e)));
   }
 
-  mine_none : (p : Path) → eq_by_cmp path_cmp p [] ≡ false → eq_by_cmp path_cmp p system ≡ false → eq_by_cmp path_cmp p versions ≡ false → mine c n (id.Node p) ≡ None
+  mine_none : (p : Path) → eq_by_cmp path_cmp p [] ≡ false → eq_by_cmp path_cmp p path_of_system ≡ false → eq_by_cmp path_cmp p versions ≡ false → mine c n (id.Node p) ≡ None
   mine_none p k l m =
-      ap (λ x. cond x (Some (start_root c)) (cond (eq_by_cmp id_cmp (id.Node p) (id.Node system)) (Some (start_document system (codes "rep:system") 2)) (cond (eq_by_cmp id_cmp (id.Node p) (id.Node versions)) (Some (start_document versions (codes "rep:versionStorage") 3)) None))) (other_node p [] k)
-      ∙ (ap (λ x. cond x (Some (start_document system (codes "rep:system") 2)) (cond (eq_by_cmp id_cmp (id.Node p) (id.Node versions)) (Some (start_document versions (codes "rep:versionStorage") 3)) None)) (other_node p system l)
-      ∙ ap (λ x. cond x (Some (start_document versions (codes "rep:versionStorage") 3)) None) (other_node p versions m))
+      ap (λ x. cond x (Some (start_root c)) (cond (eq_by_cmp id_cmp (id.Node p) (id.Node path_of_system)) (Some (node_of_start path_of_system (codes "rep:path_of_system") 2)) (cond (eq_by_cmp id_cmp (id.Node p) (id.Node versions)) (Some (node_of_start versions (codes "rep:versionStorage") 3)) None))) (other_node p [] k)
+      ∙ (ap (λ x. cond x (Some (node_of_start path_of_system (codes "rep:path_of_system") 2)) (cond (eq_by_cmp id_cmp (id.Node p) (id.Node versions)) (Some (node_of_start versions (codes "rep:versionStorage") 3)) None)) (other_node p path_of_system l)
+      ∙ ap (λ x. cond x (Some (node_of_start versions (codes "rep:versionStorage") 3)) None) (other_node p versions m))
 
   alike : (p : Path) → IsAlike p (mine c n (id.Node p)) (core_documents (start c) (id.Node p))
-  alike p = by (eq_by_cmp path_cmp p []) refl (eq_by_cmp path_cmp p system) refl (eq_by_cmp path_cmp p versions) refl
+  alike p = by (eq_by_cmp path_cmp p []) refl (eq_by_cmp path_cmp p path_of_system) refl (eq_by_cmp path_cmp p versions) refl
     where
-      core_none : eq_by_cmp path_cmp p [] ≡ false → eq_by_cmp path_cmp p system ≡ false → eq_by_cmp path_cmp p versions ≡ false → core_documents (start c) (id.Node p) ≡ None
+      core_none : eq_by_cmp path_cmp p [] ≡ false → eq_by_cmp path_cmp p path_of_system ≡ false → eq_by_cmp path_cmp p versions ≡ false → core_documents (start c) (id.Node p) ≡ None
       core_none k l m =
-          ap (λ x. cond x (Some (core_document (start c) p (codes "rep:versionStorage"))) (cond (eq_by_cmp path_cmp p system) (Some (core_document (start c) p (codes "rep:system"))) (cond (eq_by_cmp path_cmp p []) (Some (core_document (start c) p (codes "nt:unstructured"))) None))) m
-          ∙ (ap (λ x. cond x (Some (core_document (start c) p (codes "rep:system"))) (cond (eq_by_cmp path_cmp p []) (Some (core_document (start c) p (codes "nt:unstructured"))) None)) l
+          ap (λ x. cond x (Some (core_document (start c) p (codes "rep:versionStorage"))) (cond (eq_by_cmp path_cmp p path_of_system) (Some (core_document (start c) p (codes "rep:path_of_system"))) (cond (eq_by_cmp path_cmp p []) (Some (core_document (start c) p (codes "nt:unstructured"))) None))) m
+          ∙ (ap (λ x. cond x (Some (core_document (start c) p (codes "rep:path_of_system"))) (cond (eq_by_cmp path_cmp p []) (Some (core_document (start c) p (codes "nt:unstructured"))) None)) l
           ∙ ap (λ x. cond x (Some (core_document (start c) p (codes "nt:unstructured"))) None) k)
 
-      by : (a : Bool) → eq_by_cmp path_cmp p [] ≡ a → (b : Bool) → eq_by_cmp path_cmp p system ≡ b → (e : Bool) → eq_by_cmp path_cmp p versions ≡ e → IsAlike p (mine c n (id.Node p)) (core_documents (start c) (id.Node p))
+      by : (a : Bool) → eq_by_cmp path_cmp p [] ≡ a → (b : Bool) → eq_by_cmp path_cmp p path_of_system ≡ b → (e : Bool) → eq_by_cmp path_cmp p versions ≡ e → IsAlike p (mine c n (id.Node p)) (core_documents (start c) (id.Node p))
       by true k b l e m = subst (λ (x : Path). IsAlike x (mine c n (id.Node x)) (core_documents (start c) (id.Node x))) (sym (same_path p [] k)) root_alike
-      by false k true l e m = subst (λ (x : Path). IsAlike x (mine c n (id.Node x)) (core_documents (start c) (id.Node x))) (sym (same_path p system l)) system_alike
+      by false k true l e m = subst (λ (x : Path). IsAlike x (mine c n (id.Node x)) (core_documents (start c) (id.Node x))) (sym (same_path p path_of_system l)) system_alike
       by false k false l true m = subst (λ (x : Path). IsAlike x (mine c n (id.Node x)) (core_documents (start c) (id.Node x))) (sym (same_path p versions m)) versions_alike
       by false k false l false m = nowhere p (mine c n (id.Node p)) (core_documents (start c) (id.Node p)) (mine_none p k l m) (core_none k l m)
 
@@ -178,12 +178,12 @@ module _ (c n : ℕ) where
       }
 
   -- each document of a node is one of three
-  each_start : (P : Path → Option Document → Type 0) → P [] (Some (start_root c)) → P system (Some (start_document system (codes "rep:system") 2)) → P versions (Some (start_document versions (codes "rep:versionStorage") 3)) → ((p : Path) → P p None) → (p : Path) → P p (mine c n (id.Node p))
-  each_start P root of_system of_versions none p = by (eq_by_cmp path_cmp p []) refl (eq_by_cmp path_cmp p system) refl (eq_by_cmp path_cmp p versions) refl
+  each_start : (P : Path → Option Document → Type 0) → P [] (Some (start_root c)) → P path_of_system (Some (node_of_start path_of_system (codes "rep:path_of_system") 2)) → P versions (Some (node_of_start versions (codes "rep:versionStorage") 3)) → ((p : Path) → P p None) → (p : Path) → P p (mine c n (id.Node p))
+  each_start P root of_system of_versions none p = by (eq_by_cmp path_cmp p []) refl (eq_by_cmp path_cmp p path_of_system) refl (eq_by_cmp path_cmp p versions) refl
     where
-      by : (a : Bool) → eq_by_cmp path_cmp p [] ≡ a → (b : Bool) → eq_by_cmp path_cmp p system ≡ b → (e : Bool) → eq_by_cmp path_cmp p versions ≡ e → P p (mine c n (id.Node p))
+      by : (a : Bool) → eq_by_cmp path_cmp p [] ≡ a → (b : Bool) → eq_by_cmp path_cmp p path_of_system ≡ b → (e : Bool) → eq_by_cmp path_cmp p versions ≡ e → P p (mine c n (id.Node p))
       by true k b l e m = subst (λ (x : Path). P x (mine c n (id.Node x))) (sym (same_path p [] k)) root
-      by false k true l e m = subst (λ (x : Path). P x (mine c n (id.Node x))) (sym (same_path p system l)) of_system
+      by false k true l e m = subst (λ (x : Path). P x (mine c n (id.Node x))) (sym (same_path p path_of_system l)) of_system
       by false k false l true m = subst (λ (x : Path). P x (mine c n (id.Node x))) (sym (same_path p versions m)) of_versions
       by false k false l false m = subst (P p) (sym (mine_none p k l m)) (none p)
 
@@ -194,10 +194,10 @@ module _ (c n : ℕ) where
   only_root r Touch h = absurd (false≢true h)
   only_root r (Prop n) h = only_start [] (codes "nt:unstructured") 1 r (Prop n) h
 
-  pub start_is : (old : Sight) → old (start_of 1) ≡ true → IsStart old (nodes_in (start_table c n)) (λ p. [])
+  pub start_is : (old : Sight) → old (start_of 1) ≡ true → IsCoreStart old (nodes_in (start_table c n)) (λ p. [])
   start_is old first = record {
     ordered = each_start AreOrdered (refl, record { names = refl }) (refl, record { names = refl }) (refl, record { names = refl }) (λ p. tt);
-    marks = λ p r m h. known r (each_start (λ q o. marked o r m ≡ true → r ≡ start_of 1) (only_root r m) (only_start system (codes "rep:system") 2 r m) (only_start versions (codes "rep:versionStorage") 3 r m) (λ q h. absurd (false≢true h)) p h);
+    marks = λ p r m h. known r (each_start (λ q o. marked o r m ≡ true → r ≡ start_of 1) (only_root r m) (only_start path_of_system (codes "rep:path_of_system") 2 r m) (only_start versions (codes "rep:versionStorage") 3 r m) (λ q h. absurd (false≢true h)) p h);
     notes = λ p r h. known r (each_start (λ q o. noted o r ≡ true → r ≡ start_of 1) (λ h. absurd (false≢true h)) (λ h. absurd (false≢true h)) (λ h. absurd (false≢true h)) (λ q h. absurd (false≢true h)) p h);
     roots = λ p r h. known r (each_start (λ q o. is_some (root_entry o r) ≡ true → r ≡ start_of 1) (λ h. absurd (false≢true h)) (λ h. absurd (false≢true h)) (λ h. absurd (false≢true h)) (λ q h. absurd (false≢true h)) p h);
     collisions = λ p r. each_start (λ q o. collision o r ≡ None) refl refl refl (λ q. refl) p;

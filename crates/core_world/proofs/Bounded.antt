@@ -24,7 +24,7 @@ use Rattle.oak_store.specs.Tables.{Table}
 use Rattle.core_heads.proofs.Below.{below_seen}
 use Rattle.core_heads.proofs.Runs.{bound_run}
 use Rattle.core_keep.specs.Holding.{IsBelowAll}
-use Rattle.core_clash.specs.Collecting.{MayBound as MayBoundBases}
+use Rattle.core_clash.specs.Collecting.{MayBoundCore as MayBoundBases}
 use Rattle.core_clash.specs.Sessions.{Running}
 use Rattle.core_clash.proofs.Basics.{some_is}
 use Rattle.core_clash.proofs.Dropped.{bound_keeps}

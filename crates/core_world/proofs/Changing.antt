@@ -17,7 +17,7 @@ use Rattle.oak_store.specs.Tables.{Table}
 use Rattle.core_clash.specs.Sound.{Sound}
 use Rattle.core_keep.specs.Holding.{IsHoldingStep}
 use Rattle.core_nodes.specs.Nodes.{is_of_node}
-use Rattle.core_keep.specs.Formers.{AreFormers, Formers, Grows}
+use Rattle.core_keep.specs.Formers.{AreFormers, Formers, FormersGrow}
 use Rattle.core_watch.specs.Reading.{ReadsOn}
 use Rattle.core_watch.proofs.GoingOn.{on_event}
 use Rattle.core_watch.proofs.Lasting.{reading_lasts}
@@ -44,7 +44,7 @@ module _ (starts : Starts) (says : Says) (proper : StartsProper starts) (w : Sta
 
   -- other documents, before the journal tells
   module _ (u : Table) (sound : Sound (core_in (origin w) w.past u kept.sessions.committing.writers)) (world : IsKeptSince (origin w) (documents_in u.documents) w.past (λ r. has_written (kept.sessions.committing.writers r)))
-      (more : Formers) (grows : Grows w.formers more) (formers : AreFormers (documents_in u.documents) (course_from (origin w) w.past) more)
+      (more : Formers) (grows : FormersGrow w.formers more) (formers : AreFormers (documents_in u.documents) (course_from (origin w) w.past) more)
       (on : (pin : Pin) → IsHeldSince (origin w) w.past pin.base pin.sweep → ReadsOn (origin w) pin (documents_in w.table.documents) (documents_in u.documents) w.past w.past)
       (root : IsRootKept w.begin w.clusters w.past u) (set : documents_in u.documents id.Settings ≡ documents_in w.table.documents id.Settings) where
     committing : AreCommitting (origin w) w.past u w.running

@@ -27,7 +27,7 @@ use Rattle.oak_doc.specs.declared.document.Document.{Document}
 use Rattle.oak_doc.specs.declared.document.PrevEntry.{PrevEntry}
 use Rattle.oak_doc.specs.declared.update.OpFault.TheVariants as fault
 use Rattle.oak_doc.specs.declared.update.UpdateOp.{UpdateOp}
-use Rattle.oak_doc.specs.Updates.{after_changes, is_met, of_revision, refusal, values_of_property}
+use Rattle.oak_doc.specs.Updates.{after_changes, is_met, of_revision, update_refusal, values_of_property}
 use Rattle.oak_machine.specs.declared.event.Draw.{Draw}
 use Rattle.oak_machine.specs.declared.event.Event.{Event}
 use Rattle.oak_machine.specs.declared.event.Event.TheVariants as event
@@ -48,7 +48,7 @@ use Rattle.core_clash.specs.Sound.{IsOf, IsWriterOf}
 use Rattle.core_clash.specs.Views.{In}
 use Rattle.core_clash.proofs.Basics.{is_same_self, not_both, or_left, same_path}
 use Rattle.core_clash.proofs.Basics.{same_revision, some_of}
-use Rattle.core_keep.specs.Dropping.{IsWithin}
+use Rattle.core_keep.specs.Dropping.{IsDocumentWithin}
 use Rattle.core_keep.specs.Splits.{previous_write}
 use Rattle.core_keep.specs.Steps.{IsParted, IsPreviousAt}
 use Rattle.core_keep.proofs.Splits.{split_parts}
@@ -113,7 +113,7 @@ module _ (w : State) (s : ℕ) (p : Path) (r : Revision)
     abbrev pruned : Document
     pruned = after_changes (Some old) op (next_number w.table)
 
-    within : IsWithin old pruned
+    within : IsDocumentWithin old pruned
     within = left_within (documents_in w.table.documents) at m t may.bound.below old op n may.keys
         may.numbers may.order may.garbage
 
@@ -204,7 +204,7 @@ module _ (w : State) (s : ℕ) (p : Path) (r : Revision)
           (sym e) (put_is w.table id.Settings made (next_number w.table) (id.Node p))
 
       by : (a b : Bool) → HasNothing (nodes_in (with_result w.table op.id (cond a (Err fault.Absent)
-          (cond b (Ok made) (Err (refusal (found w.table op.id) op.cond))))) p) r
+          (cond b (Ok made) (Err (update_refusal (found w.table op.id) op.cond))))) p) r
       by true b = free
       by false true = subst (λ (o : Option Document). HasNothing o r) (sym (put op.id at)) free
       by false false = free

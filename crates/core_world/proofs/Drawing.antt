@@ -18,7 +18,7 @@ use Rattle.core_read.specs.Holds.{the_start}
 use Rattle.core_keep.specs.Journal.{is_bounded, is_swept, with_progress}
 use Rattle.core_heads.proofs.Runs.{fresh_run}
 use Rattle.core_clash.specs.Collecting.{SeesBounded}
-use Rattle.core_clash.specs.Core.{MayBegin, with_writer}
+use Rattle.core_clash.specs.Core.{MayDrawAnew, with_writer}
 use Rattle.core_clash.specs.Sessions.{IsTheirs, Running}
 use Rattle.core_clash.proofs.Basics.{decide, is_same_self, not_both, writer_mine, writer_other, or_right}
 use Rattle.core_clash.proofs.Begin.{may_begin}
@@ -68,7 +68,7 @@ module _ (starts : Starts) (says : Says) (proper : StartsProper starts) (cluster
   drawn_now : draw_of later d.revision ≡ Some d
   drawn_now = ap (λ b. cond b (Some d) (draw_of past d.revision)) (is_same_self d.revision)
 
-  may : MayBegin (core_in (start_in clusters begin) past t a.writers) d (paths_to_write d.marks)
+  may : MayDrawAnew (core_in (start_in clusters begin) past t a.writers) d (paths_to_write d.marks)
   may = may_begin clusters sessions nodes starts says proper (core_in (start_in clusters begin) past t a.writers) begin d (paths_to_write d.marks) (λ o h. h) run (mark_path d.marks) (paths_once d.marks)
 
   -- no bound sees it yet

@@ -103,7 +103,7 @@ module _ (starts : Starts) (says : Says) (proper : StartsProper starts) (w : Sta
         idle = kept.working.idle s none on;
         base = base_is detached;
         cluster = on_node starts says proper w kept s there ∙ ap (λ k. Some k) (sym same_node);
-        next = next_is w.begin w.clusters w.past (node_of w s) (memory_of w s) (kept.memories.memory (node_of w s) node) ∙ ap (λ k. Rattle.oak_machine.specs.Heads.next_draw w.clusters w.begin w.past k) (sym same_node);
+        next = next_is w.begin w.clusters w.past (node_of w s) (memory_of w s) (kept.memories.memory (node_of w s) node) ∙ ap (λ k. Rattle.oak_machine.specs.Heads.drawn_next w.clusters w.begin w.past k) (sym same_node);
         lawful = lawful;
       }
 

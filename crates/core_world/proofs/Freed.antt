@@ -24,7 +24,7 @@ use Rattle.oak_doc.specs.declared.update.Change.TheVariants as change
 use Rattle.oak_doc.specs.declared.update.OpFault.{OpFault}
 use Rattle.oak_doc.specs.declared.update.OpFault.TheVariants as fault
 use Rattle.oak_doc.specs.declared.update.UpdateOp.{UpdateOp}
-use Rattle.oak_doc.specs.Updates.{after_changes, changed, document_of, is_met, of_revision, refusal, undone, updated}
+use Rattle.oak_doc.specs.Updates.{after_changes, changed, document_of, is_met, of_revision, update_refusal, undone, updated}
 use Rattle.oak_machine.specs.History.{Past}
 use Rattle.oak_read.specs.Meaning.{documents_in}
 use Rattle.oak_store.specs.Tables.{Table, after_undo, found, next_number}
@@ -172,7 +172,7 @@ module _ (r : Revision) where
       by (Some d) h = h
 
   pub update_brings : (t : Table) (op : UpdateOp) (p : Path) → list_all (brings_nothing r) op.changes ≡ true → HasNothing (nodes_in t p) r → HasNothing (nodes_in (after_update t op) p) r
-  update_brings t op p adds free = by (is_none (found t op.id) && not op.create) (is_met (found t op.id) op.cond) (refusal (found t op.id) op.cond)
+  update_brings t op p adds free = by (is_none (found t op.id) && not op.create) (is_met (found t op.id) op.cond) (update_refusal (found t op.id) op.cond)
     where
       made : Document
       made = after_changes (found t op.id) op (next_number t)

@@ -17,8 +17,8 @@ use Rattle.oak_read.specs.declared.reader.Reader.{Reader}
 use Rattle.oak_store.specs.Tables.{Table}
 use Rattle.core_read.specs.World.{Progress}
 use Rattle.core_keep.specs.Journal.{is_bounded, is_swept}
-use Rattle.core_keep.specs.Formers.{AreFormers, Formers, Grows}
-use Rattle.core_watch.specs.Reading.{IsReading, ReadsOn}
+use Rattle.core_keep.specs.Formers.{AreFormers, Formers, FormersGrow}
+use Rattle.core_watch.specs.Reading.{ReadsTree, ReadsOn}
 use Rattle.core_watch.proofs.GoingOn.{on_event}
 use Rattle.core_watch.proofs.Lasting.{reading_lasts}
 use Rattle.core_watch.proofs.StayingOn.{formers_event}
@@ -43,14 +43,14 @@ pub record CanGoOn (start : Start) (u : Table) (past later : Past) (r : ChangesR
 
 -- each reader at a held pin still reads the tree, and a reader of changes still tells them; what is told of former documents is so; and no bound came
 pub record LetsRead (start : Start) (t u : Table) (past later : Past) : Type 0 where
-  pub reads : (formers : Formers) (r : Reader) → IsHeldSince start past r.pin.base r.pin.sweep → IsReading start (documents_in t.documents) past formers r → IsReading start (documents_in u.documents) later formers r
+  pub reads : (formers : Formers) (r : Reader) → IsHeldSince start past r.pin.base r.pin.sweep → ReadsTree start (documents_in t.documents) past formers r → ReadsTree start (documents_in u.documents) later formers r
   pub observes : (formers : Formers) (r : ChangesReader) → CanGoOn start u past later r → IsObserving start (documents_in t.documents) past formers r → IsObserving start (documents_in u.documents) later formers r
   pub tells : (formers : Formers) → AreFormers (documents_in t.documents) (course_from start past) formers → AreFormers (documents_in u.documents) (course_from start later) formers
   pub bounds : (r : Revision) → is_bounded later r ≡ is_bounded past r
   pub sweeps : (r : Revision) → is_swept later r ≡ is_swept past r
 
 -- what others let a reader of a document do they let a reader of changes do, of which the commits that its pin sees are the same
-pub observes_on : (start : Start) (formers more : Formers) (ds : Documents) (u : Table) (past later : Past) → IsToldSince start past → Grows formers more → (r : ChangesReader) → ((q : Revision) → sees r.pin.base q ≡ true → edit_since later q ≡ edit_since past q)
+pub observes_on : (start : Start) (formers more : Formers) (ds : Documents) (u : Table) (past later : Past) → IsToldSince start past → FormersGrow formers more → (r : ChangesReader) → ((q : Revision) → sees r.pin.base q ≡ true → edit_since later q ≡ edit_since past q)
     → ((pin : Pin) → IsHeldSince start past pin.base pin.sweep → ReadsOn start pin ds (documents_in u.documents) past later) → CanGoOn start u past later r → IsObserving start ds past formers r → IsObserving start (documents_in u.documents) later more r
 observes_on start formers more ds u past later told grows r edits on can observing = observing_lasts start formers more ds (documents_in u.documents) past later can.done r can.world can.now
     (record { told = told; edits = edits; bases = can.bases; reads = λ v between. on (record { base = v; sweep = r.pin.sweep }) (between_held start past r.from r.pin can.then v between) }) grows observing
@@ -89,7 +89,7 @@ lets_still start t past = record { reads = λ formers r held reading. reading; o
 -- documents are found as they were
 pub lets_same : (start : Start) (t u : Table) (past : Past) → u.documents ≡ t.documents → LetsRead start t u past past
 lets_same start t u past same = record {
-  reads = λ formers r held reading. subst (λ (es : List (DocId × Document)). IsReading start (documents_in es) past formers r) (sym same) reading;
+  reads = λ formers r held reading. subst (λ (es : List (DocId × Document)). ReadsTree start (documents_in es) past formers r) (sym same) reading;
   observes = λ formers r can observing. subst (λ (es : List (DocId × Document)). IsObserving start (documents_in es) past formers r) (sym same) observing;
   tells = λ formers l. subst (λ (es : List (DocId × Document)). AreFormers (documents_in es) (course_from start past) formers) (sym same) l;
   bounds = λ r. refl;

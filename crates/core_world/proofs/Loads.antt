@@ -16,7 +16,7 @@ use Rattle.oak_read.specs.Meaning.{documents_in}
 use Rattle.oak_read.specs.Reading.{IsTable, answer, children_reader, due, fed, node_reader}
 use Rattle.core_nodes.specs.Nodes.{IsPair, cursor_owner}
 use Rattle.core_watch.specs.Standing.{AreChildrenOf, IsNodeOf, path_read}
-use Rattle.core_watch.specs.Reading.{IsReading}
+use Rattle.core_watch.specs.Reading.{ReadsTree}
 use Rattle.core_watch.proofs.Fed.{reading_feeds}
 use Rattle.core_watch.proofs.Moments.{fed_keeps}
 use Rattle.core_watch.proofs.Instants.{begins_children, begins_node, gives_children, gives_node}
@@ -40,10 +40,10 @@ module _ (starts : Starts) (says : Says) (proper : StartsProper starts) (w : Sta
   with_reads : (reading : ℕ → Option Reader) → AreReading (origin w) w.past w.table w.formers reading → ((q : ℕ) (r : Reader) → reading q ≡ Some r → is_stopped_under w.sessions w.past q ≡ false) → AreSessionsKept starts says (record w { reading = reading })
   with_reads reading are on = record { nodes = kept.nodes; run = kept.run; committing = kept.committing; working = record { idle = kept.working.idle; stays = kept.working.stays; goes = kept.working.goes; reads = on; halted = kept.working.halted }; memories = kept.memories; readers = are; observers = kept.observers }
 
-  made : (s : ℕ) (r : Reader) → is_stopped_under w.sessions w.past s ≡ false → live_base w.past s ≡ Some r.pin.base → IsPair r.pin.base r.pin.sweep → IsAboveBounds (origin w) w.past r.pin → IsReading (origin w) (documents_in w.table.documents) w.past w.formers r → AreSessionsKept starts says (with_reader w s (Some r))
+  made : (s : ℕ) (r : Reader) → is_stopped_under w.sessions w.past s ≡ false → live_base w.past s ≡ Some r.pin.base → IsPair r.pin.base r.pin.sweep → IsAboveBounds (origin w) w.past r.pin → ReadsTree (origin w) (documents_in w.table.documents) w.past w.formers r → AreSessionsKept starts says (with_reader w s (Some r))
   made s r on base pair above reads = with_reads (with_session w.reading s (Some r)) (record {
     told = kept.readers.told;
-    reads = at_session (λ q y. IsReading (origin w) (documents_in w.table.documents) w.past w.formers y) w.reading s r reads (λ q y f h. kept.readers.reads q y h);
+    reads = at_session (λ q y. ReadsTree (origin w) (documents_in w.table.documents) w.past w.formers y) w.reading s r reads (λ q y f h. kept.readers.reads q y h);
     above = at_session (λ q (y : Reader). IsAboveBounds (origin w) w.past y.pin) w.reading s r above (λ q y f h. kept.readers.above q y h);
     at_base = at_session (λ q (y : Reader). live_base w.past q ≡ Some y.pin.base) w.reading s r base (λ q y f h. kept.readers.at_base q y h);
     pairs = at_session (λ q (y : Reader). IsPair y.pin.base y.pin.sweep) w.reading s r pair (λ q y f h. kept.readers.pairs q y h);
@@ -60,7 +60,7 @@ module _ (starts : Starts) (says : Says) (proper : StartsProper starts) (w : Sta
   pub gone_keeps : (s : ℕ) → AreSessionsKept starts says (with_reader w s None)
   gone_keeps s = with_reads (with_session w.reading s None) (record {
     told = kept.readers.told;
-    reads = at_others (λ q y. IsReading (origin w) (documents_in w.table.documents) w.past w.formers y) w.reading s (λ q y f h. kept.readers.reads q y h);
+    reads = at_others (λ q y. ReadsTree (origin w) (documents_in w.table.documents) w.past w.formers y) w.reading s (λ q y f h. kept.readers.reads q y h);
     above = at_others (λ q (y : Reader). IsAboveBounds (origin w) w.past y.pin) w.reading s (λ q y f h. kept.readers.above q y h);
     at_base = at_others (λ q (y : Reader). live_base w.past q ≡ Some y.pin.base) w.reading s (λ q y f h. kept.readers.at_base q y h);
     pairs = at_others (λ q (y : Reader). IsPair y.pin.base y.pin.sweep) w.reading s (λ q y f h. kept.readers.pairs q y h);
@@ -74,7 +74,7 @@ module _ (starts : Starts) (says : Says) (proper : StartsProper starts) (w : Sta
         let x = answer w.table.documents (due r) in
         with_reads (with_session w.reading s (Some (fed r x))) (record {
           told = kept.readers.told;
-          reads = at_session (λ q y. IsReading (origin w) (documents_in w.table.documents) w.past w.formers y) w.reading s (fed r x)
+          reads = at_session (λ q y. ReadsTree (origin w) (documents_in w.table.documents) w.past w.formers y) w.reading s (fed r x)
               (reading_feeds (origin w) w.table.documents w.past w.formers (λ r. has_written (kept.committing.writers r)) r table kept.committing.kept (reader_held starts says proper w kept s r here) kept.readers.told (kept.readers.reads s r here))
               (λ q y f h. kept.readers.reads q y h);
           above = at_session (λ q (y : Reader). IsAboveBounds (origin w) w.past y.pin) w.reading s (fed r x) (subst (λ (p : Pin). IsAboveBounds (origin w) w.past p) (sym (fed_keeps r x).same_pin) (kept.readers.above s r here)) (λ q y f h. kept.readers.above q y h);

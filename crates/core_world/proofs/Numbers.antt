@@ -16,7 +16,7 @@ use Rattle.jr_tree.proofs.Pointwise.{same_path}
 use Rattle.oak_doc.specs.declared.document.Document.{Document}
 use Rattle.oak_doc.specs.declared.update.OpFault.{OpFault}
 use Rattle.oak_doc.specs.declared.update.UpdateOp.{UpdateOp}
-use Rattle.oak_doc.specs.Updates.{updated, after_changes, undone, is_met, refusal}
+use Rattle.oak_doc.specs.Updates.{updated, after_changes, undone, is_met, update_refusal}
 use Rattle.oak_read.specs.Meaning.{documents_in}
 use Rattle.oak_store.specs.Tables.{Table, after_undo, found, next_number, with_document}
 use Rattle.core_keep.specs.Formers.{Former, Formers, with_former}
@@ -68,7 +68,7 @@ update_step t op low = by (updated (found t op.id) op (next_number t)) refl
     counted : (d : Document) → updated (found t op.id) op (next_number t) ≡ Ok d → d.mod_count ≡ next_number t
     counted d h = of (Rattle.std.specs.Prelude.is_none (found t op.id) && Rattle.std.specs.Prelude.not op.create) (is_met (found t op.id) op.cond) h
       where
-        of : (a b : Bool) → cond a (Err Rattle.oak_doc.specs.declared.update.OpFault.TheVariants.Absent) (cond b (Ok (after_changes (found t op.id) op (next_number t))) (Err (refusal (found t op.id) op.cond))) ≡ Ok d → d.mod_count ≡ next_number t
+        of : (a b : Bool) → cond a (Err Rattle.oak_doc.specs.declared.update.OpFault.TheVariants.Absent) (cond b (Ok (after_changes (found t op.id) op (next_number t))) (Err (update_refusal (found t op.id) op.cond))) ≡ Ok d → d.mod_count ≡ next_number t
         of true b h = cc
         of false true h = ap (λ (r : Result Document OpFault). number_of r) (sym h)
           where

@@ -1,5 +1,5 @@
 -- Each step of a world lets what is held rise; and a bound that is at most what is held may be taken.
-use Rattle.core_clash.specs.Collecting.{MayBound as MayBoundBases}
+use Rattle.core_clash.specs.Collecting.{MayBoundCore as MayBoundBases}
 use Rattle.std.proofs.Common.{inl, inr, ◌||◌, true, false, Bool, refl}
 use Rattle.core_keep.specs.Journal.{is_bounded, is_swept}
 use Rattle.core_keep.specs.Holding.{IsPairBelow}

@@ -28,7 +28,7 @@ use Rattle.oak_doc.specs.declared.update.Field.TheVariants as field
 use Rattle.oak_doc.specs.declared.update.OpFault.{OpFault}
 use Rattle.oak_doc.specs.declared.update.OpFault.TheVariants as fault
 use Rattle.oak_doc.specs.declared.update.UpdateOp.{UpdateOp}
-use Rattle.oak_doc.specs.Updates.{after_changes, changed, is_met, pruned, refusal, undone}
+use Rattle.oak_doc.specs.Updates.{after_changes, changed, is_met, pruned, update_refusal, undone}
 use Rattle.oak_machine.specs.declared.event.Event.{Event}
 use Rattle.oak_machine.specs.declared.event.Event.TheVariants as event
 use Rattle.oak_machine.specs.History.{Past, Begin, begin_of}
@@ -219,7 +219,7 @@ module _ (clusters : ℕ) (begin : Begin) (past : Past) (t : Table) (root : IsRo
 
   -- an update that leaves both vectors
   pub update_root : (p : Path) (op : UpdateOp) → op.id ≡ id.Node p → list_all leaves_vectors op.changes ≡ true → IsRootKept begin clusters past (after_update t op)
-  update_root p op at all = by (is_none (found t op.id) && not op.create) (is_met (found t op.id) op.cond) (refusal (found t op.id) op.cond)
+  update_root p op at all = by (is_none (found t op.id) && not op.create) (is_met (found t op.id) op.cond) (update_refusal (found t op.id) op.cond)
     where
       made : Document
       made = after_changes (found t op.id) op (next_number t)
@@ -234,7 +234,7 @@ module _ (clusters : ℕ) (begin : Begin) (past : Past) (t : Table) (root : IsRo
 
   -- an update of another document
   pub update_elsewhere : (p : Path) (op : UpdateOp) → op.id ≡ id.Node p → eq_by_cmp path_cmp [] p ≡ false → IsRootKept begin clusters past (after_update t op)
-  update_elsewhere p op at other = by (is_none (found t op.id) && not op.create) (is_met (found t op.id) op.cond) (refusal (found t op.id) op.cond)
+  update_elsewhere p op at other = by (is_none (found t op.id) && not op.create) (is_met (found t op.id) op.cond) (update_refusal (found t op.id) op.cond)
     where
       made : Document
       made = after_changes (found t op.id) op (next_number t)

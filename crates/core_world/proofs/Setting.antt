@@ -18,7 +18,7 @@ use Rattle.oak_doc.specs.declared.update.Kept.TheVariants as kept
 use Rattle.oak_doc.specs.declared.update.OpFault.{OpFault}
 use Rattle.oak_doc.specs.declared.update.OpFault.TheVariants as fault
 use Rattle.oak_doc.specs.declared.update.UpdateOp.{UpdateOp}
-use Rattle.oak_doc.specs.Updates.{after_changes, is_met, refusal, updated}
+use Rattle.oak_doc.specs.Updates.{after_changes, is_met, update_refusal, updated}
 use Rattle.oak_machine.specs.declared.event.Event.{Event}
 use Rattle.oak_machine.specs.declared.event.Event.TheVariants as event
 use Rattle.oak_machine.specs.declared.event.StepKind.TheVariants as kind
@@ -93,7 +93,7 @@ node_apart : (p : Path) → eq_by_cmp id_cmp id.Settings (id.Node p) ≡ false
 node_apart p = refl
 
 pub update_apart : (t : Table) (p : Path) (op : UpdateOp) → op.id ≡ id.Node p → documents_in (after_update t op).documents id.Settings ≡ documents_in t.documents id.Settings
-update_apart t p op at = by (is_none (found t op.id) && not op.create) (is_met (found t op.id) op.cond) (refusal (found t op.id) op.cond)
+update_apart t p op at = by (is_none (found t op.id) && not op.create) (is_met (found t op.id) op.cond) (update_refusal (found t op.id) op.cond)
   where
     made : Document
     made = after_changes (found t op.id) op (next_number t)

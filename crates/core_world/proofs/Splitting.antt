@@ -46,7 +46,7 @@ use Rattle.oak_store.specs.Tables.{Table, next_number, with_document}
 use Rattle.core_read.specs.Holds.{the_start}
 use Rattle.core_read.specs.Told.{IsIn}
 use Rattle.core_read.proofs.Told.{edit_committed}
-use Rattle.core_clash.specs.Collecting.{MaySplit as MaySplitCore, MayPrune as MayPruneCore}
+use Rattle.core_clash.specs.Collecting.{MaySplitCore as MaySplitCore, MayPruneCore as MayPruneCore}
 use Rattle.core_clash.specs.Views.{In}
 use Rattle.core_clash.specs.Sound.{Sound, has_moved}
 use Rattle.core_clash.proofs.Basics.{same_revision, or_cases, or_left, or_right}

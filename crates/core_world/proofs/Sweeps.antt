@@ -26,7 +26,7 @@ use Rattle.core_nodes.specs.Nodes.{IsMemoryOf, IsOnRoot}
 use Rattle.core_read.proofs.Latest.{at_most_trans}
 use Rattle.core_world.specs.Kept.{AreLayersKept}
 use Rattle.core_world.specs.States.{State, memory_at, nodes_in}
-use Rattle.core_world.specs.Sweeping.{target_of}
+use Rattle.core_world.specs.Sweeping.{swept_target}
 use Rattle.core_world.proofs.Backs.{told_now}
 use Rattle.std.proofs.lemmas.Bool.Decides.{nat_tests}
 
@@ -67,7 +67,7 @@ target_at clusters begin past root k its on (Some e) is =
 
 module _ (starts : Starts) (says : Says) (w : State) (kept : AreLayersKept starts says w) where
   -- what is read is of the cluster node, and published
-  pub target_is : (root : Document) → nodes_in w.table [] ≡ Some root → (k : ℕ) → ((target_of root k).cluster ≡ k) × (is_at_most (target_of root k) (published w.begin w.past k) ≡ true)
+  pub target_is : (root : Document) → nodes_in w.table [] ≡ Some root → (k : ℕ) → ((swept_target root k).cluster ≡ k) × (is_at_most (swept_target root k) (published w.begin w.past k) ≡ true)
   target_is root is k = target_at w.clusters w.begin w.past root k (published_is w.clusters w.sessions kept.sessions.nodes w.begin w.past (sound_run w.clusters w.sessions kept.sessions.nodes w.begin starts says w.past kept.sessions.run) k).0 (told_now w.clusters w.begin w.past w.table kept.root root is) (entry root.last_rev k) refl
 
   -- and what is published is at most the local revision

@@ -29,7 +29,7 @@ use Rattle.oak_doc.specs.declared.update.Field.TheVariants as field
 use Rattle.oak_doc.specs.declared.update.OpFault.{OpFault}
 use Rattle.oak_doc.specs.declared.update.OpFault.TheVariants as fault
 use Rattle.oak_doc.specs.declared.update.Kept.TheVariants as kept
-use Rattle.oak_doc.specs.Updates.{after_changes, changed, document_of, is_met, pruned, refusal, undone}
+use Rattle.oak_doc.specs.Updates.{after_changes, changed, document_of, is_met, pruned, update_refusal, undone}
 use Rattle.oak_read.specs.Meaning.{path_of}
 use Rattle.oak_read.specs.Reading.{IsTable}
 use Rattle.oak_store.specs.Tables.{Table, after_undo, found, next_number}
@@ -141,7 +141,7 @@ updated_table t op is lawful false true g = put_table t.documents op.id (after_c
 updated_table t op is lawful false false g = is
 
 pub update_in_order : (t : Table) (op : UpdateOp) → IsTable t.documents → All IsName (path_of op.id) → IsTable (after_update t op).documents
-update_in_order t op is lawful = updated_table t op is lawful (is_none (found t op.id) && not op.create) (is_met (found t op.id) op.cond) (refusal (found t op.id) op.cond)
+update_in_order t op is lawful = updated_table t op is lawful (is_none (found t op.id) && not op.create) (is_met (found t op.id) op.cond) (update_refusal (found t op.id) op.cond)
 
 pub undo_in_order : (t : Table) (i : DocId) (r : Revision) → IsTable t.documents → IsTable (after_undo t i r).documents
 undo_in_order t i r is = by (found t i) refl

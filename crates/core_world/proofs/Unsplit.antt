@@ -26,7 +26,7 @@ use Rattle.oak_doc.specs.declared.update.OpFault.{OpFault}
 use Rattle.oak_doc.specs.declared.update.OpFault.TheVariants as fault
 use Rattle.oak_doc.specs.declared.update.Kept.TheVariants as kept
 use Rattle.oak_doc.specs.declared.update.UpdateOp.{UpdateOp}
-use Rattle.oak_doc.specs.Updates.{after_changes, changed, document_of, is_met, refusal, undone, updated}
+use Rattle.oak_doc.specs.Updates.{after_changes, changed, document_of, is_met, update_refusal, undone, updated}
 use Rattle.oak_read.specs.Meaning.{documents_in}
 use Rattle.oak_store.specs.Tables.{Table, after_undo, found, next_number, with_document}
 use Rattle.core_clash.specs.Core.{root_of}
@@ -77,7 +77,7 @@ made_prev o op n all d h = by (is_none o && not op.create) (is_met o op.cond) h
     none (Ok y) = false
     none (Err g) = true
 
-    by : (a b : Bool) → cond a (Err fault.Absent) (cond b (Ok (after_changes o op n)) (Err (refusal o op.cond))) ≡ Ok d → d.prev ≡ option_map_or (λ d. d.prev) o []
+    by : (a b : Bool) → cond a (Err fault.Absent) (cond b (Ok (after_changes o op n)) (Err (update_refusal o op.cond))) ≡ Ok d → d.prev ≡ option_map_or (λ d. d.prev) o []
     by true b k = absurd (false≢true (sym (ap none k)))
     by false true k = subst (λ (x : Document). x.prev ≡ option_map_or (λ d. d.prev) o []) (ap (out d) k) (still_document o op n all)
     by false false k = absurd (false≢true (sym (ap none k)))
@@ -93,7 +93,7 @@ module _ (t : Table) where
       made = subst (λ (i : DocId). listed_at (with_document t i (after_changes (found t i) op (next_number t)) (next_number t)) ≡ listed_at t) (sym at)
           (put_lists p (after_changes (found t (id.Node p)) op (next_number t)) (next_number t) (still_document (found t (id.Node p)) op (next_number t) all))
 
-      by : (a b : Bool) → listed_at (with_result t op.id (cond a (Err fault.Absent) (cond b (Ok (after_changes (found t op.id) op (next_number t))) (Err (refusal (found t op.id) op.cond))))) ≡ listed_at t
+      by : (a b : Bool) → listed_at (with_result t op.id (cond a (Err fault.Absent) (cond b (Ok (after_changes (found t op.id) op (next_number t))) (Err (update_refusal (found t op.id) op.cond))))) ≡ listed_at t
       by true b = refl
       by false true = made
       by false false = refl

@@ -31,7 +31,7 @@ use Rattle.core_keep.specs.Journal.{with_progress}
 use Rattle.core_clash.specs.Core.{Docs, MayWrite, with_writer}
 use Rattle.oak_commit.specs.Looking.{whole}
 use Rattle.core_clash.specs.Sessions.{Running}
-use Rattle.core_clash.specs.Sound.{IsListed, Sound}
+use Rattle.core_clash.specs.Sound.{AreDocumentsListed, Sound}
 use Rattle.core_clash.specs.Views.{In, Once, mark_at}
 use Rattle.core_clash.proofs.Basics.{In-right, is_in, once_apart}
 use Rattle.core_clash.proofs.Meetings.{meeting}
@@ -114,7 +114,7 @@ module _ (start : Start) (past : Past) (t : Table) (running : ℕ → Option Run
   in_left : In p (a.writers r).left
   in_left = subst (λ (ps : List Path). In p ps) (sym may.next) (inl refl)
 
-  listing : IsListed (a.writers r)
+  listing : AreDocumentsListed (a.writers r)
   listing = a.sound.listed r (a.unstopped s x here)
 
   marked : HasMark x.draw.marks p

@@ -34,7 +34,7 @@ use Rattle.core_clash.specs.Sessions.{IsTheirs, Running}
 use Rattle.core_clash.specs.Sound.{Sound}
 use Rattle.core_nodes.specs.Nodes.{cursor_owner, ArePinsOf, IsMemoryOf, IsOnRoot, IsPair, base_of_pin}
 use Rattle.core_keep.specs.Formers.{AreFormers, Formers}
-use Rattle.core_watch.specs.Reading.{IsReading}
+use Rattle.core_watch.specs.Reading.{ReadsTree}
 use Rattle.core_changes.specs.Observing.{IsObserving}
 use Rattle.jr_rev.specs.Vectors.{sees, start_of}
 use Rattle.core_read.specs.Told.{IsIn}
@@ -111,7 +111,7 @@ pub record AreReading (start : Start) (past : Past) (t : Table) (formers : Forme
   pub told : AreFormers (documents_in t.documents) (course_from start past) formers
   -- each reads the tree
   pub reads : (s : ℕ) (r : Reader) → reading s ≡ Some r
-      → IsReading start (documents_in t.documents) past formers r
+      → ReadsTree start (documents_in t.documents) past formers r
   -- its pair is above the bounds so far
   pub above : (s : ℕ) (r : Reader) → reading s ≡ Some r → IsAboveBounds start past r.pin
   -- a reader reads at the base of its session, with a sweep vector that goes with it

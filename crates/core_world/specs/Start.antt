@@ -14,8 +14,8 @@ use Rattle.oak_store.specs.Tables.{Table, by_id}
 use Rattle.core_world.specs.States.{State}
 
 -- a document of the start: the node is there, with its type, at the revision of the start
-abbrev pub start_document : Path → Name → ℕ → Document
-start_document p type number = record (document_of None (id.Node p)) {
+abbrev pub node_of_start : Path → Name → ℕ → Document
+node_of_start p type number = record (document_of None (id.Node p)) {
   mod_count = number;
   deleted = (start_of 1, false) ∷ [];
   props = (codes "jcr:primaryType", (start_of 1, Some (Single (value.Name type))) ∷ []) ∷ [];
@@ -23,7 +23,7 @@ start_document p type number = record (document_of None (id.Node p)) {
 
 -- the root also says what is published and what is swept
 abbrev pub start_root : ℕ → Document
-start_root clusters = record (start_document [] (codes "nt:unstructured") 1) {
+start_root clusters = record (node_of_start [] (codes "nt:unstructured") 1) {
   last_rev = start clusters;
   sweep_rev = start clusters;
 }
@@ -44,18 +44,18 @@ abbrev pub versions_path : Path
 versions_path = codes "jcr:system" ∷ codes "jcr:versionStorage" ∷ []
 
 -- the four documents of the start, in store order
-abbrev pub start_documents : ℕ → ℕ → List Document
-start_documents clusters sessions =
+abbrev pub documents_of_start : ℕ → ℕ → List Document
+documents_of_start clusters sessions =
     start_root clusters
-    ∷ start_document system_path (codes "rep:system") 2
-    ∷ start_document versions_path (codes "rep:versionStorage") 3
+    ∷ node_of_start system_path (codes "rep:system") 2
+    ∷ node_of_start versions_path (codes "rep:versionStorage") 3
     ∷ start_settings sessions
     ∷ []
 
 -- the documents of the start have the numbers 1 to 4
 abbrev pub start_table : ℕ → ℕ → Table
 start_table clusters sessions = record {
-  documents = by_id (start_documents clusters sessions);
+  documents = by_id (documents_of_start clusters sessions);
   number = 4;
 }
 

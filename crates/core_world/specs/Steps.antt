@@ -162,8 +162,8 @@ after_draw w s edit marks paths = let d = draw_in w s edit marks in record w {
 }
 
 -- the committer of session s stands so now
-abbrev pub goes_on : State → ℕ → Running → Writer → ℕ → Option Running
-goes_on w s x writer =
+abbrev pub committer_goes_on : State → ℕ → Running → Writer → ℕ → Option Running
+committer_goes_on w s x writer =
     with_session w.running s
     (Some (record { draw = x.draw; writer = writer; committed = x.committed }))
 
@@ -172,7 +172,7 @@ abbrev pub after_write : State → ℕ → Running → Path → List Path → St
 after_write w s x p rest = record w {
   past = event.Went s kind.Write ∷ w.past;
   table = after_update w.table (write_op x.draw.revision x.draw.edit.writes x.draw.marks p);
-  running = goes_on w s x (record x.writer {
+  running = committer_goes_on w s x (record x.writer {
     left = rest;
     written = x.writer.written ++ p ∷ [];
     due = found x.draw.base x.draw.revision p x.draw.marks
@@ -186,7 +186,7 @@ abbrev pub after_write_in_want : State → ℕ → Running → Path → List Pat
 after_write_in_want w s x p rest = record w {
   past = event.Went s kind.Write ∷ w.past;
   table = after_update w.table (write_op x.draw.revision x.draw.edit.writes x.draw.marks p);
-  running = goes_on w s x (record x.writer {
+  running = committer_goes_on w s x (record x.writer {
     left = rest;
     written = x.writer.written ++ p ∷ [];
     due = [];
@@ -199,7 +199,7 @@ after_write_in_want w s x p rest = record w {
 abbrev pub refused : State → ℕ → Running → Item → Revision → State
 refused w s x item o = record w {
   past = event.Refuse x.draw.revision item o ∷ w.past;
-  running = goes_on w s x (record x.writer { due = []; undoing = true });
+  running = committer_goes_on w s x (record x.writer { due = []; undoing = true });
 }
 
 -- a session's mark on another's commit root is made, or its revision is refused
@@ -207,7 +207,7 @@ abbrev pub marked_by : State → ℕ → Running → Met → List Met → Result
 marked_by w s x f rest (Ok d) = record w {
   past = event.Went s kind.Mark ∷ w.past;
   table = with_document w.table (id.Node (root_of w.past f.other)) d (next_number w.table);
-  running = goes_on w s x (record x.writer { due = rest });
+  running = committer_goes_on w s x (record x.writer { due = rest });
 }
 marked_by w s x f rest (Err fault) = refused w s x f.mine f.other
 
@@ -242,7 +242,7 @@ after_last w s x =
 -- memory was refused: it turns to undoing
 abbrev pub after_want : State → ℕ → Running → State
 after_want w s x = record w {
-  running = goes_on w s x (record x.writer { due = []; undoing = true; wants = true });
+  running = committer_goes_on w s x (record x.writer { due = []; undoing = true; wants = true });
 }
 
 -- the committer x undoes the document of p, with `rest` to undo still
@@ -250,7 +250,7 @@ abbrev pub after_undoing : State → ℕ → Running → Path → List Path → 
 after_undoing w s x p rest = record w {
   past = event.Went s kind.Undo ∷ w.past;
   table = after_undo w.table (id.Node p) x.draw.revision;
-  running = goes_on w s x (record x.writer { written = rest });
+  running = committer_goes_on w s x (record x.writer { written = rest });
 }
 
 -- the head of cluster node k, where it moves

@@ -7,5 +7,5 @@ use Rattle.oak_doc.specs.declared.document.Document.{Document}
 
 -- how far cluster node k has published, by the root's document; its start where that has no entry
 -- of it
-abbrev pub target_of : Document → ℕ → Revision
-target_of root k = unwrap_or (entry root.last_rev k) (start_of k)
+abbrev pub swept_target : Document → ℕ → Revision
+swept_target root k = unwrap_or (entry root.last_rev k) (start_of k)

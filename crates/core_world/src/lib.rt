@@ -100,7 +100,7 @@ ghost use Rattle.core_world.specs.Kept.{IsClearedOf, IsFreeOf, IsKept, SeesStart
 ghost use Rattle.core_world.specs.Start.{start_state, start_table};
 ghost use Rattle.core_world.specs.States.{State, actor_pin, base_in, history_in, memory_at, memory_of, moved_in, node_of, nodes_in, origin};
 ghost use Rattle.core_world.specs.Steps.{IsThrough, LeavesOthers, after_attach, after_back, after_checkpoint, after_clear, after_detach, after_drop_readers, after_publish, after_recover, after_stop, after_release, after_learn, after_learn_swept, after_out, after_pending, after_sweep, after_draw, after_finish, after_unfound, after_last, after_leave, after_login, after_mark, after_observe, after_refresh, after_said, after_undoing, after_update, after_want, after_went, after_write, after_write_in_want, with_observer, with_reader};
-ghost use Rattle.core_world.specs.Sweeping.{target_of};
+ghost use Rattle.core_world.specs.Sweeping.{swept_target};
 ghost use Rattle.core_begun.specs.Told.{IsToldSince};
 ghost use Rattle.core_begun.specs.Kept.{IsHeldSince, IsKeptSince};
 ghost use Rattle.core_keep.specs.From.{course_from};
@@ -972,8 +972,8 @@ pub fn bounds_may_be_taken<L: Law>(law: &L)
 pub fn sweeps_may_be_told<L: Law>(law: &L)
     ensures reads { let kept = IsKept (L.may_start law.now) (L.may_say law.now) in
         (w : State) (root : Document) (k : ℕ) → kept w → nodes_in w.table [] ≡ Some root
-        → ((target_of root k).cluster ≡ k)
-        × IsTrue (is_at_most (target_of root k) (published w.begin w.past k)) }
+        → ((swept_target root k).cluster ≡ k)
+        × IsTrue (is_at_most (swept_target root k) (published w.begin w.past k)) }
     ensures lasts { (begin : Begin) (e : Event) (past : Past) (k : ℕ) (r : Revision)
         → IsTrue (is_at_most r (published begin past k))
         → IsTrue (is_at_most r (published begin (e ∷ past) k)) }

@@ -17,7 +17,7 @@ use Rattle.jr_path.proofs.Maps.{path_exact}
 use Rattle.jr_tree.specs.declared.tree.Node.{Node}
 use Rattle.jr_tree.specs.Trees.{Nodes, children_of, is_child_of}
 use Rattle.jr_items.specs.Items.{child_path, is_checked_in}
-use Rattle.jcr_ref.specs.Histories.{history_of, with_version}
+use Rattle.jcr_ref.specs.Histories.{version_history_of, with_version}
 use Rattle.jcr_version.specs.Edits.{base_name, checked_in_version}
 use Rattle.jcr_frozen.specs.Histories.{version_name}
 
@@ -58,9 +58,9 @@ child_passed p n q node t never all =
 
 -- a node without versions that isn't checked in tells the first version that a check-in makes
 pub first_of : (t : Nodes) (p : Path) → is_checked_in t p ≡ false
-    → children_of t (history_of t p) ≡ [] → checked_in_version t p ≡ Some (codes "v0")
+    → children_of t (version_history_of t p) ≡ [] → checked_in_version t p ≡ Some (codes "v0")
 first_of t p out none =
-    ap (λ b. cond b (base_name t p (history_of t p)) (Some (version_name (length (map (λ e. e.0.name)
-    (fold with_version [] (children_of t (history_of t p)))))))) out
+    ap (λ b. cond b (base_name t p (version_history_of t p)) (Some (version_name (length (map (λ e. e.0.name)
+    (fold with_version [] (children_of t (version_history_of t p)))))))) out
     ∙ (ap (λ ns. Some (version_name (length (map (λ e. e.0.name) (fold with_version [] ns))))) none
     ∙ ap (λ ds. Some (codes "v" ++ ds)) (decimal_digit 0 (omega arith)))

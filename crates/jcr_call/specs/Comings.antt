@@ -38,9 +38,9 @@ pub record IsAcceptedOf (c : Call) (m : Command) (a : Accepted) : Type 0 where
   pub tokens : a.tokens ≡ (accepted c m).tokens
 
 -- the reply, where it comes to one
-abbrev pub said_of : Coming → Option (List ℕ)
-said_of (coming.Said text) = Some (string_bytes text)
-said_of (coming.Planned plan a) = None
+abbrev pub reply_said : Coming → Option (List ℕ)
+reply_said (coming.Said text) = Some (string_bytes text)
+reply_said (coming.Planned plan a) = None
 
 -- what a command comes to by what is due for it: a reply, or a plan and its accepted reply
 abbrev pub IsComing : Call → Command → Result (List Write) Refusal → Coming → Type 0

@@ -10,9 +10,9 @@ use Rattle.jcr_call.specs.declared.due.Due.{Due}
 use Rattle.jcr_call.specs.declared.due.Due.TheVariants as due
 
 -- the writes of the edit, or the refusal
-abbrev pub due_of : Due → Result (List Write) Refusal
-due_of (due.Edited edit) = Ok edit.writes
-due_of (due.Refused refusal) = Err refusal
+abbrev pub writes_due : Due → Result (List Write) Refusal
+writes_due (due.Edited edit) = Ok edit.writes
+writes_due (due.Refused refusal) = Err refusal
 
 -- the edit of a command that commits whatever is pending; `save` commits what is pending
 abbrev pub due_at_once : Call → Command → Option (Result (List Write) Refusal)

@@ -11,8 +11,8 @@ ghost use Rattle.jcr_trans.specs.Texts.{answer_text};
 ghost use Rattle.jcr_version.specs.Edits.{checked_in_version};
 ghost use Rattle.jcr_law.specs.Commits.{edit_due, version_answer};
 ghost use Rattle.jcr_law.specs.State.{Call, next_id, with_token};
-ghost use Rattle.jcr_call.specs.Comings.{IsAcceptedOf, IsComing, IsTold, reply_to_due, said_of};
-ghost use Rattle.jcr_call.specs.Dues.{due_of};
+ghost use Rattle.jcr_call.specs.Comings.{IsAcceptedOf, IsComing, IsTold, reply_to_due, reply_said};
+ghost use Rattle.jcr_call.specs.Dues.{writes_due};
 ghost use Rattle.jcr_call.specs.Footings.{IsAsKnown, IsOn, IsProperOn};
 
 use crate::due::Due;
@@ -56,11 +56,11 @@ pub fn come(
 ) -> Result<Coming, AllocError>
     // what it says is the reply to what is due
     ensures reply { (c : Call) → IsOn footing.now c → IsAsKnown footing.now c
-        → IfOk result (λ coming. said_of coming ≡ reply_to_due c command.now (due_of due)) }
+        → IfOk result (λ coming. reply_said coming ≡ reply_to_due c command.now (writes_due due)) }
     // what is due for the command comes to this
     ensures comes { (c : Call) → IsOn footing.now c → IsAsKnown footing.now c
-        → edit_due c command.now ≡ Some (due_of due)
-        → IfOk result (IsComing c command.now (due_of due)) }
+        → edit_due c command.now ≡ Some (writes_due due)
+        → IfOk result (IsComing c command.now (writes_due due)) }
 {
     match due {
         Due::Edited(edit) => come_edit(alloc, footing, command, edit),
@@ -80,7 +80,7 @@ fn come_edit(
     edit: Edit,
 ) -> Result<Coming, AllocError>
     ensures reply { (c : Call) → IsOn footing.now c → IsAsKnown footing.now c
-        → IfOk result (λ coming. said_of coming ≡ reply_to_due c command.now (Ok edit.writes)) }
+        → IfOk result (λ coming. reply_said coming ≡ reply_to_due c command.now (Ok edit.writes)) }
     ensures comes { (c : Call) → IsOn footing.now c → IsAsKnown footing.now c
         → edit_due c command.now ≡ Some (Ok edit.writes)
         → IfOk result (IsComing c command.now (Ok edit.writes)) }
@@ -113,7 +113,7 @@ fn come_written(
     requires some { edit.writes ≢ [] }
     requires after { after.now ≡ applied None footing.now.base.now edit.writes }
     ensures reply { (c : Call) → IsOn footing.now c → IsAsKnown footing.now c
-        → IfOk result (λ coming. said_of coming ≡ reply_to_due c command.now (Ok edit.writes)) }
+        → IfOk result (λ coming. reply_said coming ≡ reply_to_due c command.now (Ok edit.writes)) }
     ensures comes { (c : Call) → IsOn footing.now c → IsAsKnown footing.now c
         → edit_due c command.now ≡ Some (Ok edit.writes)
         → IfOk result (IsComing c command.now (Ok edit.writes)) }
@@ -145,7 +145,7 @@ fn come_plan(
     requires after { after.now ≡ applied None footing.now.base.now edit.writes }
     requires proper { IsProperOn footing.now edit.writes true }
     ensures reply { (c : Call) → IsOn footing.now c → IsAsKnown footing.now c
-        → IfOk result (λ coming. said_of coming ≡ reply_to_due c command.now (Ok edit.writes)) }
+        → IfOk result (λ coming. reply_said coming ≡ reply_to_due c command.now (Ok edit.writes)) }
     ensures comes { (c : Call) → IsOn footing.now c → IsAsKnown footing.now c
         → edit_due c command.now ≡ Some (Ok edit.writes)
         → IfOk result (IsComing c command.now (Ok edit.writes)) }

@@ -9,7 +9,7 @@ ghost use Rattle.jcr_restore.specs.Edits.{restore_edit};
 ghost use Rattle.jcr_version.specs.Edits.{checkin_edit, checkout_edit, label_edit, unlabel_edit};
 ghost use Rattle.jcr_law.specs.Commits.{drawing_one};
 ghost use Rattle.jcr_law.specs.State.{Call, next_id};
-ghost use Rattle.jcr_call.specs.Dues.{due_at_once, due_of};
+ghost use Rattle.jcr_call.specs.Dues.{due_at_once, writes_due};
 ghost use Rattle.jcr_call.specs.Footings.{IsOn};
 
 use crate::footing::Footing;
@@ -41,7 +41,7 @@ pub fn edit_due(
     footing: &Footing<'_>,
     command: &Command,
 ) -> Result<Option<Due>, AllocError>
-    ensures { (c : Call) → IsOn footing.now c → IfOk result (λ due. option_map due_of due
+    ensures { (c : Call) → IsOn footing.now c → IfOk result (λ due. option_map writes_due due
         ≡ due_at_once c command.now) }
 {
     match command {
@@ -62,7 +62,7 @@ pub fn edit_due(
 fn made_due(made: Result<Edit, Refusal>) -> Result<Option<Due>, AllocError>
     ensures { (due : Result (List Write) Refusal)
         → IfOk made (IsDue due) → IfErr made (IsDueRefusal due)
-        → IfOk result (λ found. option_map due_of found ≡ Some due) }
+        → IfOk result (λ found. option_map writes_due found ≡ Some due) }
 {
     match made {
         Ok(edit) => Ok(Some(Due::Edited(edit))),
@@ -73,7 +73,7 @@ fn made_due(made: Result<Edit, Refusal>) -> Result<Option<Due>, AllocError>
 // A refusal that doesn't stand for want of memory.
 fn refused(refusal: Refusal) -> Result<Option<Due>, AllocError>
     ensures { IfOk result (λ found. ¬ (refusal ≡ out_of_memory)
-        × (option_map due_of found ≡ Some (Err refusal))) }
+        × (option_map writes_due found ≡ Some (Err refusal))) }
 {
     if refusal.number == 16 {
         drop(refusal);
@@ -89,7 +89,7 @@ fn lock_due(
     path: &Path,
     deep: bool,
 ) -> Result<Option<Due>, AllocError>
-    ensures { (c : Call) → IsOn footing.now c → IfOk result (λ found. option_map due_of found
+    ensures { (c : Call) → IsOn footing.now c → IfOk result (λ found. option_map writes_due found
         ≡ Some (drawing_one c (lock_edit c.base path.now deep (next_id c.who)))) }
 {
     let token = next_id(alloc, footing.who)?;
@@ -104,7 +104,7 @@ fn lock_by(
     deep: bool,
     token: &str,
 ) -> Result<Option<Due>, AllocError>
-    ensures { (c : Call) → IsOn footing.now c → IfOk result (λ found. option_map due_of found
+    ensures { (c : Call) → IsOn footing.now c → IfOk result (λ found. option_map writes_due found
         ≡ Some (drawing_one c (lock_edit c.base path.now deep token.now))) }
 {
     match lock_edit(alloc, footing.base, path, deep, token) {
@@ -115,7 +115,7 @@ fn lock_by(
 
 // An edit for which one identifier is drawn.
 fn drawing_one(alloc: Global, who: &Who, edit: Edit) -> Result<Option<Due>, AllocError>
-    ensures { IfOk result (λ found. option_map due_of found
+    ensures { IfOk result (λ found. option_map writes_due found
         ≡ Some (or_else (too_many_ids (who.now.ids + 1)) edit.writes)) }
 {
     if who.ids >= MAX_IDS {
@@ -127,7 +127,7 @@ fn drawing_one(alloc: Global, who: &Who, edit: Edit) -> Result<Option<Due>, Allo
 
 // The edit that unlocks a node, for the tokens that the session holds.
 fn unlock_due(alloc: Global, footing: &Footing<'_>, path: &Path) -> Result<Option<Due>, AllocError>
-    ensures { (c : Call) → IsOn footing.now c → IfOk result (λ found. option_map due_of found
+    ensures { (c : Call) → IsOn footing.now c → IfOk result (λ found. option_map writes_due found
         ≡ Some (unlock_edit c.base path.now c.state.tokens)) }
 {
     let tokens = strings(alloc, footing.tokens)?;
@@ -136,7 +136,7 @@ fn unlock_due(alloc: Global, footing: &Footing<'_>, path: &Path) -> Result<Optio
 
 // The edit that checks a node in.
 fn checkin_due(alloc: Global, footing: &Footing<'_>, path: &Path) -> Result<Option<Due>, AllocError>
-    ensures { (c : Call) → IsOn footing.now c → IfOk result (λ found. option_map due_of found
+    ensures { (c : Call) → IsOn footing.now c → IfOk result (λ found. option_map writes_due found
         ≡ Some (checkin_edit c.types c.base path.now c.who)) }
 {
     let mut who = *footing.who;
@@ -145,7 +145,7 @@ fn checkin_due(alloc: Global, footing: &Footing<'_>, path: &Path) -> Result<Opti
 
 // The edit that checks a node out.
 fn checkout_due(alloc: Global, base: &Tree, path: &Path) -> Result<Option<Due>, AllocError>
-    ensures { IfOk result (λ found. option_map due_of found
+    ensures { IfOk result (λ found. option_map writes_due found
         ≡ Some (checkout_edit base.now path.now)) }
 {
     made_due(checkout_edit(alloc, base, path))
@@ -160,7 +160,7 @@ fn label_due(
     label: &Name,
     take: bool,
 ) -> Result<Option<Due>, AllocError>
-    ensures { IfOk result (λ found. option_map due_of found
+    ensures { IfOk result (λ found. option_map writes_due found
         ≡ Some (label_edit base.now path.now version.now label.now take)) }
 {
     made_due(label_edit(alloc, base, path, version, label, take))
@@ -173,7 +173,7 @@ fn unlabel_due(
     path: &Path,
     label: &Name,
 ) -> Result<Option<Due>, AllocError>
-    ensures { IfOk result (λ found. option_map due_of found
+    ensures { IfOk result (λ found. option_map writes_due found
         ≡ Some (unlabel_edit base.now path.now label.now)) }
 {
     made_due(unlabel_edit(alloc, base, path, label))
@@ -186,7 +186,7 @@ fn restore_due(
     path: &Path,
     version: &str,
 ) -> Result<Option<Due>, AllocError>
-    ensures { (c : Call) → IsOn footing.now c → IfOk result (λ found. option_map due_of found
+    ensures { (c : Call) → IsOn footing.now c → IfOk result (λ found. option_map writes_due found
         ≡ Some (restore_edit c.types c.base path.now version.now)) }
 {
     made_due(restore_edit(alloc, footing.types, footing.base, path, version))

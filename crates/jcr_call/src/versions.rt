@@ -5,7 +5,7 @@ ghost use Rattle.jr_tree.specs.Trees.{children_of};
 ghost use Rattle.jr_items.specs.Items.{child_path, is_checked_in};
 ghost use Rattle.jr_items.specs.Names.{version_storage};
 ghost use Rattle.jr_items.specs.Own.{own_name};
-ghost use Rattle.jcr_ref.specs.Histories.{history_of};
+ghost use Rattle.jcr_ref.specs.Histories.{version_history_of};
 ghost use Rattle.jcr_ref.specs.References.{identifier_of};
 ghost use Rattle.jcr_version.specs.Edits.{checked_in_version};
 

@@ -24,7 +24,7 @@ use Rattle.jcr_law.specs.Tasks.{stopped_at}
 use Rattle.jcr_call.specs.Comings.{reply_to_due}
 use Rattle.jcr_eval.specs.Causes.{AllowedCause, AnyCause, AskedCause, OwnCause, StillCause, clash_reply, committed_reply, due_reply, is_seen_commit, may_want_memory, reply_to_draw, uncommitted_reply}
 use Rattle.jcr_past.specs.Shown.{attaches}
-use Rattle.jcr_eval.specs.Moves.{MoveCause, is_half_detached, vector_text}
+use Rattle.jcr_eval.specs.Moves.{MoveCause, is_half_detached, vector_reply}
 use Rattle.jcr_eval.specs.TaskCauses.{TaskCause}
 use Rattle.jcr_eval.proofs.Iffs.{second_decides}
 use Rattle.jcr_eval.proofs.Options.{some_behind, some_mapped, some_passed, some_tested}
@@ -69,10 +69,10 @@ module _ (law : JcrLaw) (h : History) (s : ℕ) where
   said_by_cause _ _ (viewed m c is call unmoved) =
       inr (inr (unmoved, inl (is, (c, call, refl))))
   said_by_cause _ _ (head v is unmoved) =
-      inr (inr (unmoved, inr (inr (ap (option_map vector_text) is))))
+      inr (inr (unmoved, inr (inr (ap (option_map vector_reply) is))))
   said_by_cause _ _ (queried text vars c reply call answers unmoved) =
       inr (inr (unmoved, inr (inr (c, reply, call, answers, refl))))
-  said_by_cause _ _ (refreshed keep v is) = inr (inl (inr (ap (option_map vector_text) is)))
+  said_by_cause _ _ (refreshed keep v is) = inr (inl (inr (ap (option_map vector_reply) is)))
   said_by_cause _ _ (refused_edit m c due r none call is cause unmoved) =
       inr (inr (unmoved, inr (inl (inl (rw (none, call, is) (refused_due c m due r cause))))))
   said_by_cause _ _ (unwritten m c none call is unmoved) =
@@ -100,11 +100,11 @@ module _ (law : JcrLaw) (h : History) (s : ℕ) where
   said_by_cause _ _ (uncounted c r call is unmoved) =
       inr (inr (unmoved, inr (inr (inr (c, r, call, is, refl)))))
   said_by_cause _ _ (attached id v is base) =
-      inr (inl (inr (attached_came id is, ap (option_map vector_text) base)))
+      inr (inl (inr (attached_came id is, ap (option_map vector_reply) base)))
   said_by_cause _ _ (released id is unmoved) = inr (inr (unmoved, inr (inr (inl (is, refl)))))
   said_by_cause _ _ (unattached id is unmoved) = inr (inr (unmoved, inr (inr (is, refl))))
   said_by_cause _ _ (unreleased id is unmoved) = inr (inr (unmoved, inr (inr (inr (is, refl)))))
-  said_by_cause _ _ (detached v is) = inr (inl (inr (inl (ap (option_map vector_text) is))))
+  said_by_cause _ _ (detached v is) = inr (inl (inr (inl (ap (option_map vector_reply) is))))
   said_by_cause _ _ (split p e is unmoved) = inr (inr (unmoved, inr (inr (inl (e, is, refl)))))
   said_by_cause _ _ (unsplit p c r call is unmoved) =
       inr (inr (unmoved, inr (inr (inr (c, r, call, is, refl)))))

@@ -15,7 +15,7 @@ use Rattle.jr_items.specs.Refusals.{no_query, no_type, wrong_kind}
 use Rattle.oak_machine.specs.History.{History}
 use Rattle.sql_parse.specs.Answers.{AreSame}
 use Rattle.sql_parse.specs.Grammar.{IsParsed}
-use Rattle.sql_query.specs.Trees.{Asked, asked_of}
+use Rattle.sql_query.specs.Trees.{AskedQuery, asked_of}
 use Rattle.sql_pieces.specs.declared.fault.SqlFault.{SqlFault}
 use Rattle.sql_pieces.specs.declared.fault.SqlFault.TheVariants as fault
 use Rattle.sql_query.specs.declared.query.Query.{Query}
@@ -45,7 +45,7 @@ module _ (c : Call) (query : List ℕ) (vars : List (List ℕ × Value)) where
       → AnswersQuery c.types c.base q text → AnswersQuery c.types c.base r text
   same_query q r text same h =
       by (unknown_selector c.types r)
-      (sym (ap (λ (a : Asked). find (λ n. is_none (type_named c.types n)) a.types) same)) h
+      (sym (ap (λ (a : AskedQuery). find (λ n. is_none (type_named c.types n)) a.types) same)) h
     where
       by : (o : Option Name) → o ≡ unknown_selector c.types q → AnswersQuery c.types c.base q text
           → AnswersFor o c.types c.base r text
@@ -56,7 +56,7 @@ module _ (c : Call) (query : List ℕ) (vars : List (List ℕ × Value)) where
             s.0,
             rows_same q r same (map (subtypes c.types) r.types) c.base s.0
                 (subst (λ (ts : List Name). AreRows q (map (subtypes c.types) ts) c.base s.0)
-                (ap (λ (a' : Asked). a'.types) same) s.1),
+                (ap (λ (a' : AskedQuery). a'.types) same) s.1),
             s.2,
           )
 

@@ -33,7 +33,7 @@ use Rattle.jcr_past.proofs.Coming.{came_any}
 use Rattle.jcr_eval.proofs.Passing.{and_parts, and_whole, came_contains, came_some, contains_came, false_of, or_left, or_parts, or_right, some_came}
 use Rattle.jcr_eval.proofs.Showing.{collection_is, collection_shown, in_is, in_shown, is_shown, keep_is, keep_passes, out_is, out_shown, recovery_is, recovery_shown, release_is, release_passes, shown_is, split_is, split_shown, sweep_is, sweep_shown}
 use Rattle.jcr_eval.proofs.Options.{some_passed}
-use Rattle.jcr_eval.specs.Said.{has_in, has_out, has_sweep, is_own, refuses_checkpoint, refuses_id, refuses_split, says_checkpoint, says_collect, says_events, says_in, says_observe, says_out, says_recover, says_release, says_split, says_stop, says_sweep, shows_checkpoint, shows_events}
+use Rattle.jcr_eval.specs.Said.{has_in, has_out, has_sweep, is_own_node, refuses_checkpoint, refuses_id, refuses_split, says_checkpoint, says_collect, says_events, says_in, says_observe, says_out, says_recover, says_release, says_split, says_stop, says_sweep, shows_checkpoint, shows_events}
 use Rattle.jcr_past.specs.Shown.{is_answer, is_refusal, keeps, releases, shows_collection, shows_in, shows_out, shows_recovery, shows_split, shows_sweep}
 use Rattle.jcr_eval.specs.TaskCauses.{CheckpointCause, CollectCause, EventsCause, InCause, MissCause, ObserveCause, OutCause, RecoverCause, ReleaseCause, SplitCause, StopCause, SweepCause, TaskCause}
 
@@ -289,10 +289,10 @@ module _ (h : History) (s : ℕ) (text : List ℕ) where
           let p = and_parts (came s (λ earlier e. is_stop_of k e) h.past) _ here in
           inl (sym (came_any s (is_stop_of k) h.past) ∙ p.0, is_shown text Done p.1)
       | inr there ↦
-          let p = and_parts (is_own h s k || came s (finds_stopped s k) h.past) _ there in
+          let p = and_parts (is_own_node h s k || came s (finds_stopped s k) h.past) _ there in
           let is : text ≡ no_support (command.Stop (Some k)) =
           (bytes_eq-Decides text (no_support (command.Stop (Some k)))).0 p.1 in
-          elim (or_parts (is_own h s k) (came s (finds_stopped s k) h.past) p.0) [
+          elim (or_parts (is_own_node h s k) (came s (finds_stopped s k) h.past) p.0) [
             | inl own ↦ let o = some_passed (λ m. m == k) (slice_get h.sessions s) own in
                 inr (inl (o.1 ∙ ap Some ((Decides-eqb o.0 k).0 o.2), is))
             | inr found ↦ inr (inr (found, is))
@@ -304,18 +304,18 @@ module _ (h : History) (s : ℕ) (text : List ℕ) where
           (and_whole (came s (λ earlier e. is_stop_of k e) h.past) _
           (came_any s (is_stop_of k) h.past ∙ here.0) (shown_is text Done here.1))
       | inr (inl own) ↦
-          refusing (or_left (is_own h s k) _
+          refusing (or_left (is_own_node h s k) _
           (there_some (λ m. m == k) (slice_get h.sessions s) k own.0
           ((Decides-eqb k k).1 refl))) own.1
-      | inr (inr found) ↦ refusing (or_right (is_own h s k) _ found.0) found.1
+      | inr (inr found) ↦ refusing (or_right (is_own_node h s k) _ found.0) found.1
     ],
   )
     where
-      refusing : (is_own h s k || came s (finds_stopped s k) h.past) ≡ true
+      refusing : (is_own_node h s k || came s (finds_stopped s k) h.past) ≡ true
           → text ≡ no_support (command.Stop (Some k)) → says_stop h s k text ≡ true
       refusing why is =
           or_right (came s (λ earlier e. is_stop_of k e) h.past && is_answer text Done) _
-          (and_whole (is_own h s k || came s (finds_stopped s k) h.past) _ why
+          (and_whole (is_own_node h s k || came s (finds_stopped s k) h.past) _ why
           ((bytes_eq-Decides text (no_support (command.Stop (Some k)))).1 is))
 
   pub recover_said : (k : ℕ) → Said (says_recover h s k text) (RecoverCause h s k text)

@@ -4,7 +4,7 @@
 use Rattle.std.specs.Prelude.{◌≡◌, ◌⊎◌, ℕ, Bool, false, cond, not, ◌&&◌, List, slice_get, Option, None, Some, is_none, option_and_then, option_map, IsTrue}
 use Rattle.std.specs.Option.{option_map_or}
 use Rattle.jr_rev.specs.Vectors.{sees}
-use Rattle.jr_items.specs.Refusals.{clash, out_of_memory}
+use Rattle.jr_items.specs.Refusals.{clash_refusal, out_of_memory}
 use Rattle.oak_machine.specs.declared.event.Draw.{Draw}
 use Rattle.oak_machine.specs.Commits.{is_committed, is_ended, refusal_of, tree_at}
 use Rattle.oak_machine.specs.History.{History}
@@ -22,7 +22,7 @@ use Rattle.jcr_law.specs.State.{Call, call_of}
 use Rattle.jcr_law.specs.Tasks.{stopped_at}
 use Rattle.jcr_call.specs.Comings.{reply_to_due}
 use Rattle.jcr_past.specs.Shown.{same_vector}
-use Rattle.jcr_eval.specs.Moves.{MoveCause, vector_text}
+use Rattle.jcr_eval.specs.Moves.{MoveCause, vector_reply}
 use Rattle.jcr_eval.specs.TaskCauses.{TaskCause}
 
 -- the reply where the cluster node of s was stopped
@@ -86,7 +86,7 @@ committed_reply law h s m = option_and_then (reply_to_draw law h s m) (draw_sinc
 -- the reply where the commit was refused for a clash
 abbrev pub clash_reply : History → ℕ → Option (List ℕ)
 clash_reply h s = option_and_then (λ r. cond (is_ended h.past r)
-    (option_map (λ x. no_text (clash x.0 x.1)) (refusal_of h.past r)) None) (drawn_since h.past s)
+    (option_map (λ x. no_text (clash_refusal x.0 x.1)) (refusal_of h.past r)) None) (drawn_since h.past s)
 
 -- a command that commits isn't committed, or was refused for a clash
 abbrev pub UncommittedCause : JcrLaw → History → ℕ → Command → List ℕ → Type 0
@@ -95,7 +95,7 @@ UncommittedCause law h s m text = (due_reply law h s m ≡ Some text) ⊎ (clash
 -- what a command is answered with beside the view and its commit, and before the base moves: `head`
 -- with the base, the commands of the cluster, queries and observation as they say
 abbrev pub OwnCause : JcrLaw → History → ℕ → Command → List ℕ → Type 0
-OwnCause law h s command.Head text = option_map vector_text (base_of h.past s) ≡ Some text
+OwnCause law h s command.Head text = option_map vector_reply (base_of h.past s) ≡ Some text
 OwnCause law h s m text = TaskCause law h s m text
 
 -- the causes by which the base moves

@@ -96,8 +96,8 @@ abbrev pub says_collect : History → ℕ → List ℕ → Bool
 says_collect h s text = came s (λ earlier e. shows_collection s text e) h.past
 
 -- cluster node k is that of s
-abbrev pub is_own : History → ℕ → (k : ℕ) → Bool
-is_own h s k = option_map_or (λ m. m == k) (slice_get h.sessions s) false
+abbrev pub is_own_node : History → ℕ → (k : ℕ) → Bool
+is_own_node h s k = option_map_or (λ m. m == k) (slice_get h.sessions s) false
 
 -- the text is that the command lacks what it needs
 abbrev pub is_unsupported : List ℕ → Command → Bool
@@ -106,7 +106,7 @@ is_unsupported text m = bytes_eq text (no_support m)
 -- the text is a reply to `stop` of cluster node k
 abbrev pub says_stop : History → ℕ → (k : ℕ) → List ℕ → Bool
 says_stop h s k text = (came s (λ earlier e. is_stop_of k e) h.past && is_answer text Done)
-    || ((is_own h s k || came s (finds_stopped s k) h.past)
+    || ((is_own_node h s k || came s (finds_stopped s k) h.past)
     && is_unsupported text (command.Stop (Some k)))
 
 -- the text is a reply to `recover` of cluster node k

@@ -1,7 +1,7 @@
 // What commands that commit may be answered with.
 ghost use Rattle.std.specs.Prelude.{◌≡◌, ◌↔◌, cond, IfOk, IsTrue, None, Ok, Some, option_map, string_bytes};
 ghost use Rattle.jr_tree.specs.Edits.{changes};
-ghost use Rattle.jr_items.specs.Refusals.{clash};
+ghost use Rattle.jr_items.specs.Refusals.{clash_refusal};
 ghost use Rattle.oak_machine.specs.Commits.{is_ended, refusal_of, tree_at};
 ghost use Rattle.oak_machine.specs.History.{history_of};
 ghost use Rattle.jcr_trans.specs.Answers.{ShowsRevision, ShowsText};
@@ -11,7 +11,7 @@ ghost use Rattle.jcr_law.specs.Commits.{committed_answer, edit_due, version_answ
 ghost use Rattle.jcr_law.specs.Law.{no_text};
 ghost use Rattle.jcr_law.specs.State.{next_id};
 ghost use Rattle.jcr_call.specs.Comings.{reply_to_due};
-ghost use Rattle.jcr_call.specs.Dues.{due_of};
+ghost use Rattle.jcr_call.specs.Dues.{writes_due};
 ghost use Rattle.jcr_call.specs.Footings.{IsAsKnown, IsOn};
 ghost use Rattle.jcr_past.specs.Calls.{called};
 ghost use Rattle.jcr_eval.specs.Causes.{UncommittedCause, clash_reply, committed_reply, due_reply, is_begun_there, is_seen_commit, reply_to_draw, uncommitted_reply};
@@ -114,7 +114,7 @@ fn edit_due(
     call: &Call,
     command: &Command,
 ) -> Result<Option<Due>, AllocError>
-    ensures { IfOk result (λ due. option_map due_of due
+    ensures { IfOk result (λ due. option_map writes_due due
         ≡ edit_due (called types.now call.now) command.now) }
 {
     match command {
@@ -143,7 +143,7 @@ fn footing<'a>(types: &'a Registry, call: &'a Call) -> Footing<'a>
 
 // The pending edits.
 fn pending_due(call: &Call) -> Result<Option<Due>, AllocError>
-    ensures { IfOk result (λ found. option_map due_of found
+    ensures { IfOk result (λ found. option_map writes_due found
         ≡ Some (Ok (changes call.now.base call.now.state.view))) }
 {
     Ok(Some(Due::Edited(changes(&call.base, &call.state.view)?)))
@@ -158,7 +158,7 @@ fn reply_to_due(
     due: Due,
 ) -> Result<Option<String>, AllocError>
     ensures { IfOk result (λ reply. option_map string_bytes reply
-        ≡ reply_to_due (called types.now call.now) command.now (due_of due)) }
+        ≡ reply_to_due (called types.now call.now) command.now (writes_due due)) }
 {
     match come(alloc, &footing(types, call), command, due)? {
         Coming::Said(text) => Ok(Some(text)),
@@ -303,7 +303,7 @@ fn clash_reply(alloc: Global, journal: &Journal, session: u32) -> Result<Option<
 fn ended_clash(alloc: Global, journal: &Journal, r: Revision) -> Result<Option<String>, AllocError>
     ensures { let h = history_of journal.now in IfOk result (λ reply. option_map string_bytes reply
         ≡ cond (is_ended h.past r)
-        (option_map (λ x. no_text (clash x.0 x.1)) (refusal_of h.past r)) None) }
+        (option_map (λ x. no_text (clash_refusal x.0 x.1)) (refusal_of h.past r)) None) }
 {
     let events = journal.events.as_slice();
     if !is_ended(events, r) {

@@ -2,7 +2,7 @@
 ghost use Rattle.std.specs.Prelude.{◌≡◌, IfOk, bytes_eq};
 ghost use Rattle.oak_machine.specs.Changed.{changes_between};
 ghost use Rattle.oak_machine.specs.History.{history_of};
-ghost use Rattle.jcr_observe.specs.Observed.{events_of};
+ghost use Rattle.jcr_observe.specs.Observed.{observed_events};
 ghost use Rattle.jcr_law.specs.Queries.{events_reply, events_since};
 ghost use Rattle.jcr_eval.specs.Said.{says_events, shows_events};
 
@@ -106,7 +106,7 @@ fn events_after(
     cursor: &Cursor,
 ) -> Result<Vec<JcrEvent>, AllocError>
     ensures { let h = history_of journal.now in IfOk result (λ shown. shown.items
-        ≡ events_of cursor.now.filter (changes_between h.begin h.past cursor.now.at base.now)) }
+        ≡ observed_events cursor.now.filter (changes_between h.begin h.past cursor.now.at base.now)) }
 {
     let past = journal.events.as_slice();
     let changes = changes_between(alloc, &journal.start, past, &cursor.at, base)?;

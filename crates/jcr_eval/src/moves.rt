@@ -1,7 +1,7 @@
 // What the commands that move the base of a session may be answered with.
 ghost use Rattle.std.specs.Prelude.{◌≡◌, ◌↔◌, IfOk, IsTrue, Some, option_map, string_bytes};
 ghost use Rattle.oak_machine.specs.History.{history_of};
-ghost use Rattle.jcr_eval.specs.Moves.{AttachCause, DetachCause, MoveCause, half_detached_reply, is_half_detached, vector_text};
+ghost use Rattle.jcr_eval.specs.Moves.{AttachCause, DetachCause, MoveCause, half_detached_reply, is_half_detached, vector_reply};
 
 use crate::replies::{is_reply, refusal_reply};
 use jcr_past::{detached_since, has_attached};
@@ -104,7 +104,7 @@ pub(crate) fn vector_says(
     vector: Option<RevVec>,
     text: &str,
 ) -> Result<bool, AllocError>
-    ensures { IfOk result (λ b. IsTrue b ↔ (option_map vector_text vector ≡ Some text.now)) }
+    ensures { IfOk result (λ b. IsTrue b ↔ (option_map vector_reply vector ≡ Some text.now)) }
 {
     match vector {
         Some(v) => shows_vector(alloc, &v, text),
@@ -113,7 +113,7 @@ pub(crate) fn vector_says(
 }
 
 fn shows_vector(alloc: Global, v: &RevVec, text: &str) -> Result<bool, AllocError>
-    ensures { IfOk result (λ b. IsTrue b ↔ (text.now ≡ vector_text v.now)) }
+    ensures { IfOk result (λ b. IsTrue b ↔ (text.now ≡ vector_reply v.now)) }
 {
     let shown = vector_reply(alloc, v)?;
     Ok(shown.as_str() == text)

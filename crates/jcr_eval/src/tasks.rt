@@ -8,7 +8,7 @@ ghost use Rattle.jcr_law.specs.State.{call_of};
 ghost use Rattle.jcr_law.specs.Tasks.{split_refusal};
 ghost use Rattle.jcr_past.specs.Shown.{is_refusal};
 ghost use Rattle.oak_machine.specs.History.{history_of};
-ghost use Rattle.jcr_eval.specs.Said.{has_in, has_out, has_sweep, is_own, refuses_checkpoint, refuses_id, refuses_split, says_checkpoint, says_collect, says_in, says_observe, says_out, says_recover, says_release, says_split, says_stop, says_sweep, shows_checkpoint, shows_kept};
+ghost use Rattle.jcr_eval.specs.Said.{has_in, has_out, has_sweep, is_own_node, refuses_checkpoint, refuses_id, refuses_split, says_checkpoint, says_collect, says_in, says_observe, says_out, says_recover, says_release, says_split, says_stop, says_sweep, shows_checkpoint, shows_kept};
 ghost use Rattle.jcr_eval.specs.TaskCauses.{TaskCause};
 
 use crate::events::events_says;
@@ -337,7 +337,7 @@ fn stop_says(
 
 // Whether the cluster node is that of the session.
 fn is_own(journal: &Journal, session: u32, cluster: u64) -> bool
-    ensures { result ≡ is_own (history_of journal.now) session cluster }
+    ensures { result ≡ is_own_node (history_of journal.now) session cluster }
 {
     match cluster_of(journal, session) {
         Some(own) => u64::from(own) == cluster,

@@ -29,7 +29,7 @@ use Rattle.jcr_write.specs.Places.{types_of_node, unless_refused}
 use Rattle.jcr_fill.specs.declared.completing.MissingChild.{MissingChild}
 use Rattle.jcr_fill.specs.declared.fill.Filling.{Filling}
 use Rattle.jcr_fill.specs.Filled.{filled}
-use Rattle.jcr_fill.specs.Makings.{Making, absent_child, child_refusal, completed, missing_child, with_child, with_children, with_node, with_own_child}
+use Rattle.jcr_fill.specs.Makings.{Making, absent_child, child_refusal, completed, missing_child, with_made_child, with_made_children, with_filled, with_own_child}
 use Rattle.jcr_fill.specs.Steps.{and_then, each}
 use Rattle.jcr_fill.proofs.Each.{each-alike}
 use Rattle.jcr_fill.proofs.Fills.{err-ok, ok_same}
@@ -57,7 +57,7 @@ now_put view steps p node = drafted_put view steps p p node
 -- what a step makes, by the child that is missing
 abbrev pub by_missing : (Path → Node → Making → Result Making Refusal) → List TypeDef → Making → Option MissingChild → Result Making Refusal
 by_missing complete types m None = Ok m
-by_missing complete types m (Some c) = with_child complete types c.path c.node_type m
+by_missing complete types m (Some c) = with_made_child complete types c.path c.node_type m
 
 -- a child, unless it is there
 abbrev unless_there : Path → (name type : Name) → Bool → Option MissingChild
@@ -159,13 +159,13 @@ whole_at (suc levels) types who view = by (whole_at levels types who view)
         filled_first p node m n h q put = at (filled who (flat_map props_of (types_of_node types node)) (record { node = node; ids = m.ids })) h
           where
             at : (r : Result Filling Refusal)
-                → and_then (and_then r (λ f. Ok (with_node m.steps p f))) (with_children (completed levels types who view) types view p (types_of_node types node)) ≡ Ok n
+                → and_then (and_then r (λ f. Ok (with_filled m.steps p f))) (with_made_children (completed levels types who view) types view p (types_of_node types node)) ≡ Ok n
                 → is_some (drafted view n.steps q) ≡ true
-            at (Ok f) e = keeps_each types view p (completed levels types who view) whole (flat_map (λ d. d.children) (types_of_node types node)) (with_node m.steps p f) n e q (put f)
+            at (Ok f) e = keeps_each types view p (completed levels types who view) whole (flat_map (λ d. d.children) (types_of_node types node)) (with_filled m.steps p f) n e q (put f)
             at (Err r) e = absurd (err-ok e)
 
 -- lists of types in which each test finds the same make the same children
 pub children_alike : (levels : ℕ) (types : List TypeDef) (who : Who) (view : View) (p : Path) (ds es : List TypeDef) (m : Making) → IsAlike ds es
-    → with_children (completed levels types who view) types view p ds m ≡ with_children (completed levels types who view) types view p es m
+    → with_made_children (completed levels types who view) types view p ds m ≡ with_made_children (completed levels types who view) types view p es m
 children_alike levels types who view p ds es m h = children_same types view p (completed levels types who view) (whole_at levels types who view)
     (flat_map (λ d. d.children) ds) (flat_map (λ d. d.children) es) m (flat-alike (λ d. d.children) ds es h)

@@ -21,7 +21,7 @@ use Rattle.jr_types.specs.declared.PropDef.{PropDef}
 use Rattle.jcr_ref.specs.Drawn.{too_many_ids}
 use Rattle.jcr_write.specs.Places.{unless_refused, with_property}
 use Rattle.jcr_fill.specs.declared.fill.Filling.{Filling}
-use Rattle.jcr_fill.specs.Filled.{filled, given, identified, lacking, next_identifier, with_given, with_made, with_own}
+use Rattle.jcr_fill.specs.Filled.{filled, given, identified, lacking, next_identifier, with_given, with_made, with_own_property}
 use Rattle.jcr_fill.proofs.Each.{each-alike}
 
 -- a property is made by the definition: a node lacks it, and there is something to put
@@ -100,7 +100,7 @@ lacking_before u v d more = by d.autocreated d.name
     by true (Some m) = at m (is_some (property_of u m)) (is_some (property_of v m)) refl refl
 
 -- a step does nothing, or puts one property
-pub step_does : (who : Who) (d : PropDef) (f g : Filling) → with_own who d f ≡ Ok g → ((g ≡ f) × (is_made who f d ≡ false)) ⊎ HasPut d f g
+pub step_does : (who : Who) (d : PropDef) (f g : Filling) → with_own_property who d f ≡ Ok g → ((g ≡ f) × (is_made who f d ≡ false)) ⊎ HasPut d f g
 step_does who d f g h = by (lacking f.node d) refl h
   where
     given_case : (n : Name) → lacking f.node d ≡ Some n → same_name uuid n ≡ false → (o : Option Property) → given who n d ≡ o
@@ -139,7 +139,7 @@ step_does who d f g h = by (lacking f.node d) refl h
     by (Some n) l k = named n l (same_name uuid n) refl k
 
 -- where nothing is made by a definition its step does nothing
-idle_step : (who : Who) (f : Filling) (d : PropDef) → is_made who f d ≡ false → with_own who d f ≡ Ok f
+idle_step : (who : Who) (f : Filling) (d : PropDef) → is_made who f d ≡ false → with_own_property who d f ≡ Ok f
 idle_step who f d h = by (lacking f.node d) h
   where
     at : (n : Name) (b : Bool) (o : Option Property) → (b || is_some o) ≡ false → ◌≡◌ {A = Result Filling Refusal} (cond b (identified who n f) (Ok (with_given n o f))) (Ok f)
@@ -152,14 +152,14 @@ idle_step who f d h = by (lacking f.node d) h
     by None e = refl
     by (Some n) e = at n (same_name uuid n) (given who n d) e
 
-done_step : (who : Who) (f g : Filling) (d : PropDef) → with_own who d f ≡ Ok g → is_made who g d ≡ false
+done_step : (who : Who) (f g : Filling) (d : PropDef) → with_own_property who d f ≡ Ok g → is_made who g d ≡ false
 done_step who f g d h = elim (step_does who d f g h) [
   | inl same ↦ ap (λ (k : Filling). is_made who k d) same.0 ∙ same.1
   | inr put ↦ ap (λ o. option_map_or (λ m. same_name uuid m || is_some (given who m d)) o false)
       (none_lacking g.node d put.name put.of (ap (λ node. is_some (property_of node put.name)) put.put ∙ now_there f.node put.name put.property))
 ]
 
-kept_step : (who : Who) (f g : Filling) (d e : PropDef) → with_own who d f ≡ Ok g → is_made who f e ≡ false → is_made who g e ≡ false
+kept_step : (who : Who) (f g : Filling) (d e : PropDef) → with_own_property who d f ≡ Ok g → is_made who f e ≡ false → is_made who g e ≡ false
 kept_step who f g d e h before = elim (step_does who d f g h) [
   | inl same ↦ ap (λ (k : Filling). is_made who k e) same.0 ∙ before
   | inr put ↦ elim (lacking_before f.node g.node e (λ m there. ap (λ node. is_some (property_of node m)) put.put ∙ still_there f.node put.name put.property m there)) [
@@ -169,9 +169,9 @@ kept_step who f g d e h before = elim (step_does who d f g h) [
 ]
 
 pub filled-alike : (who : Who) (ds es : List PropDef) (f : Filling) → IsAlike ds es → filled who ds f ≡ filled who es f
-filled-alike who ds es f h = each-alike (is_made who) (λ d g. with_own who d g)
+filled-alike who ds es f h = each-alike (is_made who) (λ d g. with_own_property who d g)
     (record { idle = idle_step who; done = done_step who; kept = kept_step who }) ds es f h
 
 -- a property that a node lacks is made by its name
-pub made_by : (who : Who) (d : PropDef) (n : Name) (f : Filling) → Some n ≡ lacking f.node d → with_own who d f ≡ with_made who d n f
+pub made_by : (who : Who) (d : PropDef) (n : Name) (f : Filling) → Some n ≡ lacking f.node d → with_own_property who d f ≡ with_made who d n f
 made_by who d n f h = ap (by_name who d f) (sym h)

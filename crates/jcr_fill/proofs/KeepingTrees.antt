@@ -23,8 +23,8 @@ use Rattle.jr_overlay.proofs.KeepingSteps.{one_more_keeps}
 use Rattle.jcr_write.specs.Places.{types_of_node, unless_refused}
 use Rattle.jcr_fill.specs.declared.completing.MissingChild.{MissingChild}
 use Rattle.jcr_fill.specs.declared.fill.Filling.{Filling}
-use Rattle.jcr_fill.specs.Filled.{filled, with_own}
-use Rattle.jcr_fill.specs.Makings.{Making, child_refusal, complete, completed, missing_child, with_child, with_children, with_node, with_own_child}
+use Rattle.jcr_fill.specs.Filled.{filled, with_own_property}
+use Rattle.jcr_fill.specs.Makings.{Making, child_refusal, complete, completed, missing_child, with_made_child, with_made_children, with_filled, with_own_child}
 use Rattle.jcr_fill.specs.Steps.{and_then}
 use Rattle.jcr_fill.proofs.Children.{IsCompleting, by_missing, now_put, whole_at}
 use Rattle.jcr_fill.proofs.Fills.{err-ok, ok_same, step_does}
@@ -36,7 +36,7 @@ abbrev IsOrdered : Filling → Type 0
 IsOrdered f = is_sorted name_cmp f.node.props ≡ true
 
 -- a property that is made of itself leaves them so
-own_ordered : (who : Who) (d : PropDef) (f g : Filling) → with_own who d f ≡ Ok g → IsOrdered f → IsOrdered g
+own_ordered : (who : Who) (d : PropDef) (f g : Filling) → with_own_property who d f ≡ Ok g → IsOrdered f → IsOrdered g
 own_ordered who d f g h is = elim (step_does who d f g h) [
   | inl same ↦ subst IsOrdered (sym same.0) is
   | inr put ↦ ap (λ (node : Node). is_sorted name_cmp node.props) put.put
@@ -44,7 +44,7 @@ own_ordered who d f g h is = elim (step_does who d f g h) [
 ]
 
 pub filled_ordered : (who : Who) (ds : List PropDef) (f g : Filling) → filled who ds f ≡ Ok g → IsOrdered f → IsOrdered g
-filled_ordered who ds f g h is = each_keeps IsOrdered (λ d k. with_own who d k) (own_ordered who) ds f g h is
+filled_ordered who ds f g h is = each_keeps IsOrdered (λ d k. with_own_property who d k) (own_ordered who) ds f g h is
 
 -- steps keep a tree, and there is a node at p
 abbrev pub KeepWith : Nodes → Path → Making → Type 0
@@ -58,7 +58,7 @@ PutsKeep v complete = (p : Path) (node : Node) (m n : Making) → KeepTree (whol
     → complete p node m ≡ Ok n → KeepTree (whole_view v) n.steps
 
 module _ (types : List TypeDef) (v : Nodes) (complete : Path → Node → Making → Result Making Refusal) (whole : IsCompleting (whole_view v) complete) (keeps : PutsKeep v complete) where
-  child_keeps : (p : Path) (c : MissingChild) (m n : Making) → parent_of c.path ≡ Some p → with_child complete types c.path c.node_type m ≡ Ok n → KeepWith v p m → KeepWith v p n
+  child_keeps : (p : Path) (c : MissingChild) (m n : Making) → parent_of c.path ≡ Some p → with_made_child complete types c.path c.node_type m ≡ Ok n → KeepWith v p m → KeepWith v p n
   child_keeps p c m n up h is = by (child_refusal types c.path c.node_type) h
     where
       above : (q : Path) → parent_of c.path ≡ Some q → is_some (drafted (whole_view v) m.steps q) ≡ true
@@ -79,7 +79,7 @@ module _ (types : List TypeDef) (v : Nodes) (complete : Path → Node → Making
       by (Some c) e f = let at = missing_path (whole_view v) m.steps p d c e in
           child_keeps p c m n (ap parent_of at.1 ∙ parent_of-child p at.0) f is
 
-  children_keep : (p : Path) (of : List TypeDef) (m n : Making) → with_children complete types (whole_view v) p of m ≡ Ok n → KeepWith v p m → KeepWith v p n
+  children_keep : (p : Path) (of : List TypeDef) (m n : Making) → with_made_children complete types (whole_view v) p of m ≡ Ok n → KeepWith v p m → KeepWith v p n
   children_keep p of m n h is = each_keeps (KeepWith v p) (λ d k. with_own_child complete types (whole_view v) p d k) (own_child_keeps p) (flat_map (λ d. d.children) of) m n h is
 
 -- what makes nodes whole, so many levels down, keeps a tree
@@ -95,16 +95,16 @@ completed_keeps (suc levels) types who v = λ p node m n keep sorted above h.
         → is_sorted name_cmp node.props ≡ true
         → ((q : Path) → parent_of p ≡ Some q → is_some (drafted (whole_view v) m.steps q) ≡ true)
         → (r : Result Filling Refusal) → filled who (flat_map props_of (types_of_node types node)) (record { node = node; ids = m.ids }) ≡ r
-        → and_then (and_then r (λ f. Ok (with_node m.steps p f))) (with_children (completed levels types who (whole_view v)) types (whole_view v) p (types_of_node types node)) ≡ Ok n
+        → and_then (and_then r (λ f. Ok (with_filled m.steps p f))) (with_made_children (completed levels types who (whole_view v)) types (whole_view v) p (types_of_node types node)) ≡ Ok n
         → KeepTree (whole_view v) n.steps
     by rest p node m n keep sorted above (Err r) e f = absurd (err-ok f)
     by rest p node m n keep sorted above (Ok g) e f =
         let ordered : is_sorted name_cmp g.node.props ≡ true = filled_ordered who (flat_map props_of (types_of_node types node)) (record { node = node; ids = m.ids }) g e sorted in
-        let put : KeepWith v p (with_node m.steps p g) = (
+        let put : KeepWith v p (with_filled m.steps p g) = (
           one_more_keeps v m.steps p g.node keep ordered above,
           ap is_some (now_put (whole_view v) m.steps p g.node),
         ) in
-        (children_keep types v (completed levels types who (whole_view v)) (whole_at levels types who (whole_view v)) rest p (types_of_node types node) (with_node m.steps p g) n f put).0
+        (children_keep types v (completed levels types who (whole_view v)) (whole_at levels types who (whole_view v)) rest p (types_of_node types node) (with_filled m.steps p g) n f put).0
 
 pub complete_keeps : (types : List TypeDef) (who : Who) (v : Nodes) → PutsKeep v (complete types who (whole_view v))
 complete_keeps types who v = completed_keeps 65 types who v

@@ -35,9 +35,9 @@ use Rattle.jcr_ref.specs.Drawn.{too_many_ids}
 use Rattle.jcr_write.specs.Places.{types_of_node, unless_refused, with_property}
 use Rattle.jcr_fill.specs.declared.completing.MissingChild.{MissingChild}
 use Rattle.jcr_fill.specs.declared.fill.Filling.{Filling}
-use Rattle.jcr_fill.specs.Filled.{filled, given, identified, lacking, next_identifier, with_given, with_own}
+use Rattle.jcr_fill.specs.Filled.{filled, given, identified, lacking, next_identifier, with_given, with_own_property}
 use Rattle.jcr_fill.specs.Kept.{IsAsBefore, IsOwnOrNext, IsPutWith}
-use Rattle.jcr_fill.specs.Makings.{Making, absent_child, child_refusal, completed, missing_child, put_filled, with_children, with_node, with_own_child}
+use Rattle.jcr_fill.specs.Makings.{Making, absent_child, child_refusal, completed, missing_child, put_filled, with_made_children, with_filled, with_own_child}
 use Rattle.jcr_fill.specs.Steps.{and_then, each}
 use Rattle.jcr_fill.proofs.Children.{by_missing}
 use Rattle.jcr_fill.proofs.Fills.{by_name}
@@ -118,14 +118,14 @@ module _ (types : List TypeDef) (who : Who) (view : View) (r : Path) (start : Op
   abbrev Stays : Making → Type 0
   Stays m = step_at m.steps r ≡ start
 
-  filled_stays : (steps : Steps) (p : Path) → is_under r p ≡ false → step_at steps r ≡ start → (f : Result Filling Refusal) → IfOk (and_then f (λ g. Ok (with_node steps p g))) Stays
+  filled_stays : (steps : Steps) (p : Path) → is_under r p ≡ false → step_at steps r ≡ start → (f : Result Filling Refusal) → IfOk (and_then f (λ g. Ok (with_filled steps p g))) Stays
   filled_stays steps p apart stays (Ok g) = put_apart steps p r (Some g.node) apart ∙ stays
   filled_stays steps p apart stays (Err e) = tt
 
   children_stay : (complete : Path → Node → Making → Result Making Refusal)
       → ((q : Path) (node : Node) (m : Making) → is_under r q ≡ false → Stays m → IfOk (complete q node m) Stays)
       → (p : Path) → ((n : Name) → is_under r (child_path p n) ≡ false) → (of : List TypeDef) (m : Making) → Stays m
-      → IfOk (with_children complete types view p of m) Stays
+      → IfOk (with_made_children complete types view p of m) Stays
   children_stay complete rest p apart of m stays = each_holds Stays (with_own_child complete types view p) (flat_map (λ d. d.children) of)
       (all_have (λ d. (l : Making) → Stays l → IfOk (with_own_child complete types view p d l) Stays) child (flat_map (λ d. d.children) of)) m stays
     where
@@ -144,7 +144,7 @@ module _ (types : List TypeDef) (who : Who) (view : View) (r : Path) (start : Op
   unfolding completed
   completed_apart zero p node m apart stays = put_apart m.steps p r (Some node) apart ∙ stays
   completed_apart (suc k) p node m apart stays =
-      then_holds Stays (put_filled types who p node m) (with_children (completed k types who view) types view p (types_of_node types node))
+      then_holds Stays (put_filled types who p node m) (with_made_children (completed k types who view) types view p (types_of_node types node))
       (λ l e. children_stay (completed k types who view) (λ q n j. completed_apart k q n j) p (λ n. below_apart r p (n ∷ []) apart) (types_of_node types node) l
       (IfOk-at_ok Stays e (filled_stays m.steps p apart stays (filled who (flat_map props_of (types_of_node types node)) (record { node = node; ids = m.ids })))))
 
@@ -203,7 +203,7 @@ module _ (who : Who) (ids : ℕ) where
   drawn_put None f g none put (inl h) = inr (put ∙ ap (λ k. Some (next_identifier who k)) h.1)
   drawn_put None f g none put (inr h) = absurd (true≢false (sym (ap is_some h) ∙ none))
 
-  filled_step : (old : Option Property) (d : PropDef) (f : Filling) → IsFilledFrom old f → IfOk (with_own who d f) (IsFilledFrom old)
+  filled_step : (old : Option Property) (d : PropDef) (f : Filling) → IsFilledFrom old f → IfOk (with_own_property who d f) (IsFilledFrom old)
   filled_step old d f h = by (lacking f.node d) refl
     where
       given_by : (n : Name) (o : Option Property) → same_name uuid n ≡ false → IsFilledFrom old (with_given n o f)
@@ -227,7 +227,7 @@ pub completed_here : (levels : ℕ) (types : List TypeDef) (who : Who) (view : V
 unfolding completed
 completed_here zero types who view p node m = (node, put_here m.steps p (Some node), still_own who m.ids (property_of node uuid))
 completed_here (suc k) types who view p node m =
-    then_holds (IsPutWith who m.ids (property_of node uuid) p) (put_filled types who p node m) (with_children (completed k types who view) types view p (types_of_node types node))
+    then_holds (IsPutWith who m.ids (property_of node uuid) p) (put_filled types who p node m) (with_made_children (completed k types who view) types view p (types_of_node types node))
     (λ l e. children l (IfOk-at_ok (IsPutWith who m.ids (property_of node uuid) p) e properties))
   where
     defs : List PropDef
@@ -237,18 +237,18 @@ completed_here (suc k) types who view p node m =
     begun = record { node = node; ids = m.ids }
 
     properties : IfOk (put_filled types who p node m) (IsPutWith who m.ids (property_of node uuid) p)
-    properties = then_holds (IsPutWith who m.ids (property_of node uuid) p) (filled who defs begun) (λ f. Ok (with_node m.steps p f))
+    properties = then_holds (IsPutWith who m.ids (property_of node uuid) p) (filled who defs begun) (λ f. Ok (with_filled m.steps p f))
         (λ f e. (
           f.node,
           put_here m.steps p (Some f.node),
           own_or_next who m.ids (property_of node uuid) f
               (IfOk-at_ok (IsFilledFrom who m.ids (property_of node uuid)) e
-              (each_holds (IsFilledFrom who m.ids (property_of node uuid)) (with_own who) defs
-              (all_have (λ d. (f : Filling) → IsFilledFrom who m.ids (property_of node uuid) f → IfOk (with_own who d f) (IsFilledFrom who m.ids (property_of node uuid))) (filled_step who m.ids (property_of node uuid)) defs)
+              (each_holds (IsFilledFrom who m.ids (property_of node uuid)) (with_own_property who) defs
+              (all_have (λ d. (f : Filling) → IsFilledFrom who m.ids (property_of node uuid) f → IfOk (with_own_property who d f) (IsFilledFrom who m.ids (property_of node uuid))) (filled_step who m.ids (property_of node uuid)) defs)
               begun (begins_filled who m.ids node (property_of node uuid) refl))),
         ))
 
-    children : (l : Making) → IsPutWith who m.ids (property_of node uuid) p l → IfOk (with_children (completed k types who view) types view p (types_of_node types node) l) (IsPutWith who m.ids (property_of node uuid) p)
-    children l h = IfOk-weaker (with_children (completed k types who view) types view p (types_of_node types node) l) (λ j. step_at j.steps p ≡ Some (Some h.0)) (IsPutWith who m.ids (property_of node uuid) p)
+    children : (l : Making) → IsPutWith who m.ids (property_of node uuid) p l → IfOk (with_made_children (completed k types who view) types view p (types_of_node types node) l) (IsPutWith who m.ids (property_of node uuid) p)
+    children l h = IfOk-weaker (with_made_children (completed k types who view) types view p (types_of_node types node) l) (λ j. step_at j.steps p ≡ Some (Some h.0)) (IsPutWith who m.ids (property_of node uuid) p)
         (λ j at. (h.0, at, h.2))
         (children_stay types who view p (Some (Some h.0)) (completed k types who view) (λ q n j. completed_apart types who view p (Some (Some h.0)) k q n j) p (λ n. child_apart p n) (types_of_node types node) l h.1)

@@ -74,9 +74,9 @@ with_made who d n f =
     cond (same_name uuid n) (identified who n f) (Ok (with_given n (given who n d) f))
 
 -- a node with the property that a definition makes of itself, where it lacks it
-abbrev pub with_own : Who → PropDef → Filling → Result Filling Refusal
-with_own who d f = elim (lacking f.node d) [ None ↦ Ok f | Some n ↦ with_made who d n f ]
+abbrev pub with_own_property : Who → PropDef → Filling → Result Filling Refusal
+with_own_property who d f = elim (lacking f.node d) [ None ↦ Ok f | Some n ↦ with_made who d n f ]
 
 -- a node with each property that these definitions make of themselves
 abbrev pub filled : Who → List PropDef → Filling → Result Filling Refusal
-filled who = each (with_own who)
+filled who = each (with_own_property who)

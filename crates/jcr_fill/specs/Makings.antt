@@ -32,8 +32,8 @@ abbrev pub making : Steps → (ids : ℕ) → Making
 making steps ids = record { steps = steps; ids = ids }
 
 -- a node is put at a path, with so many identifiers drawn
-abbrev pub with_node : Steps → Path → Filling → Making
-with_node steps p f = record { steps = with_step steps p (Some f.node); ids = f.ids }
+abbrev pub with_filled : Steps → Path → Filling → Making
+with_filled steps p f = record { steps = with_step steps p (Some f.node); ids = f.ids }
 
 -- nobody registered the type
 abbrev pub unknown_type : List TypeDef → Name → Option Refusal
@@ -55,27 +55,27 @@ missing_child view steps p d = cond d.autocreated (option_and_then
     (λ n. option_and_then (absent_child view steps p n) d.default_type) d.name) None
 
 -- a new node of a type, with all that belongs to it by `complete`
-abbrev pub with_child : (Path → Node → Making → Result Making Refusal) → List TypeDef → Path
+abbrev pub with_made_child : (Path → Node → Making → Result Making Refusal) → List TypeDef → Path
     → (type : Name) → Making → Result Making Refusal
-with_child complete types p type m =
+with_made_child complete types p type m =
     unless_refused (child_refusal types p type) (complete p (node_of_type type) m)
 
 -- the child that a definition makes of itself is made, where it isn't there
 abbrev pub with_own_child : (Path → Node → Making → Result Making Refusal) → List TypeDef → View
     → Path → ChildDef → Making → Result Making Refusal
 with_own_child complete types view p d m = elim (missing_child view m.steps p d)
-    [ None ↦ Ok m | Some c ↦ with_child complete types c.path c.node_type m ]
+    [ None ↦ Ok m | Some c ↦ with_made_child complete types c.path c.node_type m ]
 
 -- the children that these types make of themselves, each whole before the next
-abbrev pub with_children : (Path → Node → Making → Result Making Refusal) → List TypeDef → View
+abbrev pub with_made_children : (Path → Node → Making → Result Making Refusal) → List TypeDef → View
     → Path → List TypeDef → Making → Result Making Refusal
-with_children complete types view p of m =
+with_made_children complete types view p of m =
     each (with_own_child complete types view p) (flat_map (λ d. d.children) of) m
 
 -- a node is put with the properties that these definitions make of themselves
 abbrev pub put_filled_by : Who → List PropDef → Path → Node → Making → Result Making Refusal
 put_filled_by who defs p node m = and_then (filled who defs (record { node = node; ids = m.ids }))
-    (λ f. Ok (with_node m.steps p f))
+    (λ f. Ok (with_filled m.steps p f))
 
 -- a node is put with the properties that its types make of themselves
 abbrev pub put_filled : List TypeDef → Who → Path → Node → Making → Result Making Refusal
@@ -86,9 +86,9 @@ put_filled types who p node m =
 unfoldable pub completed : (levels : ℕ) → List TypeDef → Who → View → Path → Node → Making
     → Result Making Refusal
 completed zero types who view p node m =
-    Ok (with_node m.steps p (record { node = node; ids = m.ids }))
+    Ok (with_filled m.steps p (record { node = node; ids = m.ids }))
 completed (suc levels) types who view p node m = and_then (put_filled types who p node m)
-    (with_children (completed levels types who view) types view p (types_of_node types node))
+    (with_made_children (completed levels types who view) types view p (types_of_node types node))
 
 -- a node is put with all that belongs to it; a path has at most 64 names, so 65 levels are all
 abbrev pub complete : List TypeDef → Who → View → Path → Node → Making → Result Making Refusal

@@ -6,7 +6,7 @@ ghost use Rattle.jr_items.specs.Refusals.{IsTheRefusal, out_of_memory};
 ghost use Rattle.jr_tree.specs.Trees.{node_of_type};
 ghost use Rattle.jr_overlay.specs.Overlays.{sighted};
 ghost use Rattle.jcr_write.specs.Places.{IsDueRefusal, types_of_node};
-ghost use Rattle.jcr_fill.specs.Makings.{absent_child, child_refusal, complete, completed, making, missing_child, put_filled, put_filled_by, unknown_type, with_child, with_children, with_node, with_own_child};
+ghost use Rattle.jcr_fill.specs.Makings.{absent_child, child_refusal, complete, completed, making, missing_child, put_filled, put_filled_by, unknown_type, with_made_child, with_made_children, with_filled, with_own_child};
 ghost use Rattle.jcr_fill.specs.Steps.{and_then, each};
 
 use crate::fill::{Filling, fill};
@@ -135,11 +135,11 @@ fn complete_by(
     requires levels { levels ≤ 64 }
     ensures sight { draft.new.sight ≡ draft.old.sight }
     ensures ok { OnOk result (and_then (put_filled types.now who.now path.now node
-        (making draft.old.steps ids.old)) (with_children (completed levels types.now who.now
+        (making draft.old.steps ids.old)) (with_made_children (completed levels types.now who.now
         (sighted draft.old.sight)) types.now (sighted draft.old.sight) path.now
         (types_of_node types.now node)) ≡ Ok (making draft.new.steps ids.new)) }
     ensures err { IfErr result (IsDueRefusal (and_then (put_filled types.now who.now path.now node
-        (making draft.old.steps ids.old)) (with_children (completed levels types.now who.now
+        (making draft.old.steps ids.old)) (with_made_children (completed levels types.now who.now
         (sighted draft.old.sight)) types.now (sighted draft.old.sight) path.now
         (types_of_node types.now node)))) }
 {
@@ -163,11 +163,11 @@ fn make_children(
 ) -> Result<(), Refusal>
     requires { levels ≤ 64 }
     ensures sight { draft.new.sight ≡ draft.old.sight }
-    ensures ok { OnOk result (with_children (completed levels types.now who.now
+    ensures ok { OnOk result (with_made_children (completed levels types.now who.now
         (sighted draft.old.sight)) types.now (sighted draft.old.sight) path.now
         (map (λ d. d.now) of.now) (making draft.old.steps ids.old)
         ≡ Ok (making draft.new.steps ids.new)) }
-    ensures err { IfErr result (IsDueRefusal (with_children (completed levels types.now who.now
+    ensures err { IfErr result (IsDueRefusal (with_made_children (completed levels types.now who.now
         (sighted draft.old.sight)) types.now (sighted draft.old.sight) path.now
         (map (λ d. d.now) of.now) (making draft.old.steps ids.old))) }
 {
@@ -245,10 +245,10 @@ fn make_child(
 ) -> Result<(), Refusal>
     requires { levels ≤ 64 }
     ensures sight { draft.new.sight ≡ draft.old.sight }
-    ensures ok { OnOk result (with_child (completed levels types.now who.now
+    ensures ok { OnOk result (with_made_child (completed levels types.now who.now
         (sighted draft.old.sight)) types.now child.now.path child.now.node_type
         (making draft.old.steps ids.old) ≡ Ok (making draft.new.steps ids.new)) }
-    ensures err { IfErr result (IsDueRefusal (with_child (completed levels types.now who.now
+    ensures err { IfErr result (IsDueRefusal (with_made_child (completed levels types.now who.now
         (sighted draft.old.sight)) types.now child.now.path child.now.node_type
         (making draft.old.steps ids.old))) }
 {
@@ -355,7 +355,7 @@ fn put_filling(
 ) -> Result<(), Refusal>
     ensures sight { draft.new.sight ≡ draft.old.sight }
     ensures ok { OnOk result (making draft.new.steps ids.new
-        ≡ with_node draft.old.steps path.now filling) }
+        ≡ with_filled draft.old.steps path.now filling) }
     ensures err { IfErr result (λ refusal. refusal ≡ out_of_memory) }
 {
     *ids = filling.ids;

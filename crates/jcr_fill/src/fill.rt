@@ -4,7 +4,7 @@ ghost use Rattle.std.specs.Option.{option_copied};
 ghost use Rattle.std.specs.String.{string_bytes};
 ghost use Rattle.jr_items.specs.Items.{property_of};
 ghost use Rattle.jcr_write.specs.Places.{IsDueRefusal, with_property};
-ghost use Rattle.jcr_fill.specs.Filled.{by_default, filled, given, identified, is_date, is_user, lacking, next_identifier, next_text, user_name, with_given, with_made, with_own};
+ghost use Rattle.jcr_fill.specs.Filled.{by_default, filled, given, identified, is_date, is_user, lacking, next_identifier, next_text, user_name, with_given, with_made, with_own_property};
 ghost use Rattle.jr_value.specs.Values.{kind_of};
 ghost use Rattle.jr_value.specs.declared.value.Property.TheVariants.{Many, Single};
 ghost use Rattle.jr_value.specs.declared.value.Value.TheVariants as value;
@@ -45,8 +45,8 @@ pub(crate) fn fill(
 
 // Puts the property that a definition makes of itself, where the node lacks it.
 fn fill_by(alloc: Global, who: &Who, filling: &mut Filling, def: &PropDef) -> Result<(), Refusal>
-    ensures ok { OnOk result (with_own who.now def.now filling.old ≡ Ok filling.new) }
-    ensures err { IfErr result (IsDueRefusal (with_own who.now def.now filling.old)) }
+    ensures ok { OnOk result (with_own_property who.now def.now filling.old ≡ Ok filling.new) }
+    ensures err { IfErr result (IsDueRefusal (with_own_property who.now def.now filling.old)) }
 {
     match lacking(&filling.node, def) {
         Some(name) => fill_named(alloc, who, filling, def, name),

@@ -43,12 +43,12 @@ abbrev pub is_copied : List TypeDef → Node → Name → Property → Bool
 is_copied types node n x = not (is_frozen_name n) && property_has asked.Kept types node n x
 
 -- the name is that of a node's type or of its mixins
-abbrev pub is_type_name : Name → Bool
-is_type_name n = same_name primary_type n || same_name mixin_types n
+abbrev pub is_type_property : Name → Bool
+is_type_property n = same_name primary_type n || same_name mixin_types n
 
 -- a version doesn't keep the property of the node, and it isn't the node's types: a restore leaves it
 abbrev pub is_unkept : List TypeDef → Node → Name → Property → Bool
-is_unkept types node n x = not (is_type_name n) && not (property_has asked.Kept types node n x)
+is_unkept types node n x = not (is_type_property n) && not (property_has asked.Kept types node n x)
 
 -- the property is in this share of the node's properties
 abbrev pub is_in_share : Share → List TypeDef → Node → Name → Property → Bool
@@ -66,21 +66,21 @@ abbrev pub share_of : Share → List TypeDef → Node → List (Name × Property
 share_of s types node = fold (with_in_share s types node) [] node.props
 
 -- one property more, if there is one
-abbrev pub with_property : List (Name × Property) → Name → Option Property → List (Name × Property)
-with_property props n None = props
-with_property props n (Some x) = insert_entry name_cmp props n x
+abbrev pub with_optional_property : List (Name × Property) → Name → Option Property → List (Name × Property)
+with_optional_property props n None = props
+with_optional_property props n (Some x) = insert_entry name_cmp props n x
 
 -- what each frozen node has for itself: its type, and the node's type, mixins and `jcr:uuid`, of any
 -- kind, under other names
-abbrev pub with_own : Node → List (Name × Property) → List (Name × Property)
-with_own node props =
+abbrev pub with_frozen_own : Node → List (Name × Property) → List (Name × Property)
+with_frozen_own node props =
     let typed = insert_entry name_cmp props primary_type (Single (value.Name frozen_type)) in
-    let told = with_property (with_property typed frozen_primary_type (property_of node primary_type)) frozen_mixin_types (property_of node mixin_types) in
-    with_property told frozen_uuid (property_of node uuid)
+    let told = with_optional_property (with_optional_property typed frozen_primary_type (property_of node primary_type)) frozen_mixin_types (property_of node mixin_types) in
+    with_optional_property told frozen_uuid (property_of node uuid)
 
 -- the properties of a node's frozen node
 abbrev pub frozen_props : List TypeDef → Node → List (Name × Property)
-frozen_props types node = with_own node (share_of share.Copied types node)
+frozen_props types node = with_frozen_own node (share_of share.Copied types node)
 
 -- the frozen node of a node
 abbrev pub frozen_copy : List TypeDef → Node → Node

@@ -13,7 +13,7 @@ use Rattle.jr_items.specs.Names.{predecessors, uuid, version_labels}
 use Rattle.jr_items.specs.Items.{child_path, first_some, is_versionable, many_references, one_text, same_name}
 use Rattle.jr_items.specs.Refusals.{no_identifier, place_refusal, unsupported, when}
 use Rattle.jcr_ref.specs.References.{uuid_text}
-use Rattle.jcr_ref.specs.Histories.{has_history, history_of, number_by, version_names}
+use Rattle.jcr_ref.specs.Histories.{has_history, version_history_of, number_by, version_names}
 
 -- the path of the child of that name, where there is a node
 abbrev pub child_there : Nodes → Path → Name → Option Path
@@ -36,20 +36,20 @@ abbrev pub version_name : ℕ → Name
 version_name k = codes "v" ++ decimal k
 
 -- the number of the identifier of the node at a path
-unfoldable pub number_of : Nodes → Path → Option ℕ
-number_of t p = option_and_then identifier_named (one_text (property_at t p uuid))
+unfoldable pub id_number : Nodes → Path → Option ℕ
+id_number t p = option_and_then identifier_named (one_text (property_at t p uuid))
 
 -- one of the references names the node
-abbrev pub is_named : (references : List ℕ) → Nodes → Path → Bool
-is_named refs t q = option_map_or (λ n. list_any (λ m. m == n) refs) (number_of t q) false
+abbrev pub is_referenced : (references : List ℕ) → Nodes → Path → Bool
+is_referenced refs t q = option_map_or (λ n. list_any (λ m. m == n) refs) (id_number t q) false
 
 -- the node has the identifier of that number
 abbrev pub is_numbered : ℕ → Nodes → Path → Bool
-is_numbered k t q = option_map_or (λ n. n == k) (number_of t q) false
+is_numbered k t q = option_map_or (λ n. n == k) (id_number t q) false
 
 -- the versions in the node's history that its `jcr:predecessors` name
 abbrev pub predecessors_of : Nodes → Path → List Path
-predecessors_of t p = filter (is_named (many_references (property_at t p predecessors)) t) (versions_of t (history_of t p))
+predecessors_of t p = filter (is_referenced (many_references (property_at t p predecessors)) t) (versions_of t (version_history_of t p))
 
 -- the text of the session's next identifier
 unfoldable pub drawn_id : Who → List ℕ
@@ -61,7 +61,7 @@ has_versions t p = is_versionable t p && has_history t p
 
 -- the node's history, if it has one
 abbrev pub history_there : Nodes → Path → Option Path
-history_there t p = cond (has_versions t p) (Some (history_of t p)) None
+history_there t p = cond (has_versions t p) (Some (version_history_of t p)) None
 
 -- the command asks for versions
 abbrev pub unversioned : (command : List ℕ) → Nodes → Path → Option Refusal

@@ -4,7 +4,7 @@ ghost use Rattle.std.specs.Option.{option_copied, option_map_or};
 ghost use Rattle.jr_path.specs.Names.{parent_of};
 ghost use Rattle.jr_items.specs.Items.{is_versionable, property_of};
 ghost use Rattle.jr_items.specs.Own.{own_name};
-ghost use Rattle.jcr_frozen.specs.Frozen.{aborting, aborting_at, aborting_property, frozen_copy, frozen_tree, is_aborting, is_copied, is_frozen_along, is_frozen_down, is_frozen_name, is_frozen_with, is_in_share, is_type_name, is_unkept, share_of, with_own, with_property, with_in_share};
+ghost use Rattle.jcr_frozen.specs.Frozen.{aborting, aborting_at, aborting_property, frozen_copy, frozen_tree, is_aborting, is_copied, is_frozen_along, is_frozen_down, is_frozen_name, is_frozen_with, is_in_share, is_type_property, is_unkept, share_of, with_frozen_own, with_optional_property, with_in_share};
 
 use crate::attributes::{Asked, node_has, property_has};
 use jr_items::{OwnName, has_mixin};
@@ -218,7 +218,7 @@ fn is_left(
 }
 
 fn is_type_name(name: &Name) -> bool
-    ensures { result ≡ is_type_name name.now }
+    ensures { result ≡ is_type_property name.now }
 {
     OwnName::PrimaryType.is(name) || OwnName::MixinTypes.is(name)
 }
@@ -252,7 +252,7 @@ pub fn is_frozen_name(name: &Name) -> bool
 // The frozen node's own type, and the node's type, mixins and `jcr:uuid`, of any kind, under other
 // names.
 fn put_own(props: &mut Keyed<Name, Property>, alloc: Global, node: &Node) -> Result<(), AllocError>
-    ensures { OnOk result (props.new ≡ with_own node.now props.old) }
+    ensures { OnOk result (props.new ≡ with_frozen_own node.now props.old) }
 {
     let key = OwnName::PrimaryType.name(alloc)?;
     let own = OwnName::FrozenType.name(alloc)?;
@@ -282,7 +282,7 @@ pub fn put_told(
     name: OwnName,
     other: OwnName,
 ) -> Result<(), AllocError>
-    ensures { OnOk result (props.new ≡ with_property props.old (own_name other) (property_of node.now (own_name name))) }
+    ensures { OnOk result (props.new ≡ with_optional_property props.old (own_name other) (property_of node.now (own_name name))) }
 {
     let name = name.name(alloc)?;
     put_property(props, alloc, other, node.props.get(&name))
@@ -295,7 +295,7 @@ pub fn put_property(
     name: OwnName,
     property: Option<&Property>,
 ) -> Result<(), AllocError>
-    ensures { OnOk result (props.new ≡ with_property props.old (own_name name) (option_copied property.entry)) }
+    ensures { OnOk result (props.new ≡ with_optional_property props.old (own_name name) (option_copied property.entry)) }
 {
     match property {
         Some(property) => props.put(name.name(alloc)?, property.copy()?),

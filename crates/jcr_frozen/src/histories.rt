@@ -10,8 +10,8 @@ ghost use Rattle.jr_items.specs.Names.{uuid, version_storage};
 ghost use Rattle.jr_items.specs.Own.{own_name};
 ghost use Rattle.jr_items.specs.Refusals.{IsTheRefusal};
 ghost use Rattle.jcr_ref.specs.References.{identifier_of};
-ghost use Rattle.jcr_ref.specs.Histories.{history_of, number_at};
-ghost use Rattle.jcr_frozen.specs.Histories.{child_there, history_there, is_named, is_numbered, no_version, no_versions, number_of, unversioned, version_name, version_there, versions_of};
+ghost use Rattle.jcr_ref.specs.Histories.{version_history_of, number_at};
+ghost use Rattle.jcr_frozen.specs.Histories.{child_there, history_there, is_referenced, is_numbered, no_version, no_versions, id_number, unversioned, version_name, version_there, versions_of};
 
 use crate::frozen::is_versionable;
 use jcr_ref::version_names;
@@ -24,7 +24,7 @@ use std::alloc::{AllocError, Global};
 /// The history of a versionable node (JSR 283, 3.13.2 Version History), for a command. Refused, in this order: the path, as
 /// every version command; 12 with the command where the node isn't versionable or has no history.
 pub fn find_history(alloc: Global, command: &str, tree: &Tree, path: &Path) -> Result<Path, Refusal>
-    ensures history { IfOk result (λ history. history ≡ history_of tree.now path.now) }
+    ensures history { IfOk result (λ history. history ≡ version_history_of tree.now path.now) }
     ensures ok { OnOk result (no_versions command.now tree.now path.now ≡ None) }
     ensures err { IfErr result (IsTheRefusal (no_versions command.now tree.now path.now)) }
 {
@@ -36,7 +36,7 @@ pub fn find_history(alloc: Global, command: &str, tree: &Tree, path: &Path) -> R
 
 #[tactic(auto, using(crate::proofs::Found::some_of, crate::proofs::Found::none_of))]
 fn versioned(alloc: Global, command: &str, tree: &Tree, path: &Path) -> Result<Path, Refusal>
-    ensures history { IfOk result (λ history. history ≡ history_of tree.now path.now) }
+    ensures history { IfOk result (λ history. history ≡ version_history_of tree.now path.now) }
     ensures ok { OnOk result (unversioned command.now tree.now path.now ≡ None) }
     ensures err { IfErr result (IsTheRefusal (unversioned command.now tree.now path.now)) }
 {
@@ -225,10 +225,10 @@ pub fn one_reference(property: Option<&Property>) -> Option<u128>
 }
 
 /// The number of the identifier of the node at a path. The name `jcr:uuid` is lent by the caller.
-#[tactic(auto, unfolding(crate::specs::Histories::number_of))]
+#[tactic(auto, unfolding(crate::specs::Histories::id_number))]
 pub(crate) fn number_of(tree: &Tree, key: &Name, path: &Path) -> Option<u128>
     requires { key.now ≡ uuid }
-    ensures { result ≡ number_of tree.now path.now }
+    ensures { result ≡ id_number tree.now path.now }
 {
     match one_text(tree.property(path, key)) {
         Some(text) => identifier_named(text),
@@ -237,7 +237,7 @@ pub(crate) fn number_of(tree: &Tree, key: &Name, path: &Path) -> Option<u128>
 }
 
 /// The number of the node's identifier, 0 where it has none of that form.
-#[tactic(auto, unfolding(crate::specs::Histories::number_of))]
+#[tactic(auto, unfolding(crate::specs::Histories::id_number))]
 pub fn number_at(alloc: Global, tree: &Tree, path: &Path) -> Result<u128, AllocError>
     ensures { IfOk result (λ number. number ≡ number_at tree.now path.now) }
 {
@@ -248,7 +248,7 @@ pub fn number_at(alloc: Global, tree: &Tree, path: &Path) -> Result<u128, AllocE
 /// Whether one of the references names the node at a path. The name `jcr:uuid` is lent by the caller.
 pub fn is_named(tree: &Tree, key: &Name, references: &[u128], path: &Path) -> bool
     requires { key.now ≡ uuid }
-    ensures { result ≡ is_named references.now tree.now path.now }
+    ensures { result ≡ is_referenced references.now tree.now path.now }
 {
     match number_of(tree, key, path) {
         Some(number) => is_among(number, references),

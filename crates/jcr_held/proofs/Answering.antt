@@ -23,7 +23,7 @@ use Rattle.jcr_trans.specs.Texts.{answer_text}
 use Rattle.jcr_trans.specs.declared.command.Command.{Command}
 use Rattle.jcr_trans.specs.declared.command.Command.TheVariants as command
 use Rattle.jcr_view.specs.Needs.{needs_of}
-use Rattle.jcr_view.specs.Outcomes.{Evaluated, Outcome, eval, is_viewed, is_writing, made_outcome, outcome, shown_outcome, written}
+use Rattle.jcr_view.specs.Outcomes.{Evaluated, CommandOutcome, eval, is_viewed, is_writing, made_outcome, outcome, shown_outcome, written_outcome}
 use Rattle.jcr_read.specs.Reading.{refused, shown}
 use Rattle.jcr_view.specs.Parts.{IsPartOf}
 use Rattle.jcr_law.specs.declared.state.State.{State}
@@ -116,7 +116,7 @@ refused_makes_none true ids (Err e) shown r h = (refl, refl)
 refused_makes_none false ids made shown r h = (refl, refl)
 
 -- what makes nothing leaves what is held
-leaves : (x : Held) (o : Outcome) → o.steps ≡ [] → o.ids ≡ x.who.ids → with_outcome x o ≡ x
+leaves : (x : Held) (o : CommandOutcome) → o.steps ≡ [] → o.ids ≡ x.who.ids → with_outcome x o ≡ x
 leaves x o none drawn =
     ap (λ (s : Steps). record x { pending = with_steps x.part.nodes x.pending s; who = record x.who { ids = o.ids } }) none
     ∙ ap (λ (n : ℕ). record x { who = record x.who { ids = n } }) drawn
@@ -125,7 +125,7 @@ refused_leaves : (x : Held) (m : Command) (r : Refusal) → (outcome_of x m).ans
     → with_outcome x (outcome_of x m) ≡ x
 refused_leaves x m r h =
     let none = refused_makes_none (is_writing m) x.who.ids
-    (written x.types x.who (known_view x.part x.pending) m (making [] x.who.ids))
+    (written_outcome x.types x.who (known_view x.part x.pending) m (making [] x.who.ids))
     (shown x.types (known_view x.part x.pending) x.part.nodes m) r h in
     leaves x (outcome_of x m) none.0 none.1
 
@@ -140,7 +140,7 @@ unaccepted_leaves : (x : Held) (m : Command) → is_ok_text (answer_text (outcom
     → with_outcome x (outcome_of x m) ≡ x
 unaccepted_leaves x m h =
     let none = unaccepted_makes_none (is_writing m) x.who.ids
-    (written x.types x.who (known_view x.part x.pending) m (making [] x.who.ids))
+    (written_outcome x.types x.who (known_view x.part x.pending) m (making [] x.who.ids))
     (shown x.types (known_view x.part x.pending) x.part.nodes m) h in
     leaves x (outcome_of x m) none.0 none.1
 
@@ -179,7 +179,7 @@ module _ (enough : (types : List TypeDef) (who : Who) (t : Nodes) (k : Knowledge
     ≡ (eval types who t (view_of t p) m).view)
     (c : Call) (x : Held) (m : Command) (holds : Holds c x) (settled : x.is_kept ≡ false)
     (known : All (LacksNothing x.part) (needs_of x.who x.part x.pending m)) where
-  abbrev o : Outcome
+  abbrev o : CommandOutcome
   o = outcome_of x m
 
   abbrev e : Evaluated
@@ -189,7 +189,7 @@ module _ (enough : (types : List TypeDef) (who : Who) (t : Nodes) (k : Knowledge
   seen = view_settled c x settled holds
 
   -- what is known is seen as the law has it
-  as_law : (P : Outcome → Type 0)
+  as_law : (P : CommandOutcome → Type 0)
       → P (outcome c.types c.who (whole_view c.state.view) c.base m) → P o
   as_law P h = subst P (sym (enough x.types x.who c.base x.part x.pending m seen.0 known
       ∙ ap (λ (t : List TypeDef). outcome t x.who (whole_view (view_of c.base x.pending)) c.base m) holds.types
@@ -217,7 +217,7 @@ module _ (enough : (types : List TypeDef) (who : Who) (t : Nodes) (k : Knowledge
   counts = record {
     types = holds.types;
     who = ap (λ (w : Who). record w { ids = o.ids }) holds.who
-        ∙ as_law (λ (d : Outcome). record c.who { ids = d.ids } ≡ record c.who { ids = e.ids }) refl;
+        ∙ as_law (λ (d : CommandOutcome). record c.who { ids = d.ids } ≡ record c.who { ids = e.ids }) refl;
     ids = refl;
     tokens = holds.tokens;
     cursor = holds.cursor;
@@ -236,7 +236,7 @@ module _ (enough : (types : List TypeDef) (who : Who) (t : Nodes) (k : Knowledge
   pub is_seen : is_viewed m ≡ true → is_of_tokens m ≡ false → (text : List ℕ) → text ≡ answer_text o.answer
       → IsSeen c m (with_drawn (with_outcome x o) 0) text
   is_seen of_view other text is = record {
-    text = is ∙ as_law (λ (d : Outcome). answer_text d.answer ≡ answer_text e.answer) refl;
+    text = is ∙ as_law (λ (d : CommandOutcome). answer_text d.answer ≡ answer_text e.answer) refl;
     holds = subst (λ (n : ℕ). Holds (call_after (is_ok_text text) false c m) (with_drawn (with_outcome x o) n))
         (viewed_uses_none (is_ok_text text) m of_view)
         (holds_counted c (with_outcome x o) (cond (is_ok_text text) (accepted c m) c.state) (is_ok_text text) false m

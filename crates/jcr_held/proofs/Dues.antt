@@ -17,7 +17,7 @@ use Rattle.jcr_call.specs.declared.coming.Coming.{Coming}
 use Rattle.jcr_call.specs.declared.due.Due.{Due}
 use Rattle.jcr_call.specs.declared.footing.Footing.{Footing}
 use Rattle.jcr_call.specs.Comings.{IsComing}
-use Rattle.jcr_call.specs.Dues.{due_at_once, due_of}
+use Rattle.jcr_call.specs.Dues.{due_at_once, writes_due}
 use Rattle.jcr_call.specs.Footings.{IsOn}
 use Rattle.jcr_call.proofs.AtOnce.{at_once}
 use Rattle.jcr_held.specs.declared.held.Held.{Held}
@@ -65,28 +65,28 @@ due_there c (command.Unlabel p label) h other = refl
 due_there c (command.Restore p version) h other = refl
 due_there c m h other = absurd (false≢true h)
 
-some_of : (found : Option Due) (due : Option (Result (List Write) Refusal)) → option_map due_of found ≡ due
+some_of : (found : Option Due) (due : Option (Result (List Write) Refusal)) → option_map writes_due found ≡ due
     → is_some due ≡ true → is_some found ≡ true
 some_of (Some d) due is some = refl
 some_of None due is some = absurd (false≢true (ap is_some is ∙ some))
 
 -- something is due of a command that commits, other than `save`
 pub is_due : (f : Footing) (m : Command) → commits m ≡ true → ¬ (m ≡ command.Save) → (result : Result (Option Due) AllocError)
-    → ((c : Call) → IsOn f c → IfOk result (λ found. option_map due_of found ≡ due_at_once c m))
+    → ((c : Call) → IsOn f c → IfOk result (λ found. option_map writes_due found ≡ due_at_once c m))
     → IfOk result (λ found. is_some found ≡ true)
 is_due f m h other (Ok found) at_once = some_of found _ (at_once (call_on f) (is_on f)) (due_there (call_on f) m h other)
 is_due f m h other (Err e) at_once = tt
 
 pub due_as_law : (c : Call) (m : Command) → ¬ (m ≡ command.Save) → (result : Result (Option Due) AllocError)
-    → IfOk result (λ found. option_map due_of found ≡ due_at_once c m)
-    → IfOk result (λ found. option_map due_of found ≡ edit_due c m)
+    → IfOk result (λ found. option_map writes_due found ≡ due_at_once c m)
+    → IfOk result (λ found. option_map writes_due found ≡ edit_due c m)
 due_as_law c m other (Ok found) is = is ∙ at_once c m other
 due_as_law c m other (Err e) is = tt
 
 -- what is due comes to this
-pub comes_to : (c : Call) (m : Command) (due : Due) (result : Result Coming AllocError) → edit_due c m ≡ Some (due_of due)
-    → IfOk result (IsComing c m (due_of due)) → IfOk result (ComesTo c m)
-comes_to c m due (Ok coming) is comes = record { due = due_of due; is_due = is; comes = comes }
+pub comes_to : (c : Call) (m : Command) (due : Due) (result : Result Coming AllocError) → edit_due c m ≡ Some (writes_due due)
+    → IfOk result (IsComing c m (writes_due due)) → IfOk result (ComesTo c m)
+comes_to c m due (Ok coming) is comes = record { due = writes_due due; is_due = is; comes = comes }
 comes_to c m due (Err e) is comes = tt
 
 abbrev due_edit : List Write → Option (Result (List Write) Refusal)
@@ -94,8 +94,8 @@ due_edit ws = Some (Ok ws)
 
 -- of `save` what is pending is due
 pub pending_due : (c : Call) (x : Held) (m : Command) (result : Result (Option Due) AllocError) → x.is_kept ≡ false → Holds c x
-    → m ≡ command.Save → IfOk result (λ found. option_map due_of found ≡ Some (Ok (edit_of x.pending)))
-    → IfOk result (λ found. option_map due_of found ≡ edit_due c m)
+    → m ≡ command.Save → IfOk result (λ found. option_map writes_due found ≡ Some (Ok (edit_of x.pending)))
+    → IfOk result (λ found. option_map writes_due found ≡ edit_due c m)
 pending_due c x m (Ok found) settled h save is =
     is ∙ ap due_edit (pending_changes c x settled h)
     ∙ sym (ap (edit_due c) save)

@@ -25,7 +25,7 @@ use Rattle.jcr_law.specs.State.{Call}
 use Rattle.jcr_held.specs.declared.held.Held.{Held}
 use Rattle.jcr_held.specs.Alike.{AreAlike}
 use Rattle.jcr_held.specs.Holds.{Holds, HoldsView, asks_for}
-use Rattle.jcr_held.specs.Looking.{IsLackingOf, IsListed, IsMetFirst, IsNearTouched, touched_paths, with_above}
+use Rattle.jcr_held.specs.Looking.{IsLackingOf, IsKnownChild, IsMetFirst, IsNearTouched, touched_paths, with_above}
 use Rattle.jcr_held.proofs.OnTheWay.{of_load}
 use Rattle.jcr_held.specs.Unread.{IsWanted, asked_paths, kept_paths, may_load, unread}
 
@@ -177,7 +177,7 @@ touched_in (e ∷ c) p q touched near = by (eq_by_cmp path_cmp p e.0) refl touch
     by false same touched rest = Contains-append_right (with_above e.0) (touched_paths c) q (rest touched near)
 
 module _ (c : Call) (x : Held) (h : Holds c x) (m : Command) where
-  listed_may : (q : Path) → IsListed x.part q → Contains (may_load c x m) (need.Node q)
+  listed_may : (q : Path) → IsKnownChild x.part q → Contains (may_load c x m) (need.Node q)
   listed_may q l =
       subst (λ (r : Path). Contains (may_load c x m) (need.Node r)) (sym l.path)
       (there_loadable (kept_paths x ++ asked_paths c m) c.base (l.parent ++ l.name ∷ [])
@@ -198,7 +198,7 @@ module _ (c : Call) (x : Held) (h : Holds c x) (m : Command) where
   met_may : (n : Need) → IsMetFirst x.part x.pending x.is_kept n → Contains (may_load c x m) n
   met_may (need.Node q) met = by met.met
     where
-      by : IsListed x.part q ⊎ ((x.is_kept ≡ true) × IsNearTouched x.pending q) → Contains (may_load c x m) (need.Node q)
+      by : IsKnownChild x.part q ⊎ ((x.is_kept ≡ true) × IsNearTouched x.pending q) → Contains (may_load c x m) (need.Node q)
       by (inl listed) = listed_may q listed
       by (inr near) = touched_may q near.0 near.1
   met_may (need.Children p) met =

@@ -25,7 +25,7 @@ use Rattle.jr_tree.specs.Trees.{IsTree, Nodes, node_at, property_at}
 use Rattle.jr_tree.specs.Edits.{applied, is_change}
 use Rattle.jr_tree.specs.Items.{put_of, written}
 use Rattle.jr_tree.proofs.EditLaw.{Orderly-all, property_applied}
-use Rattle.jr_items.specs.Items.{first_some, needed, upward}
+use Rattle.jr_items.specs.Items.{first_some, needed_writes, upward}
 use Rattle.jr_items.specs.Names.{lock_is_deep, lock_owner}
 use Rattle.jr_items.specs.Refusals.{in_system, locked, no_item, no_node, or_else, place_refusal, too_deep, too_long}
 use Rattle.jcr_lock.specs.Locks.{first_lock, is_lock, lock_covers, lock_edit, lock_in_way, lock_refusal, lock_writes, unlockable}
@@ -144,7 +144,7 @@ module _ (t : Nodes) (tree : IsTree t) (p : Path) (deep : Bool) (token : List �
       by true = refl
       by false = refl
 
-  some_needed : lock_refusal t p deep ≡ None → has_some (needed t writes) ≡ true
+  some_needed : lock_refusal t p deep ≡ None → has_some (needed_writes t writes) ≡ true
   some_needed h =
       let place = first_none (place_refusal t p) (unlockable t p ∷ option_map locked (lock_in_way t p deep) ∷ []) h in
       let kind = first_none (unlockable t p) (option_map locked (lock_in_way t p deep) ∷ []) place.1 in
@@ -160,7 +160,7 @@ module _ (t : Nodes) (tree : IsTree t) (p : Path) (deep : Bool) (token : List �
   never_empty : is_empty (lock_edit t p deep token) ≡ false
   never_empty = by (lock_refusal t p deep) some_needed
     where
-      by : (o : Option Refusal) → (o ≡ None → has_some (needed t writes) ≡ true) → is_empty (or_else o (needed t writes)) ≡ false
+      by : (o : Option Refusal) → (o ≡ None → has_some (needed_writes t writes) ≡ true) → is_empty (or_else o (needed_writes t writes)) ≡ false
       by None some = ap not (some refl)
       by (Some r) some = refl
 

@@ -20,7 +20,7 @@ abbrev pub touched_paths : Changed → List Path
 touched_paths c = flat_map (λ e. with_above e.0) c
 
 -- the node at q is a child that is known to be below another
-pub record IsListed (k : Knowledge) (q : Path) : Type 0 where
+pub record IsKnownChild (k : Knowledge) (q : Path) : Type 0 where
   pub parent : Path
   pub name : Name
   pub path : q ≡ parent ++ name ∷ []
@@ -35,7 +35,7 @@ pub record IsNearTouched (c : Changed) (q : Path) : Type 0 where
 -- The node is known to be a child, or, where what is pending is kept, it is touched or stands above
 -- one that is; or the children are those of a node that is known to be there.
 abbrev pub IsMet : Knowledge → Changed → (kept : Bool) → Need → Type 0
-IsMet k c kept (need.Node q) = IsListed k q ⊎ (IsTrue kept × IsNearTouched c q)
+IsMet k c kept (need.Node q) = IsKnownChild k q ⊎ (IsTrue kept × IsNearTouched c q)
 IsMet k c kept (need.Children p) = IsTrue (is_some (node_at k.nodes p))
 IsMet k c kept (need.Subtree p) = ⊥
 IsMet k c kept need.All = ⊥
@@ -49,7 +49,7 @@ pub record IsMetFirst (k : Knowledge) (c : Changed) (kept : Bool) (n : Need) : T
 pub record IsUnknownChild (k : Knowledge) (n : Need) : Type 0 where
   pub at : Path
   pub node : n ≡ need.Node at
-  pub listed : IsListed k at
+  pub listed : IsKnownChild k at
   pub unknown : IsFalse (knows k n)
 
 -- the need is of the node at p or of the one above it, and isn't known

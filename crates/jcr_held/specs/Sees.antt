@@ -8,7 +8,7 @@ use Rattle.jr_overlay.specs.Drafts.{with_steps}
 use Rattle.jr_overlay.specs.Overlays.{known_view}
 use Rattle.jcr_trans.specs.Texts.{answer_text}
 use Rattle.jcr_trans.specs.declared.command.Command.{Command}
-use Rattle.jcr_view.specs.Outcomes.{Outcome, eval, outcome}
+use Rattle.jcr_view.specs.Outcomes.{CommandOutcome, eval, outcome}
 use Rattle.jcr_law.specs.State.{Call, is_ok_text}
 use Rattle.jcr_law.specs.Calls.{call_after}
 use Rattle.jcr_held.specs.declared.held.Held.{Held}
@@ -25,11 +25,11 @@ Sees c m x (Ok text) = IsSeen c m x (string_bytes text)
 Sees c m x (Err e) = Holds c x
 
 -- what a command comes to on what is known
-abbrev pub outcome_of : Held → Command → Outcome
+abbrev pub outcome_of : Held → Command → CommandOutcome
 outcome_of x m = outcome x.types x.who (known_view x.part x.pending) x.part.nodes m
 
 -- what is held once it counts
-abbrev pub with_outcome : Held → Outcome → Held
+abbrev pub with_outcome : Held → CommandOutcome → Held
 with_outcome x o = record x {
   pending = with_steps x.part.nodes x.pending o.steps;
   who = record x.who { ids = o.ids };

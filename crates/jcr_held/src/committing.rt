@@ -6,7 +6,7 @@ ghost use Rattle.jr_part.specs.declared.need.Need.TheVariants as need;
 ghost use Rattle.jr_overlay.specs.Overlays.{edit_of};
 ghost use Rattle.jr_types.specs.Rules.{TypesOk};
 ghost use Rattle.jcr_trans.specs.declared.command.Command.TheVariants.{Query};
-ghost use Rattle.jcr_call.specs.Dues.{due_of};
+ghost use Rattle.jcr_call.specs.Dues.{writes_due};
 ghost use Rattle.jcr_call.specs.Footings.{IsAsKnown, IsOn};
 ghost use Rattle.jcr_law.specs.Commits.{edit_due};
 ghost use Rattle.jcr_law.specs.Queries.{QueryAnswers};
@@ -50,7 +50,7 @@ impl Held {
         requires commits { IsTrue (commits command.now) }
         ensures some { IfOk result (λ due. IsTrue (is_some due)) }
         ensures due { (c : Call) → Holds c self.now → IsOn footing.now c → IfOk result (λ due.
-            option_map due_of due ≡ edit_due c command.now) }
+            option_map writes_due due ≡ edit_due c command.now) }
     {
         match command {
             Command::Save => self.pending_due(),
@@ -60,7 +60,7 @@ impl Held {
 
     // The edit that what is pending comes to.
     fn pending_due(&self) -> Result<Option<Due>, AllocError>
-        ensures { IfOk result (λ due. option_map due_of due
+        ensures { IfOk result (λ due. option_map writes_due due
             ≡ Some (Ok (edit_of self.now.pending))) }
     {
         let edit = self.pending.edit()?;

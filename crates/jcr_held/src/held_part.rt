@@ -5,7 +5,7 @@ ghost use Rattle.jr_path.specs.Names.{name_cmp, path_cmp};
 ghost use Rattle.jr_tree.specs.Trees.{IsTree, Nodes, node_at};
 ghost use Rattle.jr_part.specs.Parts.{AgreesWith, Lacks, LacksNothing, nothing_known, with_children, with_node};
 ghost use Rattle.jr_part.specs.declared.need.Need.TheVariants as need;
-ghost use Rattle.jcr_held.specs.Follows.{Follows};
+ghost use Rattle.jcr_held.specs.Follows.{FollowsEdit};
 
 use jr_part::{Need, Part, puts_agree};
 use jr_path::{List, Name, Path};
@@ -151,7 +151,7 @@ impl HeldPart {
     // It follows an edit by a revision, where the whole tree is known. It answers whether that is known
     // still; else nothing is.
     pub(crate) fn follow(&mut self, alloc: Global, edit: &Edit, by: Revision) -> bool
-        ensures follows { Follows self.old self.new by edit.now.writes result }
+        ensures follows { FollowsEdit self.old self.new by edit.now.writes result }
         ensures order { IsTrue (is_sorted path_cmp self.new.nodes) }
     {
         let is_whole = self.follow_or_forget(alloc, edit, by);
@@ -160,7 +160,7 @@ impl HeldPart {
     }
 
     fn follow_or_forget(&mut self, alloc: Global, edit: &Edit, by: Revision) -> bool
-        ensures { Follows self.old self.new by edit.now.writes result }
+        ensures { FollowsEdit self.old self.new by edit.now.writes result }
     {
         puts_agree();
         match self.lacks(&Need::All) {
@@ -175,7 +175,7 @@ impl HeldPart {
     // The same where nothing lacks.
     fn follow_whole(&mut self, edit: &Edit, by: Revision) -> bool
         requires { LacksNothing self.old need.All }
-        ensures { Follows self.old self.new by edit.now.writes result }
+        ensures { FollowsEdit self.old self.new by edit.now.writes result }
     {
         puts_agree();
         match self.part.apply(edit, Some(by)) {

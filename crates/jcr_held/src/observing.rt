@@ -2,7 +2,7 @@
 ghost use Rattle.std.specs.Prelude.{◌≡◌, [], IfOk, false, true};
 ghost use Rattle.std.specs.Option.{option_copied, option_map_or};
 ghost use Rattle.std.specs.String.{string_bytes};
-ghost use Rattle.jcr_observe.specs.Observed.{events_of};
+ghost use Rattle.jcr_observe.specs.Observed.{observed_events};
 ghost use Rattle.jcr_law.specs.Calls.{call_after};
 ghost use Rattle.jcr_law.specs.Queries.{events_reply};
 ghost use Rattle.jcr_law.specs.State.{Call};
@@ -44,7 +44,7 @@ impl Held {
     /// there are none.
     pub fn events_reply(&self, commits: &[CommitChanges]) -> Result<String, AllocError>
         ensures { IfOk result (λ reply. string_bytes reply ≡ events_reply (option_map_or
-            (λ (x : Standing). events_of x.filter commits.now) self.now.cursor [])) }
+            (λ (x : Standing). observed_events x.filter commits.now) self.now.cursor [])) }
     {
         let shown = self.passing(commits)?;
         events_reply(self.alloc, shown.as_slice())
@@ -53,7 +53,7 @@ impl Held {
     // The events of these commits which the cursor lets pass.
     fn passing(&self, commits: &[CommitChanges]) -> Result<Vec<JcrEvent>, AllocError>
         ensures { IfOk result (λ shown. shown.items ≡ option_map_or
-            (λ (x : Standing). events_of x.filter commits.now) self.now.cursor []) }
+            (λ (x : Standing). observed_events x.filter commits.now) self.now.cursor []) }
     {
         match &self.cursor {
             Some(cursor) => events(self.alloc, commits, &cursor.filter),

@@ -3,7 +3,7 @@ use Rattle.std.specs.Prelude.{◌≡◌, ℕ, List, Option, Some, IsTrue, IsFals
 use Rattle.std.specs.Option.{option_map_or}
 use Rattle.jr_path.specs.declared.path.Item.{Item}
 use Rattle.jr_rev.specs.declared.revision.Revision.{Revision}
-use Rattle.jr_items.specs.Refusals.{clash, out_of_memory}
+use Rattle.jr_items.specs.Refusals.{clash_refusal, out_of_memory}
 use Rattle.oak_machine.specs.declared.event.Draw.{Draw}
 use Rattle.oak_machine.specs.Commits.{is_committed, refusal_of, tree_at}
 use Rattle.oak_machine.specs.History.{History}
@@ -24,7 +24,7 @@ pub data AfterDraw (law : JcrLaw) (h : History) (s : ℕ) (m : Command) (d : Dra
       → call_of law h.begin h.past s ≡ Some c → AfterDraw law h s m d
       (answer_text (committed_answer c (tree_at h.begin h.past d.base) d.revision m))
   clash_told : (item : Item) (o : Revision) → refusal_of h.past d.revision ≡ Some (item, o)
-      → AfterDraw law h s m d (no_text (clash item o))
+      → AfterDraw law h s m d (no_text (clash_refusal item o))
   stop_told : (k position : ℕ) → slice_get h.sessions s ≡ Some k
       → stop_position h.past k ≡ Some position → AfterDraw law h s m d (no_text (stopped_at position))
   unmade : IsFalse (is_committed h.past d.revision)

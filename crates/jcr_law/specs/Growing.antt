@@ -23,7 +23,7 @@ use Rattle.oak_machine.specs.Heads.{local, published}
 use Rattle.oak_machine.specs.History.{Begin, History, Past, begin_tree}
 use Rattle.oak_machine.specs.Sessions.{base_of, drawn_since, is_attached, is_drawing, is_stopped, next_index, refreshed_since, since}
 use Rattle.jcr_observe.specs.declared.event.JcrEvent.{JcrEvent}
-use Rattle.jcr_observe.specs.Observed.{events_of}
+use Rattle.jcr_observe.specs.Observed.{observed_events}
 use Rattle.jcr_plan.specs.Plans.{PlanOk}
 use Rattle.jcr_trans.specs.Texts.{answer_text}
 use Rattle.jcr_trans.specs.declared.command.Command.{Command}
@@ -36,7 +36,7 @@ use Rattle.jcr_law.specs.Queries.{QueryAnswers, events_reply, events_since}
 use Rattle.jcr_law.specs.Since.{before_turn, came, detached_among, draw_since, is_pinning, is_unmoved, is_unpinned, stop_position}
 use Rattle.jcr_law.specs.declared.state.Cursor.{Cursor}
 use Rattle.jcr_law.specs.declared.state.State.{State}
-use Rattle.jcr_law.specs.State.{Call, call_at, call_of, command_at, state_of}
+use Rattle.jcr_law.specs.State.{Call, call_at, call_of, command_at, session_state}
 use Rattle.jcr_law.specs.Tasks.{finds_stopped, is_out, is_recovering, is_sweep, knows_published, misses}
 
 -- the commits of a past that a vector sees
@@ -50,7 +50,7 @@ pub record HasAllOf (law : JcrLaw) (begin : Begin) (s : ℕ) (old new : Past) : 
   pub draw : draw_since new s ≡ draw_since old s
   pub refreshed : refreshed_since new s ≡ refreshed_since old s
   pub base : base_of new s ≡ base_of old s
-  pub state : state_of law begin new s ≡ state_of law begin old s
+  pub state : session_state law begin new s ≡ session_state law begin old s
   pub before : before_turn new s ≡ before_turn old s
   pub still : is_unmoved new s ≡ is_unmoved old s
   pub unpinned : is_unpinned new s ≡ is_unpinned old s
@@ -122,14 +122,14 @@ module _ (law : JcrLaw) (clusters : ℕ) (sessions : List ℕ) (begin : Begin) (
 
   -- what the next command is run with
   pub call_same : call_of law begin new s ≡ call_of law begin old s
-  call_same = ap (λ (o : Option RevVec). option_map (λ v. call_at law begin new s v (state_of law begin new s)) o) grows.base
+  call_same = ap (λ (o : Option RevVec). option_map (λ v. call_at law begin new s v (session_state law begin new s)) o) grows.base
       ∙ (ap (λ (x : State). option_map (λ v. call_at law begin new s v x) (base_of old s)) grows.state
       ∙ by (base_of old s) (λ v is. trees_same begin old new v (grows.edits v is)))
     where
       by : (o : Option RevVec) → ((v : RevVec) → o ≡ Some v → tree_at begin new v ≡ tree_at begin old v)
-          → option_map (λ v. call_at law begin new s v (state_of law begin old s)) o ≡ option_map (λ v. call_at law begin old s v (state_of law begin old s)) o
+          → option_map (λ v. call_at law begin new s v (session_state law begin old s)) o ≡ option_map (λ v. call_at law begin old s v (session_state law begin old s)) o
       by None h = refl
-      by (Some v) h = ap (λ (t : Nodes). Some (record (call_at law begin old s v (state_of law begin old s)) { base = t })) (h v refl)
+      by (Some v) h = ap (λ (t : Nodes). Some (record (call_at law begin old s v (session_state law begin old s)) { base = t })) (h v refl)
 
   pub asked_same : (m : Command) → asked_by at_new s m ≡ asked_by at_old s m
   asked_same m = ap (λ (p : Past). asked (is_attached p s) m) grows.before
@@ -150,13 +150,13 @@ module _ (law : JcrLaw) (clusters : ℕ) (sessions : List ℕ) (begin : Begin) (
   -- the events since a cursor
   events_same : (v : RevVec) → base_of old s ≡ Some v → (o : Option Cursor) → events_since begin new v o ≡ events_since begin old v o
   events_same v is None = refl
-  events_same v is (Some x) = ap (events_of x.filter) (changes_same begin old new v (grows.edits v is) x.at)
+  events_same v is (Some x) = ap (observed_events x.filter) (changes_same begin old new v (grows.edits v is) x.at)
 
   -- the base that a call is made at
   base_of_call : (c : Call) → call_of law begin old s ≡ Some c → base_of old s ≡ Some c.who.base
   base_of_call c is = by (base_of old s) is
     where
-      by : (o : Option RevVec) → option_map (λ v. call_at law begin old s v (state_of law begin old s)) o ≡ Some c → o ≡ Some c.who.base
+      by : (o : Option RevVec) → option_map (λ v. call_at law begin old s v (session_state law begin old s)) o ≡ Some c → o ≡ Some c.who.base
       by None h = cc
       by (Some v) h = ap (λ (x : Option Call). option_map (λ y. y.who.base) x) h
 

@@ -13,7 +13,7 @@ use Rattle.jr_value.specs.declared.value.Value.{Value}
 use Rattle.jr_tree.specs.declared.edit.Edit.{Edit}
 use Rattle.jr_tree.specs.declared.edit.Write.{Write}
 use Rattle.jr_tree.specs.declared.shared.Refusal.{Refusal}
-use Rattle.jr_items.specs.Refusals.{clash, limit_refusal, no_checkpoint, out_of_memory, unsupported}
+use Rattle.jr_items.specs.Refusals.{clash_refusal, limit_refusal, no_checkpoint, out_of_memory, unsupported}
 use Rattle.oak_clash.specs.declared.mark.MarkAt.{MarkAt}
 use Rattle.oak_doc.specs.declared.asks.Collected.{Collected}
 use Rattle.oak_doc.specs.declared.asks.SplitEnd.{SplitEnd}
@@ -37,7 +37,7 @@ use Rattle.jcr_law.specs.Built.{Asked, Allowed, Unsupported, asked}
 use Rattle.jcr_law.specs.Commits.{committed_answer, edit_due, refusal_of_due, unwritten_answer}
 use Rattle.jcr_law.specs.Queries.{QueryAnswers, events_reply, events_since}
 use Rattle.jcr_law.specs.Since.{before_turn, came, detached_among, draw_since, is_pinning, is_unmoved, is_unpinned, stop_position}
-use Rattle.jcr_law.specs.State.{Call, call_of, command_at, next_id, state_of}
+use Rattle.jcr_law.specs.State.{Call, call_of, command_at, next_id, session_state}
 use Rattle.jcr_law.specs.Tasks.{collected_data, finds_stopped, is_out, is_recovering, is_sweep, knows_published, misses, split_data, split_refusal, stopped_at}
 
 -- the next command of s is that one, and is run so
@@ -129,7 +129,7 @@ pub data MaySay (law : JcrLaw) (h : History) (s : ℕ) : Asked → List ℕ → 
   -- the commit was refused for a clash
   clashed : (m : Command) (r o : Revision) (item : Item) → drawn_since h.past s ≡ Some r
       → IsTrue (is_ended h.past r) → refusal_of h.past r ≡ Some (item, o)
-      → IsUnmoved h s → MaySay law h s (Allowed m) (no_text (clash item o))
+      → IsUnmoved h s → MaySay law h s (Allowed m) (no_text (clash_refusal item o))
   -- a cursor is set, once it is pinned, on a path within the limits
   observing : (p : Path) (deep : Bool) (mask : ℕ) → limit_refusal p ≡ None
       → IsTrue (came s (λ earlier e. is_pinning s e) h.past)

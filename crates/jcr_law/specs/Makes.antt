@@ -28,40 +28,40 @@ commits _ = false
 
 -- the command asks for such an event: a commit for those of a commit, a refresh for the move of the
 -- base, and so on; the commands of the view, `head`, queries, `token` and `dropToken` for none
-abbrev pub Makes : Command → Event → Type 0
-Makes (command.Refresh keep) (event.Refresh s v) = ⊤
-Makes (command.Observe p deep mask) (event.Went s kind.Pin) = ⊤
-Makes command.Events (event.Went s kind.Pin) = ⊤
-Makes command.BackWrite (event.Went s kind.Back) = ⊤
-Makes command.BackWrite (event.Out k r) = ⊤
-Makes command.BackRead (event.Went s kind.Back) = ⊤
-Makes command.BackRead (event.In k v) = ⊤
-Makes (command.Split p) (event.Went s kind.Split) = ⊤
-Makes (command.Split p) (event.Split s path e) = path ≡ p
-Makes command.Sweep (event.Went s kind.Sweep) = ⊤
-Makes command.Sweep (event.Sweep k r) = ⊤
-Makes command.Sweep (event.Went s kind.Learn) = ⊤
-Makes command.Collect (event.Went s kind.Bound) = ⊤
-Makes command.Collect (event.Bound m t) = ⊤
-Makes command.Collect (event.Went s kind.Collect) = ⊤
-Makes command.Collect (event.Collected s c) = ⊤
-Makes command.Checkpoint (event.Checkpoint id v) = ⊤
-Makes (command.Attach i) (event.Attach s id) = id ≡ i
-Makes (command.Attach i) (event.Went s kind.Settings) = ⊤
-Makes (command.Release i) (event.Release id) = id ≡ i
-Makes (command.Release i) (event.Went s kind.Settings) = ⊤
-Makes command.Detach (event.Refresh s v) = ⊤
-Makes command.Detach (event.Detach s) = ⊤
-Makes (command.Stop (Some k)) (event.Stop m) = m ≡ k
-Makes (command.Stop (Some k)) (event.Went s kind.Stop) = ⊤
-Makes (command.Recover (Some k)) (event.Went s kind.Recover) = ⊤
-Makes (command.Recover (Some k)) (event.Went s kind.Undo) = ⊤
-Makes (command.Recover (Some k)) (event.End r) = r.cluster ≡ k
-Makes (command.Recover (Some k)) (event.Recover m) = m ≡ k
-Makes (command.Recover (Some k)) (event.Went s kind.Back) = ⊤
-Makes (command.Recover (Some k)) (event.Out m r) = m ≡ k
-Makes (command.Recover (Some k)) (event.Sweep m r) = m ≡ k
-Makes m e = IsTrue (cond (commits m) (is_of_commit e) false)
+abbrev pub CommandAsks : Command → Event → Type 0
+CommandAsks (command.Refresh keep) (event.Refresh s v) = ⊤
+CommandAsks (command.Observe p deep mask) (event.Went s kind.Pin) = ⊤
+CommandAsks command.Events (event.Went s kind.Pin) = ⊤
+CommandAsks command.BackWrite (event.Went s kind.Back) = ⊤
+CommandAsks command.BackWrite (event.Out k r) = ⊤
+CommandAsks command.BackRead (event.Went s kind.Back) = ⊤
+CommandAsks command.BackRead (event.In k v) = ⊤
+CommandAsks (command.Split p) (event.Went s kind.Split) = ⊤
+CommandAsks (command.Split p) (event.Split s path e) = path ≡ p
+CommandAsks command.Sweep (event.Went s kind.Sweep) = ⊤
+CommandAsks command.Sweep (event.Sweep k r) = ⊤
+CommandAsks command.Sweep (event.Went s kind.Learn) = ⊤
+CommandAsks command.Collect (event.Went s kind.Bound) = ⊤
+CommandAsks command.Collect (event.Bound m t) = ⊤
+CommandAsks command.Collect (event.Went s kind.Collect) = ⊤
+CommandAsks command.Collect (event.Collected s c) = ⊤
+CommandAsks command.Checkpoint (event.Checkpoint id v) = ⊤
+CommandAsks (command.Attach i) (event.Attach s id) = id ≡ i
+CommandAsks (command.Attach i) (event.Went s kind.Settings) = ⊤
+CommandAsks (command.Release i) (event.Release id) = id ≡ i
+CommandAsks (command.Release i) (event.Went s kind.Settings) = ⊤
+CommandAsks command.Detach (event.Refresh s v) = ⊤
+CommandAsks command.Detach (event.Detach s) = ⊤
+CommandAsks (command.Stop (Some k)) (event.Stop m) = m ≡ k
+CommandAsks (command.Stop (Some k)) (event.Went s kind.Stop) = ⊤
+CommandAsks (command.Recover (Some k)) (event.Went s kind.Recover) = ⊤
+CommandAsks (command.Recover (Some k)) (event.Went s kind.Undo) = ⊤
+CommandAsks (command.Recover (Some k)) (event.End r) = r.cluster ≡ k
+CommandAsks (command.Recover (Some k)) (event.Recover m) = m ≡ k
+CommandAsks (command.Recover (Some k)) (event.Went s kind.Back) = ⊤
+CommandAsks (command.Recover (Some k)) (event.Out m r) = m ≡ k
+CommandAsks (command.Recover (Some k)) (event.Sweep m r) = m ≡ k
+CommandAsks m e = IsTrue (cond (commits m) (is_of_commit e) false)
 
 -- the command of that index of session s, which is built, asks for such an event; a session logs in
 -- before its first command, and leaves behind its last one
@@ -69,7 +69,7 @@ abbrev pub IsAskedAt : JcrLaw → ℕ → ℕ → Event → Type 0
 IsAskedAt law s i (event.Login t v) = i ≡ 0
 IsAskedAt law s i (event.Went t kind.End) = command_at law s i ≡ None
 IsAskedAt law s i e =
-    (m : Command) × (command_at law s i ≡ Some m) × IsTrue (is_built m) × Makes m e
+    (m : Command) × (command_at law s i ≡ Some m) × IsTrue (is_built m) × CommandAsks m e
 
 -- the events that the law's commands ask for, as the machine takes them
 abbrev pub asks_of : JcrLaw → Asks

@@ -21,7 +21,7 @@ use Rattle.oak_machine.proofs.Stays.{any_later}
 use Rattle.jcr_law.specs.declared.law.JcrLaw.{JcrLaw}
 use Rattle.jcr_law.specs.Since.{before_turn, came, detached_among, draw_among, draw_since, is_beginning, is_move_of, is_pinning, is_unmoved, is_unpinned, stop_position}
 use Rattle.jcr_law.specs.declared.state.State.{State}
-use Rattle.jcr_law.specs.State.{state_of}
+use Rattle.jcr_law.specs.State.{session_state}
 
 -- an event of another session begins no command of s
 pub not_beginning : (whole : Past) (s : ℕ) (e : Event) → is_event_of whole s e ≡ false → is_beginning s e ≡ false
@@ -31,7 +31,7 @@ not_beginning whole s e h = refl
 
 -- events of other sessions leave the state of session s
 pub state_stays : (law : JcrLaw) (begin : Begin) (whole added past : Past) (s : ℕ) → list_any (is_event_of whole s) added ≡ false
-    → state_of law begin (added ++ past) s ≡ state_of law begin past s
+    → session_state law begin (added ++ past) s ≡ session_state law begin past s
 state_stays law begin whole [] past s h = refl
 state_stays law begin whole (event.Login t v ∷ added) past s h = let n = neither (t == s) _ h in other (t == s) _ _ _ n.0 (state_stays law begin whole added past s n.1)
 state_stays law begin whole (event.Refresh t v ∷ added) past s h = let n = neither (t == s) _ h in other (t == s) _ _ _ n.0 (state_stays law begin whole added past s n.1)

@@ -19,7 +19,7 @@ use Rattle.sql_eval.specs.Rows.{AreRows}
 use Rattle.oak_machine.specs.Changed.{changes_between}
 use Rattle.oak_machine.specs.History.{Begin, Past}
 use Rattle.jcr_observe.specs.declared.event.JcrEvent.{JcrEvent}
-use Rattle.jcr_observe.specs.Observed.{events_of}
+use Rattle.jcr_observe.specs.Observed.{observed_events}
 use Rattle.jcr_observe.specs.Texts.{events_data}
 use Rattle.jcr_trans.specs.Texts.{answer_text, ok_text}
 use Rattle.jcr_read.specs.Reading.{refused}
@@ -47,7 +47,7 @@ pub data QueryAnswers (c : Call) (text : List ℕ) (vars : List (Name × Value))
 -- the events since the cursor that pass, up to the base; none without a cursor
 abbrev pub events_since : Begin → Past → (base : RevVec) → Option Cursor → List JcrEvent
 events_since begin past base cursor = option_map_or
-    (λ x. events_of x.filter (changes_between begin past x.at base)) cursor []
+    (λ x. observed_events x.filter (changes_between begin past x.at base)) cursor []
 
 -- the text of the reply that shows events
 abbrev pub events_reply : List JcrEvent → List ℕ

@@ -15,33 +15,33 @@ use Rattle.jcr_plan.specs.Plans.{PlanOk}
 use Rattle.jcr_plan.proofs.OfWrites.{plan_proper}
 use Rattle.jcr_law.specs.declared.law.JcrLaw.{JcrLaw}
 use Rattle.jcr_law.specs.Law.{MayStart}
-use Rattle.jcr_law.specs.State.{Call, base_tree, call_at, call_of, state_of, tokens_of}
+use Rattle.jcr_law.specs.State.{Call, base_tree, call_at, call_of, session_state, tokens_of}
 
 -- the call of a session whose base is at v
 pub call_there : (law : JcrLaw) (begin : Begin) (past : Past) (s : ℕ) (c : Call) (v : RevVec) → call_of law begin past s ≡ Some c
-    → base_of past s ≡ Some v → c ≡ call_at law begin past s v (state_of law begin past s)
+    → base_of past s ≡ Some v → c ≡ call_at law begin past s v (session_state law begin past s)
 call_there law begin past s c v is base =
     ap (λ (o : Option Call). elim o [ Some x ↦ x | None ↦ c ])
-    (sym is ∙ ap (λ (o : Option RevVec). option_map (λ w. call_at law begin past s w (state_of law begin past s)) o) base)
+    (sym is ∙ ap (λ (o : Option RevVec). option_map (λ w. call_at law begin past s w (session_state law begin past s)) o) base)
 
 -- the call is one at the base
 pub call_based : (law : JcrLaw) (begin : Begin) (past : Past) (s : ℕ) (c : Call) → call_of law begin past s ≡ Some c
-    → c ≡ call_at law begin past s c.who.base (state_of law begin past s)
+    → c ≡ call_at law begin past s c.who.base (session_state law begin past s)
 call_based law begin past s c is = by (base_of past s) is
   where
-    by : (o : Option RevVec) → option_map (λ v. call_at law begin past s v (state_of law begin past s)) o ≡ Some c
-        → c ≡ call_at law begin past s c.who.base (state_of law begin past s)
+    by : (o : Option RevVec) → option_map (λ v. call_at law begin past s v (session_state law begin past s)) o ≡ Some c
+        → c ≡ call_at law begin past s c.who.base (session_state law begin past s)
     by None h = cc
     by (Some v) h =
-        let same : call_at law begin past s v (state_of law begin past s) ≡ c = ap (λ (x : Option Call). elim x [ Some y ↦ y | None ↦ c ]) h in
-        sym same ∙ ap (λ (w : RevVec). call_at law begin past s w (state_of law begin past s)) (ap (λ (x : Call). x.who.base) same)
+        let same : call_at law begin past s v (session_state law begin past s) ≡ c = ap (λ (x : Option Call). elim x [ Some y ↦ y | None ↦ c ]) h in
+        sym same ∙ ap (λ (w : RevVec). call_at law begin past s w (session_state law begin past s)) (ap (λ (x : Call). x.who.base) same)
 
 -- the session has a base where it is called
 pub call_has_base : (law : JcrLaw) (begin : Begin) (past : Past) (s : ℕ) (c : Call) → call_of law begin past s ≡ Some c
     → base_of past s ≡ Some c.who.base
 call_has_base law begin past s c is = by (base_of past s) is
   where
-    by : (o : Option RevVec) → option_map (λ v. call_at law begin past s v (state_of law begin past s)) o ≡ Some c → o ≡ Some c.who.base
+    by : (o : Option RevVec) → option_map (λ v. call_at law begin past s v (session_state law begin past s)) o ≡ Some c → o ≡ Some c.who.base
     by None h = cc
     by (Some v) h = ap (λ (x : Option Call). option_map (λ y. y.who.base) x) h
 

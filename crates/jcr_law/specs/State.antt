@@ -110,35 +110,35 @@ abbrev pub counted : (ok drew : Bool) → Command → State → State
 counted ok drew m state = record state { ids = min (state.ids + used ok drew m) 16777215 }
 
 -- what a command leaves, as it was accepted or refused, and drew a revision or none
-abbrev pub answered : (ok drew : Bool) → Call → Command → State
-answered ok drew c m = counted ok drew m (cond ok (accepted c m) c.state)
+abbrev pub state_answered : (ok drew : Bool) → Call → Command → State
+state_answered ok drew c m = counted ok drew m (cond ok (accepted c m) c.state)
 
 -- what a reply of s leaves, if there is such a command and s has a base
-abbrev pub replied : JcrLaw → Begin → Past → (s i : ℕ) → Text → State → State
-replied law begin past s i text state = option_map_or (λ m. option_map_or (λ v.
-    answered (is_ok_text text) (is_some (drawn_since past s)) (call_at law begin past s v state) m)
+abbrev pub state_replied : JcrLaw → Begin → Past → (s i : ℕ) → Text → State → State
+state_replied law begin past s i text state = option_map_or (λ m. option_map_or (λ v.
+    state_answered (is_ok_text text) (is_some (drawn_since past s)) (call_at law begin past s v state) m)
     (base_of past s) state) (command_at law s i) state
 
 -- what a history says of a session, event by event
-abbrev pub state_of : JcrLaw → Begin → Past → ℕ → State
-state_of law begin [] s = new_state begin
-state_of law begin (event.Login t v ∷ past) s = cond (t == s)
-    (record (new_state begin) { view = tree_at begin past v }) (state_of law begin past s)
-state_of law begin (event.Refresh t v ∷ past) s = cond (t == s)
-    (moved (base_tree begin past s) (tree_at begin past v) (state_of law begin past s))
-    (state_of law begin past s)
-state_of law begin (event.Attach t id ∷ past) s = cond (t == s)
+abbrev pub session_state : JcrLaw → Begin → Past → ℕ → State
+session_state law begin [] s = new_state begin
+session_state law begin (event.Login t v ∷ past) s = cond (t == s)
+    (record (new_state begin) { view = tree_at begin past v }) (session_state law begin past s)
+session_state law begin (event.Refresh t v ∷ past) s = cond (t == s)
+    (moved (base_tree begin past s) (tree_at begin past v) (session_state law begin past s))
+    (session_state law begin past s)
+session_state law begin (event.Attach t id ∷ past) s = cond (t == s)
     (moved (base_tree begin past s) (base_tree begin (event.Attach t id ∷ past) s)
-    (state_of law begin past s)) (state_of law begin past s)
-state_of law begin (event.Said t i text ∷ past) s = cond (t == s)
-    (replied law begin past s i text (state_of law begin past s)) (state_of law begin past s)
-state_of law begin (_ ∷ past) s = state_of law begin past s
+    (session_state law begin past s)) (session_state law begin past s)
+session_state law begin (event.Said t i text ∷ past) s = cond (t == s)
+    (state_replied law begin past s i text (session_state law begin past s)) (session_state law begin past s)
+session_state law begin (_ ∷ past) s = session_state law begin past s
 
 -- what the next command of s is run with, where s has a base
 abbrev pub call_of : JcrLaw → Begin → Past → ℕ → Option Call
 call_of law begin past s =
-    option_map (λ v. call_at law begin past s v (state_of law begin past s)) (base_of past s)
+    option_map (λ v. call_at law begin past s v (session_state law begin past s)) (base_of past s)
 
 -- the lock tokens that s holds
 abbrev pub tokens_of : JcrLaw → Begin → Past → ℕ → List (List ℕ)
-tokens_of law begin past s = (state_of law begin past s).tokens
+tokens_of law begin past s = (session_state law begin past s).tokens

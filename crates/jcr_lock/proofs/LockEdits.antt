@@ -25,10 +25,10 @@ use Rattle.jr_tree.specs.Items.{here_of, put_of, written}
 use Rattle.jr_tree.proofs.AtPath.{come, filled, prop_of, node_at-applied}
 use Rattle.jr_tree.proofs.EditLaw.{Orderly-all, property_applied}
 use Rattle.jr_items.specs.Names.{lock_owner, lock_is_deep}
-use Rattle.jr_items.specs.Items.{needed, first_some}
+use Rattle.jr_items.specs.Items.{needed_writes, first_some}
 use Rattle.jr_items.specs.Refusals.{IsTheRefusal, or_else, out_of_memory, place_refusal, too_deep, too_long, in_system, no_node}
 use Rattle.jcr_lock.specs.Locks.{lock_edit, lock_refusal, lock_writes, unlock_edit, unlock_refusal, unlock_writes}
-use Rattle.jcr_lock.specs.Needed.{is_needed, has_names_in_order}
+use Rattle.jcr_lock.specs.Needed.{is_needed, are_names_in_order}
 
 -- the names of a node that is there stand in order
 orderly : (o : Option Node) → option_map_or (λ node. is_sorted name_cmp node.props) o true ≡ true → (node : Node) → o ≡ Some node → is_sorted name_cmp node.props ≡ true
@@ -101,7 +101,7 @@ stands t p h =
 
 -- ---- the two edits
 
-pub locks : (t : Nodes) (p : Path) (deep : Bool) (token : List ℕ) (ws : List Write) → IsTrue (is_sorted path_cmp t) → IsTrue (has_names_in_order t p) → lock_refusal t p deep ≡ None
+pub locks : (t : Nodes) (p : Path) (deep : Bool) (token : List ℕ) (ws : List Write) → IsTrue (is_sorted path_cmp t) → IsTrue (are_names_in_order t p) → lock_refusal t p deep ≡ None
     → ws ≡ filter (is_needed t) (lock_writes p deep token) → lock_edit t p deep token ≡ Ok ws
 locks t p deep token ws s names free made =
     let flag = Single (value.Boolean deep) in
@@ -109,16 +109,16 @@ locks t p deep token ws s names free made =
     let stand = stands t p (head_none (place_refusal t p) _ free) in
     let first = after t p (lock_writes p deep token) s stand.0 stand.1 (orderly _ names stand.0 stand.1) refl lock_is_deep ∙ ap (λ w. unwrap_or w (property_at t p lock_is_deep)) (ap (λ b. option_or (option_or None (cond (b && false) (Some (Some owner)) None)) (cond (b && true) (Some (Some flag)) None)) (same p)) in
     let second = after t p (lock_writes p deep token) s stand.0 stand.1 (orderly _ names stand.0 stand.1) refl lock_owner ∙ ap (λ w. unwrap_or w (property_at t p lock_owner)) (ap (λ b. option_or (option_or None (cond (b && true) (Some (Some owner)) None)) (cond (b && false) (Some (Some flag)) None)) (same p)) in
-    ap (λ (due : Option Refusal). or_else due (needed t (lock_writes p deep token))) free
+    ap (λ (due : Option Refusal). or_else due (needed_writes t (lock_writes p deep token))) free
     ∙ ap Ok (alike (is_change t (applied None t (lock_writes p deep token))) (is_needed t) (Put p lock_is_deep flag) (Put p lock_owner owner) (put_alike t _ p lock_is_deep flag first) (put_alike t _ p lock_owner owner second) ∙ sym made)
 
-pub unlocks : (t : Nodes) (p : Path) (tokens : List (List ℕ)) (ws : List Write) → IsTrue (is_sorted path_cmp t) → IsTrue (has_names_in_order t p) → unlock_refusal t p tokens ≡ None
+pub unlocks : (t : Nodes) (p : Path) (tokens : List (List ℕ)) (ws : List Write) → IsTrue (is_sorted path_cmp t) → IsTrue (are_names_in_order t p) → unlock_refusal t p tokens ≡ None
     → ws ≡ filter (is_needed t) (unlock_writes p) → unlock_edit t p tokens ≡ Ok ws
 unlocks t p tokens ws s names free made =
     let stand = stands t p (head_none (place_refusal t p) _ free) in
     let first = after t p (unlock_writes p) s stand.0 stand.1 (orderly _ names stand.0 stand.1) refl lock_is_deep ∙ ap (λ w. unwrap_or w (property_at t p lock_is_deep)) (ap (λ b. option_or (option_or None (cond (b && false) (Some None) None)) (cond (b && true) (Some None) None)) (same p)) in
     let second = after t p (unlock_writes p) s stand.0 stand.1 (orderly _ names stand.0 stand.1) refl lock_owner ∙ ap (λ w. unwrap_or w (property_at t p lock_owner)) (ap (λ b. option_or (option_or None (cond (b && true) (Some None) None)) (cond (b && false) (Some None) None)) (same p)) in
-    ap (λ (due : Option Refusal). or_else due (needed t (unlock_writes p))) free
+    ap (λ (due : Option Refusal). or_else due (needed_writes t (unlock_writes p))) free
     ∙ ap Ok (alike (is_change t (applied None t (unlock_writes p))) (is_needed t) (Unset p lock_is_deep) (Unset p lock_owner) (unset_alike t _ p lock_is_deep first) (unset_alike t _ p lock_owner second) ∙ sym made)
 
 pub refused : (due : Option Refusal) (r : Refusal) (ws : List Write) → IsTheRefusal due r → ¬ (r ≡ out_of_memory) → or_else due ws ≡ Err r

@@ -14,7 +14,7 @@ use Rattle.jr_tree.specs.declared.edit.Write.{Write}
 use Rattle.jr_tree.specs.declared.edit.Write.TheVariants.{Put, Unset}
 use Rattle.jr_tree.specs.Trees.{Nodes, property_at, subtree_of}
 use Rattle.jr_items.specs.Names.{lock_owner, lock_is_deep, lockable}
-use Rattle.jr_items.specs.Items.{same_path, first_some, one_text, is_flag, has_mixin, upward, is_versionable, is_checked_in, needed}
+use Rattle.jr_items.specs.Items.{same_path, first_some, one_text, is_flag, has_mixin, upward, is_versionable, is_checked_in, needed_writes}
 use Rattle.jr_items.specs.Refusals.{when, or_else, out_of_memory, place_refusal, no_item, locked, unsupported}
 
 -- a lock is a node with an owner
@@ -67,7 +67,7 @@ lock_writes p deep token = Put p lock_is_deep (Single (value.Boolean deep)) ∷ 
 
 -- the edit that locks a node with a token
 abbrev pub lock_edit : Nodes → Path → (deep : Bool) → (token : List ℕ) → Result (List Write) Refusal
-lock_edit t p deep token = or_else (lock_refusal t p deep) (needed t (lock_writes p deep token))
+lock_edit t p deep token = or_else (lock_refusal t p deep) (needed_writes t (lock_writes p deep token))
 
 -- the node holds no lock, or no token is its owner
 abbrev pub owner_refusal : Nodes → Path → (tokens : List (List ℕ)) → Option Refusal
@@ -83,7 +83,7 @@ unlock_writes p = Unset p lock_is_deep ∷ Unset p lock_owner ∷ []
 
 -- the edit that unlocks a node
 abbrev pub unlock_edit : Nodes → Path → (tokens : List (List ℕ)) → Result (List Write) Refusal
-unlock_edit t p tokens = or_else (unlock_refusal t p tokens) (needed t (unlock_writes p))
+unlock_edit t p tokens = or_else (unlock_refusal t p tokens) (needed_writes t (unlock_writes p))
 
 -- an edit is the one that is due
 abbrev pub IsDue : Result (List Write) Refusal → Edit → Type 0

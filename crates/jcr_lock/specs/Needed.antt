@@ -12,16 +12,16 @@ use Rattle.jr_tree.specs.declared.edit.Write.TheVariants.{Here, Gone, Put, Unset
 use Rattle.jr_tree.specs.Trees.{Nodes, node_at, property_at}
 
 -- the node has this property
-abbrev pub has_property : Nodes → Path → Name → Property → Bool
-has_property t p n x = option_map_or (same_property x) (property_at t p n) false
+abbrev pub has_this_property : Nodes → Path → Name → Property → Bool
+has_this_property t p n x = option_map_or (same_property x) (property_at t p n) false
 
 -- the item isn't yet what the write makes it
 abbrev pub is_needed : Nodes → Write → Bool
 is_needed t (Here p) = is_none (node_at t p)
 is_needed t (Gone p) = is_some (node_at t p)
-is_needed t (Put p n x) = not (has_property t p n x)
+is_needed t (Put p n x) = not (has_this_property t p n x)
 is_needed t (Unset p n) = is_some (property_at t p n)
 
 -- the names of the node at a path stand in order
-abbrev pub has_names_in_order : Nodes → Path → Bool
-has_names_in_order t p = option_map_or (λ node. is_sorted name_cmp node.props) (node_at t p) true
+abbrev pub are_names_in_order : Nodes → Path → Bool
+are_names_in_order t p = option_map_or (λ node. is_sorted name_cmp node.props) (node_at t p) true

@@ -12,7 +12,7 @@ ghost use Rattle.jr_items.specs.Own.{own_name};
 ghost use Rattle.jr_items.specs.Refusals.{IsOrMemory, IsTheRefusal, locked, no_item};
 ghost use Rattle.jcr_lock.specs.Locks.{IsDue, IsDueRefusal, first_lock, lock_edit, lock_in_way, lock_refusal, lock_writes, owner_refusal, unlock_edit, unlock_refusal, unlock_writes, unlockable};
 ghost use Rattle.jcr_lock.specs.Names.{lock_names};
-ghost use Rattle.jcr_lock.specs.Needed.{has_names_in_order, has_property, is_needed};
+ghost use Rattle.jcr_lock.specs.Needed.{are_names_in_order, has_this_property, is_needed};
 
 use crate::covers::{LockNames, covering_lock, found_at, is_held, is_lock};
 use jr_edited::Edited;
@@ -232,7 +232,7 @@ fn push_needed(writes: &mut List<Write>, tree: &Tree, write: Write) -> Result<()
 // the facts.
 fn know_order(tree: &Tree, path: &Path)
     ensures nodes { IsTrue (is_sorted path_cmp tree.now) }
-    ensures names { IsTrue (has_names_in_order tree.now path.now) }
+    ensures names { IsTrue (are_names_in_order tree.now path.now) }
 {
     let _ = tree.len();
     if let Some(node) = tree.get(path) {
@@ -254,7 +254,7 @@ fn is_needed(tree: &Tree, write: &Write) -> bool
 
 // Whether the node has this property.
 fn is_there(tree: &Tree, path: &Path, name: &Name, property: &Property) -> bool
-    ensures { result ≡ has_property tree.now path.now name.now property.now }
+    ensures { result ≡ has_this_property tree.now path.now name.now property.now }
 {
     match tree.property(path, name) {
         Some(found) => property == found,

@@ -25,7 +25,7 @@ use Rattle.jr_items.specs.Names.{mixin_types, uuid, version_storage}
 use Rattle.jr_types.specs.declared.TypeDef.{TypeDef}
 use Rattle.jr_overlay.specs.Drafts.{Steps, drafted}
 use Rattle.jr_overlay.specs.Overlays.{View}
-use Rattle.jcr_ref.specs.Histories.{history_of, root_of}
+use Rattle.jcr_ref.specs.Histories.{version_history_of, root_of}
 use Rattle.jcr_write.specs.Places.{of_node, path_refusal, unless_refused}
 use Rattle.jcr_fill.specs.Filled.{next_text}
 use Rattle.jcr_fill.specs.Kept.{IsOwnOrNext, IsPutWith}
@@ -131,7 +131,7 @@ pub first_named : (view : View) (steps : Steps) (p : Path) → named_history (wi
 first_named view steps p = named_own (with_seen view steps p []) p (drafted view steps p) (seen_here view steps p)
 
 -- it is the place where the history is looked for
-pub named_is : (nodes : Nodes) (p h : Path) → named_history nodes p ≡ Some h → history_of nodes p ≡ h
+pub named_is : (nodes : Nodes) (p h : Path) → named_history nodes p ≡ Some h → version_history_of nodes p ≡ h
 named_is nodes p h e = by (one_text (property_at nodes p uuid)) e
   where
     at : (id : List ℕ) (b : Bool) → cond b (Some (version_storage ++ id ∷ [])) None ≡ Some h → version_storage ++ id ∷ [] ≡ h

@@ -29,7 +29,7 @@ use Rattle.jr_overlay.specs.Overlays.{View, whole_view}
 use Rattle.jr_overlay.specs.Views.{KeepTree}
 use Rattle.jr_overlay.proofs.KeptTrees.{names_after, parent_after}
 use Rattle.jcr_ref.specs.Drawn.{too_many_ids}
-use Rattle.jcr_ref.specs.Histories.{begun, has_history, history_drawn, history_of, history_writes, joined, labels_of, root_of}
+use Rattle.jcr_ref.specs.Histories.{begun, has_history, history_drawn, version_history_of, history_writes, joined_history, labels_of, root_of}
 use Rattle.jcr_ref.specs.References.{identifier_of}
 use Rattle.jcr_write.proofs.Keeping.{passed}
 use Rattle.jcr_fill.specs.Makings.{Making}
@@ -130,12 +130,12 @@ module _ (v : Nodes) (steps : Steps) (tree : IsTree v) (keep : KeepTree (whole_v
       by (Some node) e h = stays y (parent_after v steps tree keep x y (ap is_some (are.seen x node e)) up)
 
   abbrev own : Path
-  own = history_of nodes p
+  own = version_history_of nodes p
 
   parents_made : (x y : Path) → is_some (node_at made x) ≡ true → parent_of x ≡ Some y → later y
   parents_made x y there up = by (has_history nodes p) refl (sym (has_applied None nodes (history_writes nodes p who) are.order x) ∙ there)
     where
-      by : (b : Bool) → has_history nodes p ≡ b → has_after nodes (cond b (joined nodes p own) (begun p own who)) x ≡ true → later y
+      by : (b : Bool) → has_history nodes p ≡ b → has_after nodes (cond b (joined_history nodes p own) (begun p own who)) x ≡ true → later y
       by true e h = above_seen x y h up
       by false e h = elim (comes x own p nodes who h) [
         | inl is ↦ stays y (subst (λ (q : Path). is_some (drafted (whole_view v) steps q) ≡ true)
@@ -148,7 +148,7 @@ module _ (v : Nodes) (steps : Steps) (tree : IsTree v) (keep : KeepTree (whole_v
           new : later own
           new = there_by_put (whole_view v) steps made order_made own
               (has_applied None nodes (history_writes nodes p who) are.order own
-              ∙ (ap (λ (c : Bool). has_after nodes (cond c (joined nodes p own) (begun p own who)) own) e ∙ begins own p nodes who))
+              ∙ (ap (λ (c : Bool). has_after nodes (cond c (joined_history nodes p own) (begun p own who)) own) e ∙ begins own p nodes who))
 
   pub history_keeps : KeepTree (whole_view v) (all_put steps made)
   history_keeps = all_put_keeps v steps made keep order_made names_made parents_made

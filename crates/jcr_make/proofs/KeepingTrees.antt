@@ -39,8 +39,8 @@ use Rattle.jcr_fill.proofs.Fills.{ok_same}
 use Rattle.jcr_fill.proofs.KeepingTrees.{complete_keeps, complete_stays}
 use Rattle.jcr_fill.proofs.OneByOne.{came_first, each_keeps}
 use Rattle.jcr_make.specs.Commands.{add_made, chosen_below, chosen_type, completed_new}
-use Rattle.jcr_mixin.specs.Commands.{completed_node, is_lost, lists_mixin, node_retyped, node_unmixed, retyped, type_made, unlisted, unmixed, unmixin_made, unmixin_refusal, with_kept, with_mixins}
-use Rattle.jcr_mixin.specs.Histories.{begun_by, listing, mixed, mixin_given, mixin_made, mixin_refusal, mixing, place_mixing}
+use Rattle.jcr_mixin.specs.Commands.{completed_node, is_lost, lists_mixin, node_retyped, node_unmixed, of_primary_type, type_made, unlisted, unmixed, unmixin_made, unmixin_refusal, with_kept, with_mixins}
+use Rattle.jcr_mixin.specs.Histories.{begun_by, mixins_with, mixed, mixin_given, mixin_made, mixin_refusal, mixing, place_mixing}
 use Rattle.jcr_make.specs.Subtrees.{furnished, limited, part_added, part_at, part_node, tree_made, with_part, with_set, with_sets}
 use Rattle.jcr_make.proofs.KeepingHistories.{begun_keeps, begun_stays}
 
@@ -60,7 +60,7 @@ with_ordered node n x h = sorted_insert name_cmp nat_list_cmp_total n x node.pro
 without_ordered : (node : Node) (n : Name) → IsOrdered node → IsOrdered (without_property node n)
 without_ordered node n h = sorted_remove name_cmp (is_at (name_cmp n)) node.props h
 
-retyped_ordered : (types : List TypeDef) (node : Node) (n : Name) → IsOrdered node → IsOrdered (retyped types node n)
+retyped_ordered : (types : List TypeDef) (node : Node) (n : Name) → IsOrdered node → IsOrdered (of_primary_type types node n)
 retyped_ordered types node n h = by (are_ordered (types_of_node types typed))
   where
     typed : Node
@@ -129,24 +129,24 @@ add_stays types who view p q named m new h there =
 
 -- what `type` came of
 retyped_of : (types : List TypeDef) (who : Who) (view : View) (p : Path) (n : Name) (m new : Making) → type_made types who view p n m ≡ Ok new
-    → (old : Node) × (drafted view m.steps p ≡ Some old) × (complete types who view p (retyped types old n) m ≡ Ok new)
+    → (old : Node) × (drafted view m.steps p ≡ Some old) × (complete types who view p (of_primary_type types old n) m ≡ Ok new)
 retyped_of types who view p n m new h =
     let came = came_first (node_retyped types view m.steps p n) (completed_node types who view p m) new h in
-    let place = placed view m.steps p (λ node. unless_refused (unknown_type types n) (Ok (retyped types node n))) came.0 came.1 in
-    let is : came.0 ≡ retyped types place.0 n = ok_same (passed (unknown_type types n) (Ok (retyped types place.0 n)) came.0 place.2).1 in
+    let place = placed view m.steps p (λ node. unless_refused (unknown_type types n) (Ok (of_primary_type types node n))) came.0 came.1 in
+    let is : came.0 ≡ of_primary_type types place.0 n = ok_same (passed (unknown_type types n) (Ok (of_primary_type types place.0 n)) came.0 place.2).1 in
     (place.0, place.1, subst (λ (node : Node). complete types who view p node m ≡ Ok new) is came.2)
 
 pub type_keeps : (types : List TypeDef) (who : Who) (v : Nodes) (p : Path) (n : Name) (m new : Making) → IsTree v → KeepTree (whole_view v) m.steps
     → type_made types who (whole_view v) p n m ≡ Ok new → KeepTree (whole_view v) new.steps
 type_keeps types who v p n m new tree keep h =
     let of = retyped_of types who (whole_view v) p n m new h in
-    completed_in_place types who v p of.0 (retyped types of.0 n) m new tree keep of.1 (retyped_ordered types of.0 n (names_after v m.steps tree keep p of.0 of.1)) of.2
+    completed_in_place types who v p of.0 (of_primary_type types of.0 n) m new tree keep of.1 (retyped_ordered types of.0 n (names_after v m.steps tree keep p of.0 of.1)) of.2
 
 pub type_stays : (types : List TypeDef) (who : Who) (view : View) (p q : Path) (n : Name) (m new : Making) → type_made types who view p n m ≡ Ok new
     → is_some (drafted view m.steps q) ≡ true → is_some (drafted view new.steps q) ≡ true
 type_stays types who view p q n m new h there =
     let of = retyped_of types who view p n m new h in
-    complete_stays types who view p q (retyped types of.0 n) m new of.2 there
+    complete_stays types who view p q (of_primary_type types of.0 n) m new of.2 there
 
 -- ---- mixins
 
@@ -213,7 +213,7 @@ mixin_keeps types who v p n m new tree keep stored h =
     by old there (Some x) e f =
         let came = came_first (complete types who (whole_view v) p x m) (begun_by n who (whole_view v) p) new f in
         let ordered : IsOrdered x = subst IsOrdered (sym (mixing_of old n x e))
-        (mixins_ordered old (listing n (property_of old mixin_types)) (names_after v m.steps tree keep p old there)) in
+        (mixins_ordered old (mixins_with n (property_of old mixin_types)) (names_after v m.steps tree keep p old there)) in
         begun_keeps n who v p came.0 new tree
         (completed_in_place types who v p old x m came.0 tree keep there ordered came.1)
         (complete_stays types who (whole_view v) p version_storage x m came.0 came.1 stored) came.2

@@ -27,7 +27,7 @@ use Rattle.jcr_fill.specs.declared.completing.MissingChild.{MissingChild}
 use Rattle.jcr_make.specs.Commands.{add_made, added_type, chosen_type, completed_new}
 use Rattle.jcr_mixin.specs.Commands.{completed_node, node_retyped, type_made, unmixin_made}
 use Rattle.jcr_mixin.specs.Histories.{begun_among, begun_by, counting, due_history, mixin_given, mixin_made, named_history, place_mixing, with_history, with_own_history, with_seen}
-use Rattle.jcr_fill.specs.Makings.{Making, absent_child, child_refusal, completed, missing_child, put_filled, with_child, with_children, with_own_child}
+use Rattle.jcr_fill.specs.Makings.{Making, absent_child, child_refusal, completed, missing_child, put_filled, with_made_child, with_made_children, with_own_child}
 use Rattle.jcr_make.specs.AlikeViews.{AreAlikeFrom}
 use Rattle.jcr_fill.specs.Steps.{and_then, each}
 use Rattle.jcr_fill.specs.Kept.{IsPutWith}
@@ -85,12 +85,12 @@ completed_same zero types who u v p node m alike = refl
 completed_same (suc k) types who u v p node m alike = by (λ q. completed_same k types who u v q)
   where
     by : ((q : Path) (n : Node) (l : Making) → AreAlikeFrom u v q → completed k types who u q n l ≡ completed k types who v q n l)
-        → and_then (put_filled types who p node m) (with_children (completed k types who u) types u p (types_of_node types node))
-        ≡ and_then (put_filled types who p node m) (with_children (completed k types who v) types v p (types_of_node types node))
+        → and_then (put_filled types who p node m) (with_made_children (completed k types who u) types u p (types_of_node types node))
+        ≡ and_then (put_filled types who p node m) (with_made_children (completed k types who v) types v p (types_of_node types node))
     by rest = then_same (put_filled types who p node m) _ _ (λ l e. each_same (with_own_child (completed k types who u) types u p) (with_own_child (completed k types who v) types v p) (flat_map (λ d. d.children) (types_of_node types node))
         (all_have (λ d. (j : Making) → with_own_child (completed k types who u) types u p d j ≡ with_own_child (completed k types who v) types v p d j) child (flat_map (λ d. d.children) (types_of_node types node))) l)
       where
-        made : (c : MissingChild) (l : Making) → AreAlikeFrom u v c.path → with_child (completed k types who u) types c.path c.node_type l ≡ with_child (completed k types who v) types c.path c.node_type l
+        made : (c : MissingChild) (l : Making) → AreAlikeFrom u v c.path → with_made_child (completed k types who u) types c.path c.node_type l ≡ with_made_child (completed k types who v) types c.path c.node_type l
         made c l from = ap (unless_refused (child_refusal types c.path c.node_type)) (rest c.path (node_of_type c.node_type) l from)
 
         child : (d : ChildDef) (l : Making) → with_own_child (completed k types who u) types u p d l ≡ with_own_child (completed k types who v) types v p d l

@@ -30,7 +30,7 @@ use Rattle.jr_overlay.specs.Drafts.{Steps, drafted, with_step}
 use Rattle.jr_overlay.specs.Overlays.{View}
 use Rattle.jr_overlay.specs.Views.{step_at}
 use Rattle.jcr_ref.specs.Drawn.{too_many_ids}
-use Rattle.jcr_ref.specs.Histories.{begun, has_history, history_drawn, history_of, history_writes, joined, root_of}
+use Rattle.jcr_ref.specs.Histories.{begun, has_history, history_drawn, version_history_of, history_writes, joined_history, root_of}
 use Rattle.jcr_trans.specs.declared.command.TreeNode.{TreeNode}
 use Rattle.jcr_write.specs.Places.{path_refusal, putting}
 use Rattle.jcr_write.specs.Writes.{node_set}
@@ -105,16 +105,16 @@ module _ (r : Path) where
   applied_apart t ws a h = properties_apart (last_writes ws) (last_apart ws h) (fold (with_node_write None) t (last_writes ws)) (nodes_apart (last_writes ws) (last_apart ws h) t a)
 
   -- the writes of a history are at the node, and at or below the history
-  history_adds : (nodes : Nodes) (who : Who) (p : Path) → IsApart p → IsApart (history_of nodes p) → AllByRecursion AddsApart (history_writes nodes p who)
+  history_adds : (nodes : Nodes) (who : Who) (p : Path) → IsApart p → IsApart (version_history_of nodes p) → AllByRecursion AddsApart (history_writes nodes p who)
   history_adds nodes who p here there = by (has_history nodes p)
     where
-      root : IsApart (root_of (history_of nodes p))
-      root = below_apart r (history_of nodes p) (root_version ∷ []) there
+      root : IsApart (root_of (version_history_of nodes p))
+      root = below_apart r (version_history_of nodes p) (root_version ∷ []) there
 
-      labels : IsApart (child_path (history_of nodes p) version_labels)
-      labels = below_apart r (history_of nodes p) (version_labels ∷ []) there
+      labels : IsApart (child_path (version_history_of nodes p) version_labels)
+      labels = below_apart r (version_history_of nodes p) (version_labels ∷ []) there
 
-      by : (b : Bool) → AllByRecursion AddsApart (cond b (joined nodes p (history_of nodes p)) (begun p (history_of nodes p) who))
+      by : (b : Bool) → AllByRecursion AddsApart (cond b (joined_history nodes p (version_history_of nodes p)) (begun p (version_history_of nodes p) who))
       by true = (here, (here, (here, tt)))
       by false = (there, (there, (there, (root, (root, (root, (labels, (labels, (here, (here, (here, tt)))))))))))
 

@@ -28,7 +28,7 @@ use Rattle.jr_tree.proofs.Proper.{same_name as name_same}
 use Rattle.jr_items.specs.Names.{is_checked_out, lock_is_deep, lock_owner, mixin_types, versionable}
 use Rattle.jr_items.specs.Items.{same_name, same_path, upward, is_flag, is_checked_in, is_versionable, many_names}
 use Rattle.jcr_lock.specs.Locks.{frozen_by, is_deep_lock, lock_covers}
-use Rattle.jcr_marks.specs.Marks.{are_same, is_covered_anew, is_deepened, is_frozen_anew, is_path, locks_anew}
+use Rattle.jcr_marks.specs.Marks.{are_same, is_covered_anew, is_deepened, is_frozen_anew, is_this_path, locks_anew}
 use Rattle.jcr_marks.specs.ByWrite.{covers_by, is_cover_name}
 
 -- ---- booleans and lists
@@ -174,9 +174,9 @@ path_self q = (eq_by_cmp_equiv path_total).refl q
 not_frozen : (t u : Nodes) (p : Path) → frozen_by u p ≡ frozen_by t p → is_frozen_anew t u p ≡ false
 not_frozen t u p same = by (frozen_by u p) same
   where
-    by : (o : Option Path) → o ≡ frozen_by t p → option_map_or (λ q. not (is_path (frozen_by t p) q)) o false ≡ false
+    by : (o : Option Path) → o ≡ frozen_by t p → option_map_or (λ q. not (is_this_path (frozen_by t p) q)) o false ≡ false
     by None e = refl
-    by (Some q) e = ap (λ (o : Option Path). not (is_path o q)) (sym e) ∙ ap not (path_self q)
+    by (Some q) e = ap (λ (o : Option Path). not (is_this_path o q)) (sym e) ∙ ap not (path_self q)
 
 deep_kept : (t u : Nodes) (p : Path) → Agrees t u p → is_deepened t u p ≡ false
 deep_kept t u p agree =

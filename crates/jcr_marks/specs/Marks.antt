@@ -70,12 +70,12 @@ locks_anew t u p q = lock_covers u q p
     && not (lock_covers t q p && are_same (property_at t q lock_owner) (property_at u q lock_owner))
 
 -- the path is there, and this one
-abbrev pub is_path : Option Path → Path → Bool
-is_path o p = option_map_or (same_path p) o false
+abbrev pub is_this_path : Option Path → Path → Bool
+is_this_path o p = option_map_or (same_path p) o false
 
 -- a checked-in node covers p after the edit that did not before
 abbrev pub is_frozen_anew : Nodes → Nodes → Path → Bool
-is_frozen_anew t u p = option_map_or (λ q. not (is_path (frozen_by t p) q)) (frozen_by u p) false
+is_frozen_anew t u p = option_map_or (λ q. not (is_this_path (frozen_by t p) q)) (frozen_by u p) false
 
 -- the lock of the node at a path covers what is below it after the edit, and before it did not
 abbrev pub is_deepened : Nodes → Nodes → Path → Bool

@@ -7,7 +7,7 @@ ghost use Rattle.jr_items.specs.Names.{lock_owner};
 ghost use Rattle.jr_items.specs.Items.{upward};
 ghost use Rattle.jcr_lock.specs.Locks.{frozen_by, lock_covers};
 ghost use Rattle.jcr_lock.specs.Names.{lock_names};
-ghost use Rattle.jcr_marks.specs.Marks.{are_same, is_covered_anew, is_deepened, is_frozen_anew, is_path, locks_anew, stays};
+ghost use Rattle.jcr_marks.specs.Marks.{are_same, is_covered_anew, is_deepened, is_frozen_anew, is_this_path, locks_anew, stays};
 
 use jcr_lock::{LockNames, frozen_by, is_deep_lock, lock_covers};
 use jr_edited::Edited;
@@ -144,7 +144,7 @@ fn is_frozen_by_another(
     at: &Path,
     cover: &Path,
 ) -> Result<bool, AllocError>
-    ensures { IfOk result (λ answer. answer ≡ not (is_path (frozen_by tree.now at.now) cover.now)) }
+    ensures { IfOk result (λ answer. answer ≡ not (is_this_path (frozen_by tree.now at.now) cover.now)) }
 {
     match frozen_by(alloc, tree, at)? {
         Some(before) => Ok(*cover != before),

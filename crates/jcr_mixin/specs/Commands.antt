@@ -27,22 +27,22 @@ use Rattle.jcr_fill.specs.Steps.{and_then}
 use Rattle.jcr_fill.specs.Makings.{Making, complete, unknown_type}
 
 -- the names of a node's mixins
-abbrev pub mixins_of : Node → List Name
-mixins_of node = many_names (property_of node mixin_types)
+abbrev pub mixin_names : Node → List Name
+mixin_names node = many_names (property_of node mixin_types)
 
 -- the node has the mixin
 abbrev pub lists_mixin : Node → Name → Bool
-lists_mixin node n = list_any (same_name n) (mixins_of node)
+lists_mixin node n = list_any (same_name n) (mixin_names node)
 
 -- a node of this primary type; it keeps no order of its children where its types have none
-abbrev pub retyped : List TypeDef → Node → Name → Node
-retyped types node n = let typed = with_property node primary_type (Single (value.Name n)) in
+abbrev pub of_primary_type : List TypeDef → Node → Name → Node
+of_primary_type types node n = let typed = with_property node primary_type (Single (value.Name n)) in
     cond (are_ordered (types_of_node types typed)) typed (without_property typed child_order)
 
 -- the node at a place with another primary type, which somebody registered
 abbrev pub node_retyped : List TypeDef → View → Steps → Path → Name → Result Node Refusal
 node_retyped types view steps p n = at_place view steps p (λ node.
-    unless_refused (unknown_type types n) (Ok (retyped types node n)))
+    unless_refused (unknown_type types n) (Ok (of_primary_type types node n)))
 
 -- a node is put with all that belongs to it
 abbrev pub completed_node : List TypeDef → Who → View → Path → Making → Node → Result Making Refusal

@@ -65,12 +65,12 @@ mixin_refusal types p node n = first_some (unknown_type types n
     ∷ version_refusal p node n ∷ [])
 
 -- the list of mixins with one more at its end
-abbrev pub listing : Name → Option Property → List Value
-listing n o = map value.Name (many_names o) ++ value.Name n ∷ []
+abbrev pub mixins_with : Name → Option Property → List Value
+mixins_with n o = map value.Name (many_names o) ++ value.Name n ∷ []
 
 -- the node with one mixin more, the last of its list
 abbrev pub mixed : Node → Name → Node
-mixed node n = with_mixins node (listing n (property_of node mixin_types))
+mixed node n = with_mixins node (mixins_with n (property_of node mixin_types))
 
 -- what a node becomes by a mixin; none where it has the mixin
 abbrev pub mixing : Node → Name → Option Node

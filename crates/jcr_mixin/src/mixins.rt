@@ -9,7 +9,7 @@ ghost use Rattle.jr_items.specs.Refusals.{IsOrMemory, IsTheRefusal, breaks_rule,
 ghost use Rattle.jr_types.specs.Rules.{is_mixin};
 ghost use Rattle.jr_overlay.specs.Overlays.{sighted};
 ghost use Rattle.jcr_write.specs.Places.{IsDueRefusal, unless_refused};
-ghost use Rattle.jcr_mixin.specs.Histories.{history_by, listing, may_be_versioned, mixed, mixin_made, mixin_put, mixin_refusal, mixing, place_mixing, version_refusal};
+ghost use Rattle.jcr_mixin.specs.Histories.{history_by, mixins_with, may_be_versioned, mixed, mixin_made, mixin_put, mixin_refusal, mixing, place_mixing, version_refusal};
 ghost use Rattle.jcr_fill.specs.Makings.{making};
 
 use crate::history::{begin_by, history_for};
@@ -249,7 +249,7 @@ fn listing(
     property: Option<&Property>,
     name: &Name,
 ) -> Result<List<Value>, AllocError>
-    ensures { IfOk result (λ values. values ≡ listing name.now (option_copied property.entry)) }
+    ensures { IfOk result (λ values. values ≡ mixins_with name.now (option_copied property.entry)) }
 {
     let mut values = listed(alloc, property)?;
     values.push(Value::Name(name.copy()?))?;

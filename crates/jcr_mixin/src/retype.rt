@@ -7,7 +7,7 @@ ghost use Rattle.jr_items.specs.Refusals.{out_of_memory};
 ghost use Rattle.jr_types.specs.Attributes.{are_ordered};
 ghost use Rattle.jr_overlay.specs.Overlays.{sighted};
 ghost use Rattle.jcr_write.specs.Places.{IsDueRefusal, types_of_node, unless_refused, with_property, without_property};
-ghost use Rattle.jcr_mixin.specs.Commands.{node_retyped, retyped, type_made};
+ghost use Rattle.jcr_mixin.specs.Commands.{node_retyped, of_primary_type, type_made};
 ghost use Rattle.jcr_fill.specs.Makings.{making, unknown_type};
 
 use jcr_fill::{check_type, complete};
@@ -73,10 +73,10 @@ fn retyped_by(
     node_type: &Name,
 ) -> Result<Node, Refusal>
     ensures ok { IfOk result (λ made. unless_refused (unknown_type types.now node_type.now)
-        (Ok (retyped types.now node.now node_type.now)) ≡ Ok made) }
+        (Ok (of_primary_type types.now node.now node_type.now)) ≡ Ok made) }
     ensures err { IfErr result (IsDueRefusal (unless_refused
         (unknown_type types.now node_type.now)
-        (Ok (retyped types.now node.now node_type.now)))) }
+        (Ok (of_primary_type types.now node.now node_type.now)))) }
 {
     match check_type(alloc, types, node_type) {
         Ok(()) => or_memory(alloc, retyped(alloc, types, node, node_type)),
@@ -101,7 +101,7 @@ fn retyped(
     node: &Node,
     node_type: &Name,
 ) -> Result<Node, AllocError>
-    ensures { IfOk result (λ made. made ≡ retyped types.now node.now node_type.now) }
+    ensures { IfOk result (λ made. made ≡ of_primary_type types.now node.now node_type.now) }
 {
     let typed = typed(alloc, node, node_type)?;
     without_lost_order(alloc, types, typed)

@@ -2,7 +2,7 @@
 ghost use Rattle.std.specs.Prelude.{◌≡◌, ◌≢◌, ◌∷◌, [], ◌++◌, false, IfOk, OnOk};
 ghost use Rattle.std.specs.Option.{option_map_or};
 ghost use Rattle.jr_path.specs.Names.{is_under, parent_of};
-ghost use Rattle.jcr_observe.specs.Observed.{code_of, commit_end, event_of, events_of, events_of_changes, events_of_commit, is_in_mask, is_observed, is_place_observed, passes};
+ghost use Rattle.jcr_observe.specs.Observed.{event_code, commit_end, event_of, observed_events, events_of_changes, events_of_commit, is_in_mask, is_observed, is_place_observed, passes_filter};
 
 use crate::event::{
     Filter, JcrEvent, NODE_ADDED, NODE_REMOVED, PERSIST, PROPERTY_ADDED, PROPERTY_CHANGED,
@@ -20,7 +20,7 @@ pub fn events(
     commits: &[CommitChanges],
     filter: &Filter,
 ) -> Result<Vec<JcrEvent>, AllocError>
-    ensures { IfOk result (λ events. events.items ≡ events_of filter.now commits.now) }
+    ensures { IfOk result (λ events. events.items ≡ observed_events filter.now commits.now) }
 {
     let mut events = Vec::new(alloc);
     for commit in commits {
@@ -83,7 +83,7 @@ fn event_of(change: &ItemChange) -> Result<JcrEvent, AllocError>
 
 // The code of the event of a change.
 fn code_of(change: &ItemChange) -> u32
-    ensures { result ≡ code_of change.now }
+    ensures { result ≡ event_code change.now }
 {
     match (&change.item.name, change.before, change.after) {
         (None, _, true) => NODE_ADDED,
@@ -96,7 +96,7 @@ fn code_of(change: &ItemChange) -> u32
 
 // Whether the event of a change passes the filter.
 fn passes(change: &ItemChange, filter: &Filter) -> bool
-    ensures { result ≡ passes filter.now change.now }
+    ensures { result ≡ passes_filter filter.now change.now }
 {
     is_in_mask(code_of(change), filter.mask) && is_observed(&change.item, filter)
 }

@@ -8,7 +8,7 @@ ghost use Rattle.oak_machine.specs.History.{begin_tree};
 ghost use Rattle.oak_machine.specs.Sessions.{drawn_since};
 ghost use Rattle.jcr_view.specs.Outcomes.{eval, is_viewed};
 ghost use Rattle.jcr_view.specs.Rebases.{moved_view};
-ghost use Rattle.jcr_law.specs.State.{accepted, answered, base_tree, command_at, counted, is_ok_text, moved, new_state, next_id, replied, state_of, used, viewed, with_token, without_token};
+ghost use Rattle.jcr_law.specs.State.{accepted, state_answered, base_tree, command_at, counted, is_ok_text, moved, new_state, next_id, state_replied, session_state, used, viewed, with_token, without_token};
 ghost use Rattle.jcr_law.specs.declared.state.Cursor.{Cursor as Standing};
 ghost use Rattle.jcr_past.specs.Calls.{called};
 
@@ -36,7 +36,7 @@ pub(crate) fn state_of(
     session: u32,
 ) -> Result<State, AllocError>
     ensures { IfOk result (λ state. state
-        ≡ state_of law.now start.now (reverse events.now) session) }
+        ≡ session_state law.now start.now (reverse events.now) session) }
 {
     let mut state = new_state(alloc, begin_tree(alloc, start)?);
     for at in 0..events.len() {
@@ -75,9 +75,9 @@ fn state_next(
     event: &Event,
     state: State,
 ) -> Result<State, AllocError>
-    requires { state ≡ state_of law.now start.now (reverse before.now) session }
+    requires { state ≡ session_state law.now start.now (reverse before.now) session }
     ensures { IfOk result (λ state. state
-        ≡ state_of law.now start.now (event.now ∷ reverse before.now) session) }
+        ≡ session_state law.now start.now (event.now ∷ reverse before.now) session) }
 {
     match event {
         Event::Login(s, v) => {
@@ -229,7 +229,7 @@ fn replied(
     state: State,
 ) -> Result<State, AllocError>
     ensures { IfOk result (λ new. new
-        ≡ replied law.now start.now (reverse before.now) session index text.now state) }
+        ≡ state_replied law.now start.now (reverse before.now) session index text.now state) }
 {
     match (
         command_at(law, session, index as usize),
@@ -268,7 +268,7 @@ fn answered(
     drew: bool,
 ) -> Result<State, AllocError>
     ensures { IfOk result (λ state. state
-        ≡ answered ok drew (called types.now call) command.now) }
+        ≡ state_answered ok drew (called types.now call) command.now) }
 {
     if ok {
         let state = accepted(alloc, types, call, command)?;

@@ -30,7 +30,7 @@ use Rattle.jr_tree.proofs.Entries.{exactly, none_below}
 use Rattle.jr_tree.proofs.Pointwise.{same_path as path_same}
 use Rattle.jr_items.specs.Names.{frozen_type, primary_type, uuid}
 use Rattle.jr_items.specs.Items.{first_of, is_empty, is_of_type, one_name, one_text, reference_in, same_name, values_in}
-use Rattle.jcr_ref.specs.References.{ReferencesOk, dangling, is_dangling, is_target, items_at, references_at, target_of, uuid_text}
+use Rattle.jcr_ref.specs.References.{ReferencesOk, dangling, is_dangling, is_target, properties_where, references_at, target_of, uuid_text}
 use Rattle.jcr_marks.specs.ByWrite.{references_in}
 use Rattle.jcr_marks.proofs.Stirred.{or_false}
 use Rattle.jcr_plan.specs.Checked.{has_reference, is_identity, may_dangle}
@@ -108,13 +108,13 @@ module _ (t : Nodes) (order : is_sorted path_cmp t ≡ true) (orderly : (p : Pat
   abbrev item_at : Path → Name → Item
   item_at p n = record { path = p; name = Some n }
 
-  node_holds : (p : Path) (node : Node) → node_at t p ≡ Some node → is_empty (items_at (is_dangling t p) p node.props) ≡ true
+  node_holds : (p : Path) (node : Node) → node_at t p ≡ Some node → is_empty (properties_where (is_dangling t p) p node.props) ≡ true
   node_holds p node is = ap (λ (es : List (Name × Property)). is_empty (map (λ (x : Name × Property). item_at p x.0) es))
       (none_passing (λ x. is_dangling t p x.1) node.props
       (all_found name_cmp nat_list_cmp_total (λ x. not (is_dangling t p x.1)) node.props (orderly p node is) (λ n x h. holds p n x (ap (prop_of n) is ∙ h))))
 
   none_dangling : dangling t ≡ None
-  none_dangling = ap first_of (nothing_flat (λ e. items_at (is_dangling t e.0) e.0 e.1.props) t (all_found path_cmp path_total _ t order node_holds))
+  none_dangling = ap first_of (nothing_flat (λ e. properties_where (is_dangling t e.0) e.0 e.1.props) t (all_found path_cmp path_total _ t order node_holds))
 
 -- ---- nodes that are named
 

@@ -18,7 +18,7 @@ use Rattle.jr_tree.specs.Trees.{Nodes, node_at}
 use Rattle.jr_tree.specs.Edits.{IsProper, applied}
 use Rattle.jr_tree.specs.declared.edit.Write.{Write}
 use Rattle.jr_items.specs.Items.{first_of, first_some, in_path_order}
-use Rattle.jr_items.specs.Refusals.{IsTheRefusal, checked_in, dangling as dangling_refusal, locked, over_limit, when}
+use Rattle.jr_items.specs.Refusals.{IsTheRefusal, checked_in, dangling_refusal as dangling_refusal, locked, over_limit, when}
 use Rattle.jr_types.specs.declared.TypeDef.{TypeDef}
 use Rattle.oak_clash.specs.declared.mark.MarkAt.{MarkAt}
 use Rattle.jcr_marks.specs.Marks.{marks_of}

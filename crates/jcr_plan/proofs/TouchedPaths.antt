@@ -20,9 +20,9 @@ use Rattle.jr_tree.proofs.Pointwise.{same_path as path_same}
 use Rattle.jr_items.specs.Items.{child_path, same_path}
 use Rattle.jr_types.specs.declared.TypeDef.{TypeDef}
 use Rattle.jr_edited.proofs.Children.{named_child}
-use Rattle.jr_rules.specs.Violations.{Violation, is_one_of, violations_among}
+use Rattle.jr_rules.specs.Violations.{Violation, is_among_names, violations_among}
 use Rattle.jcr_plan.specs.declared.touched.Touched.{Touched}
-use Rattle.jcr_plan.specs.Checked.{IsTouched, is_asked, is_asked_in, renewed_by, touched_by, violations_in, violations_touched}
+use Rattle.jcr_plan.specs.Checked.{IsTouched, is_looked_at, is_asked_in, renewed_by, touched_by, violations_in, violations_touched}
 
 -- ---- paths as nodes without properties
 
@@ -134,9 +134,9 @@ touched_found types u ws touched s is =
     paths = with_room [] (flat_map touched_by ws)
 
     G : Path → List Violation
-    G p = violations_among (is_asked ws p) types u p
+    G p = violations_among (is_looked_at ws p) types u p
 
-    asked : (p : Path) (n : Name) → is_asked_in touched p n ≡ is_asked ws p n
+    asked : (p : Path) (n : Name) → is_asked_in touched p n ≡ is_looked_at ws p n
     asked p n =
         (λ i. is_some (node_at (is.renewed i) p) || is_some (node_at (is.nodes i) (child_path p n)))
         ∙ (λ i. found p (flat_map renewed_by ws) i || found (child_path p n) (flat_map touched_by ws) i)
@@ -147,12 +147,12 @@ renewed_asked types u touched p h = λ i. violations_among (λ n. sym h i || is_
 
 -- of another the children of these names
 pub part_named : (types : List TypeDef) (u : Nodes) (touched : Touched) (p : Path) (names items : List Name) → is_some (node_at touched.renewed p) ≡ false → names ≡ items → items ≡ children_of touched.nodes p
-    → violations_among (is_one_of names) types u p ≡ violations_among (is_asked_in touched p) types u p
+    → violations_among (is_among_names names) types u p ≡ violations_among (is_asked_in touched p) types u p
 part_named types u touched p names items h same are =
     (λ i. violations_among (λ n. each n i) types u p) ∙ (λ i. violations_among (λ n. sym h i || is_some (node_at touched.nodes (child_path p n))) types u p)
   where
-    each : (n : Name) → is_one_of names n ≡ is_some (node_at touched.nodes (child_path p n))
-    each n = ap (λ ns. is_one_of ns n) (same ∙ are) ∙ named_child touched.nodes p n
+    each : (n : Name) → is_among_names names n ≡ is_some (node_at touched.nodes (child_path p n))
+    each n = ap (λ ns. is_among_names ns n) (same ∙ are) ∙ named_child touched.nodes p n
 
 -- all nodes are below the root
 pub all_below : (t : Nodes) → subtree_of t [] ≡ t

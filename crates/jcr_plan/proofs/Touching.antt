@@ -25,7 +25,7 @@ use Rattle.jr_tree.proofs.Pointwise.{same_path as path_same}
 use Rattle.jr_tree.proofs.Proper.{same_name as name_same}
 use Rattle.jr_items.specs.Names.{mixin_types, primary_type}
 use Rattle.jr_items.specs.Items.{child_path, first_of, first_some, same_name, same_path}
-use Rattle.jr_items.specs.Refusals.{checked_in, dangling as dangling_refusal, locked, over_limit, when}
+use Rattle.jr_items.specs.Refusals.{checked_in, dangling_refusal as dangling_refusal, locked, over_limit, when}
 use Rattle.jr_tree.specs.declared.shared.Refusal.{Refusal}
 use Rattle.jcr_ref.specs.References.{dangling}
 use Rattle.oak_clash.specs.declared.mark.MarkAt.{MarkAt}
@@ -36,7 +36,7 @@ use Rattle.jr_types.specs.declared.TypeDef.{TypeDef}
 use Rattle.jr_types.specs.Rules.{TypesOk, child_at, child_faults, node_types, property_faults}
 use Rattle.jr_rules.specs.Violations.{Violation, child_names, failing_at, faults_among, property_names, violations, violations_among, violations_at}
 use Rattle.jcr_plan.specs.declared.causes.Assured.{Assured}
-use Rattle.jcr_plan.specs.Checked.{IsAsAssured, above_typed, dangling_by, is_asked, is_renewed, is_touched, may_dangle, refusal_by, renewed_by, touched_by, violations_by, violations_touched}
+use Rattle.jcr_plan.specs.Checked.{IsAsAssured, above_typed, dangling_by, is_looked_at, is_renewed, is_node_touched, may_dangle, refusal_by, renewed_by, touched_by, violations_by, violations_touched}
 use Rattle.jcr_plan.specs.Refusals.{frozen_over, locked_over, plan_refusal, type_refusal}
 use Rattle.jcr_plan.proofs.Dangling.{dangles_not}
 use Rattle.jcr_plan.proofs.Refused.{all_there, planned}
@@ -238,33 +238,33 @@ module _ (types : List TypeDef) (t : Nodes) (ws : List Write) (sorted : is_sorte
         child = ap (λ (o : Option Node). cond (is_some o) (Some (prop_of primary_type o)) None) (node_kept (child_path p n) still)
 
   -- at a touched node it is enough to look at the children that are asked for
-  asked_alike : (p : Path) → is_some (node_at u p) ≡ true → violations_among (is_asked ws p) types u p ≡ violations_at types u p
+  asked_alike : (p : Path) → is_some (node_at u p) ≡ true → violations_among (is_looked_at ws p) types u p ≡ violations_at types u p
   asked_alike p stands = λ i. flat_map
       (λ rule. map (λ n. record { node = p; rule = rule; item = n })
       (filter (λ n. list_any (λ r. r == rule) (property_faults types (node_types u p) n (property_at u p n))) (property_names types u p)
       ++ filter (λ n. list_any (λ r. r == rule) (faults n i)) (child_names types u p)))
       (1 ∷ 2 ∷ 3 ∷ 4 ∷ 5 ∷ 6 ∷ 7 ∷ 8 ∷ 9 ∷ [])
     where
-      unasked : (n : Name) → (is_renewed ws p || is_touched ws (child_path p n)) ≡ false → [] ≡ child_faults types (node_types u p) n (child_at u p n)
+      unasked : (n : Name) → (is_renewed ws p || is_node_touched ws (child_path p n)) ≡ false → [] ≡ child_faults types (node_types u p) n (child_at u p n)
       unasked n h =
-          let parts = or_false (is_renewed ws p) (is_touched ws (child_path p n)) h in
+          let parts = or_false (is_renewed ws p) (is_node_touched ws (child_path p n)) h in
           sym (child_as p stands (sym (any_flat (same_path p) renewed_by ws) ∙ parts.0) n (sym (any_flat (same_path (child_path p n)) touched_by ws) ∙ parts.1))
 
-      faults : (n : Name) → faults_among (is_asked ws p) types u p n ≡ child_faults types (node_types u p) n (child_at u p n)
-      faults n = by (is_renewed ws p || is_touched ws (child_path p n)) refl
+      faults : (n : Name) → faults_among (is_looked_at ws p) types u p n ≡ child_faults types (node_types u p) n (child_at u p n)
+      faults n = by (is_renewed ws p || is_node_touched ws (child_path p n)) refl
         where
-          by : (b : Bool) → (is_renewed ws p || is_touched ws (child_path p n)) ≡ b → cond b (child_faults types (node_types u p) n (child_at u p n)) [] ≡ child_faults types (node_types u p) n (child_at u p n)
+          by : (b : Bool) → (is_renewed ws p || is_node_touched ws (child_path p n)) ≡ b → cond b (child_faults types (node_types u p) n (child_at u p n)) [] ≡ child_faults types (node_types u p) n (child_at u p n)
           by true h = refl
           by false h = unasked n h
 
-  each_alike : (es : Nodes) → list_all (λ e. is_some (node_at u e.0)) es ≡ true → flat_map (λ e. cond (is_touched ws e.0) (violations_among (is_asked ws e.0) types u e.0) []) es ≡ flat_map (λ e. violations_at types u e.0) es
+  each_alike : (es : Nodes) → list_all (λ e. is_some (node_at u e.0)) es ≡ true → flat_map (λ e. cond (is_node_touched ws e.0) (violations_among (is_looked_at ws e.0) types u e.0) []) es ≡ flat_map (λ e. violations_at types u e.0) es
   each_alike [] h = refl
   each_alike (e ∷ es) h =
       let parts = and_parts _ _ h in
-      ap (λ (vs : List Violation). vs ++ flat_map (λ e. cond (is_touched ws e.0) (violations_among (is_asked ws e.0) types u e.0) []) es) (by (is_touched ws e.0) refl parts.0)
+      ap (λ (vs : List Violation). vs ++ flat_map (λ e. cond (is_node_touched ws e.0) (violations_among (is_looked_at ws e.0) types u e.0) []) es) (by (is_node_touched ws e.0) refl parts.0)
       ∙ ap (λ (vs : List Violation). violations_at types u e.0 ++ vs) (each_alike es parts.1)
     where
-      by : (b : Bool) → is_touched ws e.0 ≡ b → is_some (node_at u e.0) ≡ true → cond b (violations_among (is_asked ws e.0) types u e.0) [] ≡ violations_at types u e.0
+      by : (b : Bool) → is_node_touched ws e.0 ≡ b → is_some (node_at u e.0) ≡ true → cond b (violations_among (is_looked_at ws e.0) types u e.0) [] ≡ violations_at types u e.0
       by true k stands = asked_alike e.0 stands
       by false k stands = sym (none_at e.0 stands (sym (any_flat (same_path e.0) touched_by ws) ∙ k))
 

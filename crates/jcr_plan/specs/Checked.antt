@@ -14,7 +14,7 @@ use Rattle.jr_tree.specs.Merging.{with_room}
 use Rattle.jr_tree.specs.Trees.{Nodes, node_at, property_at}
 use Rattle.jr_items.specs.Names.{frozen_type, primary_type, uuid}
 use Rattle.jr_items.specs.Items.{child_path, first_of, first_some, is_of_type, one_text, reference_in, same_name, same_path, values_in}
-use Rattle.jr_items.specs.Refusals.{checked_in, dangling as dangling_refusal, locked, over_limit, when}
+use Rattle.jr_items.specs.Refusals.{checked_in, dangling_refusal as dangling_refusal, locked, over_limit, when}
 use Rattle.jr_types.specs.declared.TypeDef.{TypeDef}
 use Rattle.jr_types.specs.Rules.{TypesOk}
 use Rattle.jr_rules.specs.Violations.{Violation, violations, violations_among}
@@ -43,8 +43,8 @@ touched_by (Put p n x) = p ∷ above_typed p n
 touched_by (Unset p n) = p ∷ above_typed p n
 
 -- the node at a path is one of these
-abbrev pub is_touched : List Write → Path → Bool
-is_touched ws p = list_any (same_path p) (flat_map touched_by ws)
+abbrev pub is_node_touched : List Write → Path → Bool
+is_node_touched ws p = list_any (same_path p) (flat_map touched_by ws)
 
 -- the node of which a write changes more than properties: it comes or goes, or its types are written
 abbrev pub renewed_by : Write → List Path
@@ -59,13 +59,13 @@ is_renewed ws p = list_any (same_path p) (flat_map renewed_by ws)
 
 -- the child of that name of the node at a path is looked at: each where the node itself is renewed,
 -- else those that are touched too
-abbrev pub is_asked : List Write → Path → Name → Bool
-is_asked ws p n = is_renewed ws p || is_touched ws (child_path p n)
+abbrev pub is_looked_at : List Write → Path → Name → Bool
+is_looked_at ws p n = is_renewed ws p || is_node_touched ws (child_path p n)
 
 -- the violations of the touched nodes, in their order
 abbrev pub violations_touched : List Write → List TypeDef → Nodes → List Violation
 violations_touched ws types t = flat_map (λ e.
-    cond (is_touched ws e.0) (violations_among (is_asked ws e.0) types t e.0) []) t
+    cond (is_node_touched ws e.0) (violations_among (is_looked_at ws e.0) types t e.0) []) t
 
 -- the violations that are looked for
 abbrev pub violations_by : Assured → List TypeDef → Nodes → List Write → List Violation

@@ -3,7 +3,7 @@ ghost use Rattle.std.specs.Prelude.{◌≡◌, None, codes, not, option_map, IfE
 ghost use Rattle.std.specs.String.{string_bytes};
 ghost use Rattle.jr_tree.specs.Edits.{applied};
 ghost use Rattle.jr_items.specs.Items.{first_of};
-ghost use Rattle.jr_items.specs.Refusals.{IsTheRefusal, checked_in, dangling as dangling_refusal, locked, over_limit, when};
+ghost use Rattle.jr_items.specs.Refusals.{IsTheRefusal, checked_in, dangling_refusal as dangling_refusal, locked, over_limit, when};
 ghost use Rattle.jcr_plan.specs.Checked.{are_passed_over, dangling_by, refusal_by};
 ghost use Rattle.jcr_plan.specs.Plans.{has_few_nodes};
 ghost use Rattle.jcr_plan.specs.Refusals.{frozen_over, locked_over};

@@ -11,7 +11,7 @@ use Rattle.jr_items.specs.Refusals.{IsTheRefusal, out_of_memory}
 use Rattle.jr_part.specs.Parts.{Knowledge}
 use Rattle.jr_overlay.specs.Overlays.{Changed, Sighted, View, known_view, sighted}
 use Rattle.jr_types.specs.declared.TypeDef.{TypeDef}
-use Rattle.jcr_ref.specs.Histories.{history_of, version_names}
+use Rattle.jcr_ref.specs.Histories.{version_history_of, version_names}
 use Rattle.jcr_trans.specs.Answers.{Answer, ShowsNames}
 use Rattle.jcr_trans.specs.declared.command.Command.{Command}
 use Rattle.jcr_frozen.specs.Histories.{no_versions}
@@ -45,12 +45,12 @@ pub viewed_as : (seen whole : View) (p : Path) (shows : Node → Answer) (b : An
 viewed_as seen whole p shows b same e = subst (λ (v : View). answer_at v p shows ≡ b) same e
 
 pub versions_shown : (base t : Nodes) (p h : Path) (result : Result (String Global) Refusal) → t ≡ base
-    → no_versions (codes "versions") t p ≡ None → h ≡ history_of t p
+    → no_versions (codes "versions") t p ≡ None → h ≡ version_history_of t p
     → Replies (ShowsNames (version_names t h)) result → Replies (versions_answer base p) result
 versions_shown base t p h result same none there is =
     subst (λ (u : Nodes). Replies (versions_answer u p) result) same
     (replies_same (versions_answer t p) (ShowsNames (version_names t h)) result
-    (ap (λ (r : Option Refusal). refused_or r (ShowsNames (version_names t (history_of t p)))) none
+    (ap (λ (r : Option Refusal). refused_or r (ShowsNames (version_names t (version_history_of t p)))) none
     ∙ ap (λ (q : Path). ShowsNames (version_names t q)) (sym there)) is)
 
 pub versions_refused : (base t : Nodes) (p : Path) (r : Refusal) → t ≡ base
@@ -58,7 +58,7 @@ pub versions_refused : (base t : Nodes) (p : Path) (r : Refusal) → t ≡ base
     → ¬ (r ≡ out_of_memory) → versions_answer base p ≡ refused r
 versions_refused base t p r same is m =
     subst (λ (u : Nodes). versions_answer u p ≡ refused r) same
-    (ap (λ (x : Option Refusal). refused_or x (ShowsNames (version_names t (history_of t p)))) (is m))
+    (ap (λ (x : Option Refusal). refused_or x (ShowsNames (version_names t (version_history_of t p)))) (is m))
 
 pub read_as : (types : List TypeDef) (base : Nodes) (command made : Command) (k : Knowledge) (c d : Changed)
     (result : Result (String Global) Refusal) → command ≡ made → c ≡ d

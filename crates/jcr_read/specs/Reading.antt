@@ -15,8 +15,8 @@ use Rattle.jr_items.specs.Items.{one_text, property_of}
 use Rattle.jr_items.specs.Names.{uuid}
 use Rattle.jr_items.specs.Refusals.{limit_refusal, no_identifier, no_item, out_of_memory}
 use Rattle.jr_types.specs.declared.TypeDef.{TypeDef}
-use Rattle.jcr_ref.specs.References.{by_id, referrers}
-use Rattle.jcr_ref.specs.Histories.{history_of, version_names}
+use Rattle.jcr_ref.specs.References.{node_by_id, referrers}
+use Rattle.jcr_ref.specs.Histories.{version_history_of, version_names}
 use Rattle.jcr_frozen.specs.Histories.{no_versions}
 use Rattle.jcr_trans.specs.Answers.{Answer, Done, Refused, ShowsItems, ShowsNames, ShowsProperties, ShowsProperty, ShowsText}
 use Rattle.jcr_trans.specs.Texts.{answer_text}
@@ -50,12 +50,12 @@ get_answer view p = refused_or (limit_refusal p)
     (option_map_or ShowsProperty (property_named view p) (refused (no_item p)))
 
 -- what is shown of the node at p, where one is there
-abbrev pub shown_at : View → Path → (Node → Answer) → Answer
-shown_at view p shows = option_map_or shows (view.node p) (refused (no_item p))
+abbrev pub shown_node : View → Path → (Node → Answer) → Answer
+shown_node view p shows = option_map_or shows (view.node p) (refused (no_item p))
 
 -- the same, where the path keeps the limits
 abbrev pub answer_at : View → Path → (Node → Answer) → Answer
-answer_at view p shows = refused_or (limit_refusal p) (shown_at view p shows)
+answer_at view p shows = refused_or (limit_refusal p) (shown_node view p shows)
 
 -- the names of a node's children, in their order
 abbrev pub list_answer : List TypeDef → View → Path → Answer
@@ -76,7 +76,7 @@ id_answer view p = answer_at view p (λ node. ShowsText (node_identifier node p)
 
 -- the path of the first node that has an identifier
 abbrev pub by_id_answer : View → List ℕ → Answer
-by_id_answer view id = option_map_or (λ p. ShowsText (path_text p)) (by_id (view.below []) id)
+by_id_answer view id = option_map_or (λ p. ShowsText (path_text p)) (node_by_id (view.below []) id)
     (refused (no_identifier id))
 
 -- the properties that refer to a node
@@ -87,7 +87,7 @@ refs_answer view p = answer_at view p
 -- the names of a node's versions in the order of making, whatever is pending
 abbrev pub versions_answer : (base : Nodes) → Path → Answer
 versions_answer base p = refused_or (no_versions (codes "versions") base p)
-    (ShowsNames (version_names base (history_of base p)))
+    (ShowsNames (version_names base (version_history_of base p)))
 
 -- what a reading command answers
 abbrev pub shown : List TypeDef → View → (base : Nodes) → Command → Answer

@@ -9,11 +9,11 @@ ghost use Rattle.jr_part.specs.Parts.{LacksNothing};
 ghost use Rattle.jr_part.specs.declared.need.Need.TheVariants as need;
 ghost use Rattle.jr_tree.specs.Trees.{Nodes, subtree_of};
 ghost use Rattle.jr_tree.specs.declared.tree.Node.{Node as TreeNode};
-ghost use Rattle.jcr_ref.specs.References.{by_id, referrers};
-ghost use Rattle.jcr_ref.specs.Histories.{history_of, version_names};
+ghost use Rattle.jcr_ref.specs.References.{node_by_id, referrers};
+ghost use Rattle.jcr_ref.specs.Histories.{version_history_of, version_names};
 ghost use Rattle.jcr_trans.specs.Answers.{Answer, ShowsItems, ShowsNames, ShowsProperties, ShowsProperty, ShowsText};
 ghost use Rattle.jcr_trans.specs.Texts.{answer_text};
-ghost use Rattle.jcr_read.specs.Reading.{Replies, answer_at, by_id_answer, get_answer, id_answer, list_answer, node_identifier, property_named, props_answer, reads_all, refs_answer, refused, shown, shown_at, versions_answer};
+ghost use Rattle.jcr_read.specs.Reading.{Replies, answer_at, by_id_answer, get_answer, id_answer, list_answer, node_identifier, property_named, props_answer, reads_all, refs_answer, refused, shown, shown_node, versions_answer};
 ghost use Rattle.jr_order.specs.Order.{ordered};
 
 use jcr_frozen::find_history;
@@ -93,9 +93,9 @@ fn find_node<'a>(alloc: Global, sight: &Sight<'a>, path: &Path) -> Result<&'a No
 
 fn node_there<'a>(alloc: Global, sight: &Sight<'a>, path: &Path) -> Result<&'a Node, Refusal>
     ensures ok { IfOk result (λ node. (shows : TreeNode → Answer)
-        → shown_at (sighted sight.now) path.now shows ≡ shows node.now) }
+        → shown_node (sighted sight.now) path.now shows ≡ shows node.now) }
     ensures err { IfErr result (λ refusal. ¬ (refusal ≡ out_of_memory) → (shows : TreeNode → Answer)
-        → shown_at (sighted sight.now) path.now shows ≡ refused refusal) }
+        → shown_node (sighted sight.now) path.now shows ≡ refused refusal) }
 {
     match sight.node(path) {
         Some(node) => Ok(node),
@@ -220,7 +220,7 @@ pub fn identified(alloc: Global, view: &Tree, id: &str) -> Result<String, Refusa
 
 // The first node of a view with an identifier.
 fn find_identified(alloc: Global, view: &Tree, id: &str) -> Result<Option<Path>, AllocError>
-    ensures { IfOk result (λ found. found ≡ by_id (subtree_of view.now []) id.now) }
+    ensures { IfOk result (λ found. found ≡ node_by_id (subtree_of view.now []) id.now) }
 {
     is_all_below(view);
     by_id(alloc, view, id)

@@ -14,7 +14,7 @@ use Rattle.jr_path.specs.declared.path.Path.{Path}
 use Rattle.jr_path.proofs.Maps.{lookup-insert_entry}
 use Rattle.jr_value.specs.Values.{same_bytes}
 use Rattle.jcr_ref.specs.References.{uuid_text}
-use Rattle.jcr_ref.specs.Targets.{node_in, with_first}
+use Rattle.jcr_ref.specs.Targets.{node_by_text, with_first}
 
 or_none : (o : Option Path) → option_or o None ≡ o
 or_none None = refl
@@ -50,12 +50,12 @@ joined None false p rest = refl
 
 -- one node more is noted
 pub first_more : (index new : List (List ℕ × Path)) (o : Option (List ℕ)) (test : Path → Bool) (p : Path) (rest : List Path) (id : ℕ) (all : Option Path) → new ≡ with_first index o p → test p ≡ option_map_or (same_bytes (uuid_text id)) o false
-    → option_or (node_in index id) (find test (p ∷ rest)) ≡ all → option_or (node_in new id) (find test rest) ≡ all
+    → option_or (node_by_text index id) (find test (p ∷ rest)) ≡ all → option_or (node_by_text new id) (find test rest) ≡ all
 first_more index new o test p rest id all made is so_far =
-    ap (λ (m : List (List ℕ × Path)). option_or (node_in m id) (find test rest)) made
+    ap (λ (m : List (List ℕ × Path)). option_or (node_by_text m id) (find test rest)) made
     ∙ (ap (λ (found : Option Path). option_or found (find test rest)) (noted index o p (uuid_text id))
-    ∙ (joined (node_in index id) (option_map_or (same_bytes (uuid_text id)) o false) p (find test rest)
-    ∙ (ap (λ (b : Bool). option_or (node_in index id) (cond b (Some p) (find test rest))) (sym is) ∙ so_far)))
+    ∙ (joined (node_by_text index id) (option_map_or (same_bytes (uuid_text id)) o false) p (find test rest)
+    ∙ (ap (λ (b : Bool). option_or (node_by_text index id) (cond b (Some p) (find test rest))) (sym is) ∙ so_far)))
 
 -- what a loop has put behind, with one item more
 pub found_more : {X Y : Type 0} (f : X → Option Y) (xs : List X) (i : ℕ) (x : X) (old new : List Y) → i < length xs → x ≡ get_or xs i x → old ≡ filter_map f (take i xs) → new ≡ old ++ cons_option (f x) [] → new ≡ filter_map f (take (i + 1) xs)

@@ -11,7 +11,7 @@ use Rattle.jr_tree.specs.declared.edit.Write.TheVariants.{Gone, Unset}
 use Rattle.jr_tree.specs.Trees.{Nodes}
 use Rattle.jr_tree.specs.Edits.{applied}
 use Rattle.jcr_ref.specs.Histories.{version_names}
-use Rattle.jcr_ref.specs.References.{identifier, identifier_number, uuid_text, identifier_of, by_id, target_of, referrers, dangling}
+use Rattle.jcr_ref.specs.References.{identifier, identifier_number, uuid_text, identifier_of, node_by_id, target_of, referrers, dangling}
 
 first : identifier 0 1 ≡ codes "00000000-0000-4000-8000-000000000001"
 first = refl
@@ -38,10 +38,10 @@ both =
     ([], node []) ∷ (a, node ((codes "r", Single (value.Reference (identifier_number 0 1))) ∷ []))
     ∷ (t, node ((codes "jcr:uuid", Single (value.Str (identifier 0 1))) ∷ [])) ∷ []
 
-found : by_id both (identifier 0 1) ≡ Some t
+found : node_by_id both (identifier 0 1) ≡ Some t
 found = refl
 
-found_by_path : by_id both (codes "/a") ≡ Some a
+found_by_path : node_by_id both (codes "/a") ≡ Some a
 found_by_path = refl
 
 target : target_of both (identifier_number 0 1) ≡ Some t

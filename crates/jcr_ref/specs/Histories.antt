@@ -25,8 +25,8 @@ use Rattle.jcr_ref.specs.declared.histories.HistoryWrites.{HistoryWrites}
 use Rattle.jcr_ref.specs.declared.histories.Place.{Place}
 
 -- the history of a node stands in the version storage, by the node's identifier
-abbrev pub history_of : Nodes → Path → Path
-history_of t p = version_storage ++ identifier_of t p ∷ []
+abbrev pub version_history_of : Nodes → Path → Path
+version_history_of t p = version_storage ++ identifier_of t p ∷ []
 
 -- the root version of a history, and the node of its labels
 abbrev pub root_of : Path → Path
@@ -70,11 +70,11 @@ history_references p history root =
 
 -- the node's history is there
 abbrev pub has_history : Nodes → Path → Bool
-has_history t p = is_some (node_at t (history_of t p))
+has_history t p = is_some (node_at t (version_history_of t p))
 
 -- the references to a history that is there
-abbrev pub joined : Nodes → Path → Path → List Write
-joined t p h = history_references p (number_at t h) (number_at t (root_of h))
+abbrev pub joined_history : Nodes → Path → Path → List Write
+joined_history t p h = history_references p (number_at t h) (number_at t (root_of h))
 
 -- a new history with the session's next two identifiers, and the references to it
 abbrev pub begun : Path → Path → Who → List Write
@@ -82,7 +82,7 @@ begun p h who = new_history h (number_by who (who.ids + 1)) (number_by who (who.
 
 -- what a node that becomes versionable writes, once it has an identifier
 abbrev pub history_writes : Nodes → Path → Who → List Write
-history_writes t p who = cond (has_history t p) (joined t p (history_of t p)) (begun p (history_of t p) who)
+history_writes t p who = cond (has_history t p) (joined_history t p (version_history_of t p)) (begun p (version_history_of t p) who)
 
 -- how many identifiers that draws
 abbrev pub history_drawn : Nodes → Path → ℕ
@@ -94,8 +94,8 @@ BeginsHistory t p who None = ¬ (IsName (identifier_of t p))
 BeginsHistory t p who (Some made) = (made.writes ≡ history_writes t p who) × (made.drawn ≡ history_drawn t p)
 
 -- where a version stands in the order of making: the root version first, then by the number of bytes, then by these, so that `v10` stands behind `v9`
-abbrev pub place_of : Name → Place
-place_of n = record { later = not (same_name root_version n); bytes = length n; name = n }
+abbrev pub version_place : Name → Place
+version_place n = record { later = not (same_name root_version n); bytes = length n; name = n }
 
 -- places in the order of making: the root version, then by the number of bytes, then by name
 abbrev pub place_cmp : Place → Place → Ordering
@@ -103,7 +103,7 @@ place_cmp = then_cmp (on (λ q. q.later) bool_cmp) (then_cmp (on (λ q. q.bytes)
 
 -- one version more, in its place
 abbrev pub with_version : List (Place × Bool) → Name → List (Place × Bool)
-with_version places n = cond (same_name version_labels n) places (insert_entry place_cmp places (place_of n) true)
+with_version places n = cond (same_name version_labels n) places (insert_entry place_cmp places (version_place n) true)
 
 -- the names of a history's versions in the order of making: its children but the node of its labels
 abbrev pub version_names : Nodes → (history : Path) → List Name

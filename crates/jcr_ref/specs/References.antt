@@ -43,8 +43,8 @@ abbrev pub identifier_of : Nodes → Path → List ℕ
 identifier_of t p = unwrap_or (one_text (property_at t p uuid)) (path_text p)
 
 -- the first node that has the identifier
-abbrev pub by_id : Nodes → List ℕ → Option Path
-by_id t id = find (λ p. same_bytes (identifier_of t p) id) (keys_of t)
+abbrev pub node_by_id : Nodes → List ℕ → Option Path
+node_by_id t id = find (λ p. same_bytes (identifier_of t p) id) (keys_of t)
 
 -- the path whose text this is, if it is the text of one
 abbrev pub IsPathNamed : (id : List ℕ) → Option Path → Type 0
@@ -59,22 +59,22 @@ abbrev pub target_of : Nodes → ℕ → Option Path
 target_of t n = find (is_target t n) (keys_of t)
 
 -- the number that a value of kind REFERENCE or WEAKREFERENCE is
-abbrev pub named_in : Value → Option ℕ
-named_in (value.Reference n) = Some n
-named_in (value.WeakReference n) = Some n
-named_in _ = None
+abbrev pub number_named : Value → Option ℕ
+number_named (value.Reference n) = Some n
+number_named (value.WeakReference n) = Some n
+number_named _ = None
 
 -- the properties of one node of which the test holds
-abbrev pub items_at : (Property → Bool) → Path → List (Name × Property) → List Item
-items_at test p props = map (λ x. record { path = p; name = Some x.0 }) (filter (λ x. test x.1) props)
+abbrev pub properties_where : (Property → Bool) → Path → List (Name × Property) → List Item
+properties_where test p props = map (λ x. record { path = p; name = Some x.0 }) (filter (λ x. test x.1) props)
 
 -- the properties of nodes of which the test holds, in path order, then by name
 abbrev pub items_where : (Path → Property → Bool) → Nodes → List Item
-items_where test t = flat_map (λ e. items_at (test e.0) e.0 e.1.props) t
+items_where test t = flat_map (λ e. properties_where (test e.0) e.0 e.1.props) t
 
 -- a value of the property is a reference, maybe a weak one, to the identifier
 abbrev pub refers : (id : List ℕ) → Property → Bool
-refers id x = list_any (λ n. same_bytes (uuid_text n) id) (filter_map named_in (values_in x))
+refers id x = list_any (λ n. same_bytes (uuid_text n) id) (filter_map number_named (values_in x))
 
 -- the references, weak ones too, that name an identifier
 abbrev pub referrers : Nodes → (id : List ℕ) → List Item

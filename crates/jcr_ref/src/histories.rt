@@ -10,7 +10,7 @@ ghost use Rattle.jr_path.specs.Grammar.{IsName};
 ghost use Rattle.jr_items.specs.Names.{version_storage};
 ghost use Rattle.jr_items.specs.Own.{own_name};
 ghost use Rattle.jcr_ref.specs.References.{identifier_of, uuid_text};
-ghost use Rattle.jcr_ref.specs.Histories.{BeginsHistory, begun, history_drawn, history_of, history_references, history_writes, identified_writes, joined, new_history, number_at, number_by, typed_writes, version_names, with_version};
+ghost use Rattle.jcr_ref.specs.Histories.{BeginsHistory, begun, history_drawn, version_history_of, history_references, history_writes, identified_writes, joined_history, new_history, number_at, number_by, typed_writes, version_names, with_version};
 
 use crate::identifiers::{identifier_number, uuid_text};
 use jr_items::{OwnName, one_text};
@@ -55,7 +55,7 @@ impl DeepCopy for HistoryWrites {
 
 // The place of a node's history, if its identifier is a name.
 fn history_path(alloc: Global, tree: &Tree, path: &Path) -> Result<Option<Path>, AllocError>
-    ensures { IfOk result (λ found. MatchOption found (¬ (IsName (identifier_of tree.now path.now))) (λ h. h ≡ history_of tree.now path.now)) }
+    ensures { IfOk result (λ found. MatchOption found (¬ (IsName (identifier_of tree.now path.now))) (λ h. h ≡ version_history_of tree.now path.now)) }
 {
     let id = identifier_of(alloc, tree, path)?;
     match Name::parse(alloc, id.as_str()) {
@@ -98,7 +98,7 @@ fn writes_for(
     history: &Path,
     who: &Who,
 ) -> Result<HistoryWrites, AllocError>
-    requires { history.now ≡ history_of tree.now path.now }
+    requires { history.now ≡ version_history_of tree.now path.now }
     ensures writes { IfOk result (λ made. made.writes ≡ history_writes tree.now path.now who.now) }
     ensures drawn { IfOk result (λ made. made.drawn ≡ history_drawn tree.now path.now) }
 {
@@ -116,7 +116,7 @@ fn join_history(
     path: &Path,
     history: &Path,
 ) -> Result<HistoryWrites, AllocError>
-    ensures writes { IfOk result (λ made. made.writes ≡ joined tree.now path.now history.now) }
+    ensures writes { IfOk result (λ made. made.writes ≡ joined_history tree.now path.now history.now) }
     ensures drawn { IfOk result (λ made. made.drawn ≡ 0) }
 {
     let root = child(alloc, history, OwnName::RootVersion)?;

@@ -5,7 +5,7 @@ ghost use Rattle.std.specs.String.{string_bytes};
 ghost use Rattle.jr_value.specs.Values.{same_bytes};
 ghost use Rattle.jr_items.specs.Items.{one_text, same_path};
 ghost use Rattle.jr_items.specs.Names.{uuid};
-ghost use Rattle.jcr_ref.specs.References.{IsPathNamed, by_id, identifier, identifier_number, identifier_of, uuid_text};
+ghost use Rattle.jcr_ref.specs.References.{IsPathNamed, node_by_id, identifier, identifier_number, identifier_of, uuid_text};
 
 use jr_items::{OwnName, is_same_text, one_text};
 use jr_path::{DeepCopy, Name, Path, PathFault};
@@ -54,7 +54,7 @@ pub(crate) fn is_uuid_text(number: u128, id: &str) -> bool
 
 /// The first node in path order that has the identifier: its `jcr:uuid` where that is one STRING, and else its path.
 pub fn by_id(alloc: Global, tree: &Tree, id: &str) -> Result<Option<Path>, AllocError>
-    ensures { IfOk result (λ found. found ≡ by_id tree.now id.now) }
+    ensures { IfOk result (λ found. found ≡ node_by_id tree.now id.now) }
 {
     let key = OwnName::Uuid.name(alloc)?;
     let named = path_named(alloc, id)?;
@@ -70,7 +70,7 @@ fn first_with(
 ) -> Result<Option<Path>, AllocError>
     requires key { key.now ≡ uuid }
     requires named { IsPathNamed id.now (option_copied named) }
-    ensures { IfOk result (λ found. found ≡ by_id tree.now id.now) }
+    ensures { IfOk result (λ found. found ≡ node_by_id tree.now id.now) }
 {
     for (at, _) in tree.iter() {
         if has_identifier(tree, key, at, id, named) {

@@ -5,8 +5,8 @@ ghost use Rattle.std.specs.Option.{option_copied, option_map_or};
 ghost use Rattle.jr_items.specs.Items.{first_of, is_of_type, reference_in};
 ghost use Rattle.jr_items.specs.Names.{frozen_type};
 ghost use Rattle.jr_value.specs.Values.{same_bytes};
-ghost use Rattle.jcr_ref.specs.References.{IsIndex, dangling, is_dangling, items_at, named_in, referrers, refers, target_of, uuid_text, with_identifier};
-ghost use Rattle.jcr_ref.specs.Targets.{IsReady};
+ghost use Rattle.jcr_ref.specs.References.{IsIndex, dangling, is_dangling, properties_where, number_named, referrers, refers, target_of, uuid_text, with_identifier};
+ghost use Rattle.jcr_ref.specs.Targets.{IsIndexReady};
 
 use crate::identifiers::{is_uuid_text, uuid_text};
 use jr_items::{OwnName, one_text};
@@ -29,7 +29,7 @@ pub fn referrers(alloc: Global, tree: &Tree, id: &str) -> Result<Vec<Item>, Allo
 
 // Notes the referring properties of a node.
 fn note_referrers(items: &mut Vec<Item>, at: &Path, node: &Node, id: &str) -> Result<(), AllocError>
-    ensures { OnOk result (items.new.items ≡ items.old.items ++ items_at (λ x. refers id.now x) at.now node.now.props) }
+    ensures { OnOk result (items.new.items ≡ items.old.items ++ properties_where (λ x. refers id.now x) at.now node.now.props) }
 {
     for (name, property) in node.props.iter() {
         if refers(property, id) {
@@ -59,7 +59,7 @@ fn refers(property: &Property, id: &str) -> bool
 }
 
 fn one_names(values: &[Value], id: &str) -> bool
-    ensures { result ≡ list_any (λ n. same_bytes (uuid_text n) id.now) (filter_map named_in values.now) }
+    ensures { result ≡ list_any (λ n. same_bytes (uuid_text n) id.now) (filter_map number_named values.now) }
 {
     for value in values {
         if names(value, id) {
@@ -70,7 +70,7 @@ fn one_names(values: &[Value], id: &str) -> bool
 }
 
 fn names(value: &Value, id: &str) -> bool
-    ensures { result ≡ option_map_or (λ n. same_bytes (uuid_text n) id.now) (named_in value.now) false }
+    ensures { result ≡ option_map_or (λ n. same_bytes (uuid_text n) id.now) (number_named value.now) false }
 {
     match value {
         Value::Reference(number) => is_uuid_text(*number, id),
@@ -100,7 +100,7 @@ struct Targets<'a> {
 impl<'a> Targets<'a> {
     fn of(alloc: Global, tree: &'a Tree) -> Result<Targets<'a>, AllocError>
         ensures tree { IfOk result (λ targets. targets.tree.now ≡ tree.now) }
-        ensures ready { IfOk result IsReady }
+        ensures ready { IfOk result IsIndexReady }
     {
         let index = index(alloc, tree)?;
         let primary = OwnName::PrimaryType.name(alloc)?;
@@ -114,7 +114,7 @@ impl<'a> Targets<'a> {
 
     // The first property of the tree with such a reference.
     fn first_dangling(&self) -> Result<Option<Item>, AllocError>
-        requires { IsReady self.now }
+        requires { IsIndexReady self.now }
         ensures { IfOk result (λ item. item ≡ dangling self.now.tree.now) }
     {
         for (at, node) in self.tree.iter() {
@@ -128,8 +128,8 @@ impl<'a> Targets<'a> {
 
     // The first property of a node with a reference that names no node.
     fn first_lacking(&self, at: &Path, node: &Node) -> Result<Option<Item>, AllocError>
-        requires { IsReady self.now }
-        ensures { IfOk result (λ item. item ≡ first_of (items_at (is_dangling self.now.tree.now at.now) at.now node.now.props)) }
+        requires { IsIndexReady self.now }
+        ensures { IfOk result (λ item. item ≡ first_of (properties_where (is_dangling self.now.tree.now at.now) at.now node.now.props)) }
     {
         for (name, property) in node.props.iter() {
             if self.is_dangling(at, property)? {
@@ -141,7 +141,7 @@ impl<'a> Targets<'a> {
 
     // Whether the property has such a reference, on a node that is no `nt:frozenNode`.
     fn is_dangling(&self, at: &Path, property: &Property) -> Result<bool, AllocError>
-        requires { IsReady self.now }
+        requires { IsIndexReady self.now }
         ensures { IfOk result (λ answer. answer ≡ is_dangling self.now.tree.now at.now property.now) }
     {
         if self.is_frozen(at) {
@@ -154,7 +154,7 @@ impl<'a> Targets<'a> {
     }
 
     fn is_frozen(&self, at: &Path) -> bool
-        requires { IsReady self.now }
+        requires { IsIndexReady self.now }
         ensures { result ≡ is_of_type self.now.tree.now frozen_type at.now }
     {
         match self.tree.property(at, &self.primary) {
@@ -164,7 +164,7 @@ impl<'a> Targets<'a> {
     }
 
     fn one_lacks(&self, values: &[Value]) -> Result<bool, AllocError>
-        requires { IsReady self.now }
+        requires { IsIndexReady self.now }
         ensures { IfOk result (λ answer. answer ≡ list_any (λ id. is_none (target_of self.now.tree.now id)) (filter_map reference_in values.now)) }
     {
         for value in values {
@@ -177,7 +177,7 @@ impl<'a> Targets<'a> {
 
     // Whether the value is a REFERENCE that names no node.
     fn lacks(&self, value: &Value) -> Result<bool, AllocError>
-        requires { IsReady self.now }
+        requires { IsIndexReady self.now }
         ensures { IfOk result (λ answer. answer ≡ option_map_or (λ id. is_none (target_of self.now.tree.now id)) (reference_in value.now) false) }
     {
         match value {
@@ -188,7 +188,7 @@ impl<'a> Targets<'a> {
 
     // Whether no node has the identifier.
     fn lacks_node(&self, number: u128) -> Result<bool, AllocError>
-        requires { IsReady self.now }
+        requires { IsIndexReady self.now }
         ensures { IfOk result (λ answer. answer ≡ is_none (target_of self.now.tree.now number)) }
     {
         let id = Text::of(uuid_text(self.alloc, number)?);

@@ -3,7 +3,7 @@ ghost use Rattle.std.specs.Prelude.{◌≡◌, ◌++◌, [], Some, IfOk, OnOk};
 ghost use Rattle.std.specs.List.{cons_option, filter_map};
 ghost use Rattle.std.specs.Option.{option_copied};
 ghost use Rattle.jcr_ref.specs.References.{target_of};
-ghost use Rattle.jcr_ref.specs.Targets.{FindsTargets, node_in, with_first};
+ghost use Rattle.jcr_ref.specs.Targets.{FindsTargets, node_by_text, with_first};
 
 use crate::identifiers::uuid_text;
 use jr_items::{OwnName, one_text};
@@ -26,7 +26,7 @@ pub fn targets_of(alloc: Global, tree: &Tree, ids: &[u128]) -> Result<Vec<Path>,
 
 // The nodes that an index has for these references.
 fn nodes_in(alloc: Global, index: &Keyed<Text, Path>, ids: &[u128]) -> Result<Vec<Path>, AllocError>
-    ensures { IfOk result (λ paths. paths.items ≡ filter_map (node_in index.now) ids.now) }
+    ensures { IfOk result (λ paths. paths.items ≡ filter_map (node_by_text index.now) ids.now) }
 {
     let mut paths = Vec::new(alloc);
     for id in ids {
@@ -41,7 +41,7 @@ fn push_node(
     index: &Keyed<Text, Path>,
     id: u128,
 ) -> Result<(), AllocError>
-    ensures { OnOk result (paths.new.items ≡ paths.old.items ++ cons_option (node_in index.now id) []) }
+    ensures { OnOk result (paths.new.items ≡ paths.old.items ++ cons_option (node_by_text index.now id) []) }
 {
     match node_in(alloc, index, id)? {
         Some(path) => {
@@ -53,7 +53,7 @@ fn push_node(
 }
 
 fn node_in(alloc: Global, index: &Keyed<Text, Path>, id: u128) -> Result<Option<&Path>, AllocError>
-    ensures { IfOk result (λ found. option_copied found ≡ node_in index.now id) }
+    ensures { IfOk result (λ found. option_copied found ≡ node_by_text index.now id) }
 {
     let text = Text::of(uuid_text(alloc, id)?);
     Ok(index.get(&text))

@@ -24,14 +24,14 @@ use Rattle.jr_items.specs.Refusals.{in_system, no_node, or_else, own_rule, place
 use Rattle.jr_types.specs.declared.TypeDef.{TypeDef}
 use Rattle.jcr_lock.specs.Needed.{is_needed}
 use Rattle.jcr_ref.specs.Drawn.{latest_date}
-use Rattle.jcr_ref.specs.Histories.{history_of, number_by, version_names}
+use Rattle.jcr_ref.specs.Histories.{version_history_of, number_by, version_names}
 use Rattle.jcr_ref.specs.References.{identifier_of}
 use Rattle.jcr_version.specs.Edits.{checked_in_writes, checkin_due, checkin_edit, checkin_own, checkin_refusal, checkin_writes, new_version, succeed, unless_refused}
 use Rattle.jcr_version.specs.Limits.{added_limit, within_limits}
 use Rattle.jcr_frozen.specs.Frozen.{frozen_tree}
 use Rattle.jcr_frozen.specs.Histories.{drawn_id, no_versions, predecessors_of, unversioned, version_name, versions_of}
 use Rattle.jcr_restore.specs.BroughtBack.{IsBack}
-use Rattle.jcr_restore.specs.CheckedIn.{IsCheckIn, IsLeftAlone, made_version}
+use Rattle.jcr_restore.specs.CheckedIn.{IsCheckIn, IsUntouchedSince, made_version}
 use Rattle.jcr_restore.specs.Edits.{frozen_of}
 use Rattle.jcr_restore.proofs.Added.{is_elsewhere}
 use Rattle.jcr_restore.proofs.ComingBack.{comes_back}
@@ -144,7 +144,7 @@ outside_storage i m n ns p out = by (eq_by_cmp path_cmp q p) refl
 module _ (t : Nodes) (p : Path) (id : ℕ) (out : is_under p system ≡ false) (m n : Name)
     (ns : List Name) where
   abbrev deep : Path
-  deep = (history_of t p ++ m ∷ []) ++ n ∷ ns
+  deep = (version_history_of t p ++ m ∷ []) ++ n ∷ ns
 
   rest_elsewhere : list_all (is_elsewhere deep)
       (map (succeed t id) (predecessors_of t p) ++ checked_in_writes p id) ≡ true
@@ -152,9 +152,9 @@ module _ (t : Nodes) (p : Path) (id : ℕ) (out : is_under p system ≡ false) (
       all_joined (is_elsewhere deep) (map (succeed t id) (predecessors_of t p))
       (checked_in_writes p id)
       (succeed_other t id deep (predecessors_of t p)
-      (filtered _ (is_other deep) (versions_of t (history_of t p))
-      (children_other deep (history_of t p) (λ k. deeper (history_of t p) m n k ns)
-      (version_names t (history_of t p)))))
+      (filtered _ (is_other deep) (versions_of t (version_history_of t p))
+      (children_other deep (version_history_of t p) (λ k. deeper (version_history_of t p) m n k ns)
+      (version_names t (version_history_of t p)))))
       (checked_in_other p id deep (outside_storage (identifier_of t p) m n ns p out))
 
 -- ---- a check-in, and a restore
@@ -174,11 +174,11 @@ module _ (types : List TypeDef) (born : Option Revision) (old : Nodes) (p : Path
       ++ checked_in_writes p (number_by who (who.ids + 1)))
       checkin.free
       (λ n ns. rest_elsewhere old p (number_by who (who.ids + 1)) due.0
-      (version_name (length (version_names old (history_of old p)))) n ns)
+      (version_name (length (version_names old (version_history_of old p)))) n ns)
 
   -- a restore of the version brings back what stood there before the check-in
   pub brings_back : (new : Nodes)
-      → IsLeftAlone types old (applied born old ws) new p (made_version old p)
+      → IsUntouchedSince types old (applied born old ws) new p (made_version old p)
       → IsBack types old new p (made_version old p)
   brings_back new alone =
       comes_back types old new p (made_version old p)

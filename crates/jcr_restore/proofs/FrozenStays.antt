@@ -32,7 +32,7 @@ use Rattle.jr_items.specs.Names.{frozen_mixin_types, frozen_node, frozen_primary
 use Rattle.jr_types.specs.declared.TypeDef.{TypeDef}
 use Rattle.jcr_lock.specs.Needed.{is_needed}
 use Rattle.jcr_frozen.specs.declared.frozen.Share.TheVariants as share
-use Rattle.jcr_frozen.specs.Frozen.{frozen_copy, frozen_props, frozen_tree, is_copied, is_frozen_with, share_of, with_own, with_property, with_in_share}
+use Rattle.jcr_frozen.specs.Frozen.{frozen_copy, frozen_props, frozen_tree, is_copied, is_frozen_with, share_of, with_frozen_own, with_optional_property, with_in_share}
 use Rattle.jcr_restore.specs.Edits.{frozen_of}
 use Rattle.jcr_restore.proofs.Added.{is_elsewhere, node_there, prop_there}
 use Rattle.jcr_restore.proofs.Standing.{above_there, all_below, found_passes, node_below, same_front, under_itself}
@@ -40,7 +40,7 @@ use Rattle.jcr_restore.proofs.Standing.{above_there, all_below, found_passes, no
 -- ---- the properties of a frozen node stand in order
 
 sorted_property : (props : List (Name × Property)) (n : Name) (o : Option Property)
-    → is_sorted name_cmp props ≡ true → is_sorted name_cmp (with_property props n o) ≡ true
+    → is_sorted name_cmp props ≡ true → is_sorted name_cmp (with_optional_property props n o) ≡ true
 sorted_property props n None s = s
 sorted_property props n (Some x) s = sorted_insert name_cmp nat_list_cmp_total n x props s
 
@@ -56,7 +56,7 @@ sorted_copied types node (e ∷ es) props s =
     by false = s
 
 sorted_own : (node : Node) (props : List (Name × Property)) → is_sorted name_cmp props ≡ true
-    → is_sorted name_cmp (with_own node props) ≡ true
+    → is_sorted name_cmp (with_frozen_own node props) ≡ true
 sorted_own node props s =
     sorted_property told frozen_uuid (property_of node uuid)
     (sorted_property told_primary frozen_mixin_types (property_of node mixin_types)
@@ -68,10 +68,10 @@ sorted_own node props s =
     typed = insert_entry name_cmp props primary_type (Single (value.Name frozen_type))
 
     told_primary : List (Name × Property)
-    told_primary = with_property typed frozen_primary_type (property_of node primary_type)
+    told_primary = with_optional_property typed frozen_primary_type (property_of node primary_type)
 
     told : List (Name × Property)
-    told = with_property told_primary frozen_mixin_types (property_of node mixin_types)
+    told = with_optional_property told_primary frozen_mixin_types (property_of node mixin_types)
 
 sorted_frozen : (types : List TypeDef) (node : Node)
     → is_sorted name_cmp (frozen_props types node) ≡ true

@@ -28,7 +28,7 @@ use Rattle.jr_types.specs.Said.{types_said}
 use Rattle.jr_types.specs.declared.TypeDef.{TypeDef}
 use Rattle.jcr_lock.specs.Needed.{is_needed}
 use Rattle.jcr_ref.specs.Drawn.{latest_date}
-use Rattle.jcr_ref.specs.Histories.{history_of, number_by, version_names}
+use Rattle.jcr_ref.specs.Histories.{version_history_of, number_by, version_names}
 use Rattle.jcr_ref.specs.References.{identifier_of}
 use Rattle.jcr_frozen.specs.Attributes.{child_has, has_asked, node_has}
 use Rattle.jcr_frozen.specs.declared.attributes.Asked.TheVariants as asked
@@ -170,16 +170,16 @@ module _ (types : List TypeDef) (t : Nodes) (p : Path) (who : Who) (ok : Write �
   abbrev version : Path
   version = made_version t p
 
-  history_in : is_under (history_of t p) system ≡ true
+  history_in : is_under (version_history_of t p) system ≡ true
   history_in =
-      (below_is_prefix (history_of t p) system).1
+      (below_is_prefix (version_history_of t p) system).1
       (version_storage_name ∷ identifier_of t p ∷ [], refl)
 
   version_in : is_under version system ≡ true
   version_in =
-      under_both version (history_of t p) system
-      ((below_is_prefix version (history_of t p)).1
-      (version_name (length (version_names t (history_of t p))) ∷ [], refl)) history_in
+      under_both version (version_history_of t p) system
+      ((below_is_prefix version (version_history_of t p)).1
+      (version_name (length (version_names t (version_history_of t p))) ∷ [], refl)) history_in
 
   frozen_in : is_under (frozen_of version) system ≡ true
   frozen_in =
@@ -210,8 +210,8 @@ module _ (types : List TypeDef) (t : Nodes) (p : Path) (who : Who) (ok : Write �
       (map (succeed t drawn) (predecessors_of t p) ++ checked_in_writes p drawn) nodes_pass
       (all_joined ok (map (succeed t drawn) (predecessors_of t p)) (checked_in_writes p drawn)
       (succeed_pass (predecessors_of t p)
-      (filtered _ (λ r. is_under r system) (versions_of t (history_of t p))
-      (children_in (history_of t p) history_in (version_names t (history_of t p)))))
+      (filtered _ (λ r. is_under r system) (versions_of t (version_history_of t p))
+      (children_in (version_history_of t p) history_in (version_names t (version_history_of t p)))))
       own))
 
 own_apart : (p : Path) (id : ℕ) (q : Path) → eq_by_cmp path_cmp q p ≡ false

@@ -23,10 +23,10 @@ use Rattle.jr_types.specs.declared.TypeDef.{TypeDef}
 use Rattle.jcr_frozen.specs.declared.attributes.Asked.TheVariants as asked
 use Rattle.jcr_frozen.specs.declared.frozen.Share.TheVariants as share
 use Rattle.jcr_frozen.specs.Attributes.{property_has}
-use Rattle.jcr_frozen.specs.Frozen.{frozen_copy, frozen_props, is_copied, is_frozen_name, is_type_name, is_unkept, share_of, with_property}
+use Rattle.jcr_frozen.specs.Frozen.{frozen_copy, frozen_props, is_copied, is_frozen_name, is_type_property, is_unkept, share_of, with_optional_property}
 use Rattle.basics.proofs.Orders.{equal_of}
 use Rattle.basics.proofs.Options.{where_some}
-use Rattle.jcr_restore.specs.Restored.{brought_props, left_props, with_frozen, with_identifier, with_types}
+use Rattle.jcr_restore.specs.Restored.{brought_props, left_props, with_frozen, with_frozen_identifier, with_types}
 use Rattle.jcr_restore.specs.BroughtBack.{unkept_property}
 use Rattle.jcr_restore.proofs.Folded.{found_folded, if_passed}
 
@@ -52,7 +52,7 @@ all_true [] = refl
 all_true (x ∷ xs) = all_true xs
 
 -- one property more, if there is one, stands before the others of its name
-told : (props : Props) (m : Name) (o : Option Property) (n : Name) → at (with_property props m o) n ≡ option_or (cond (same_name n m) o None) (at props n)
+told : (props : Props) (m : Name) (o : Option Property) (n : Name) → at (with_optional_property props m o) n ≡ option_or (cond (same_name n m) o None) (at props n)
 told props m None n = by (same_name n m)
   where
     by : (b : Bool) → at props n ≡ option_or (cond b None None) (at props n)
@@ -184,7 +184,7 @@ abbrev made_uuid : Option Node → Name → Node → Option Property
 made_uuid None n frozen = cond (same_name n uuid) (property_of frozen frozen_uuid) None
 made_uuid (Some node) n frozen = None
 
-identifier_at : (frozen : Node) (o : Option Node) (u : Props) (n : Name) → at (with_identifier frozen o u) n ≡ option_or (made_uuid o n frozen) (at u n)
+identifier_at : (frozen : Node) (o : Option Node) (u : Props) (n : Name) → at (with_frozen_identifier frozen o u) n ≡ option_or (made_uuid o n frozen) (at u n)
 identifier_at frozen None u n = told u uuid (property_of frozen frozen_uuid) n
 identifier_at frozen (Some node) u n = refl
 
@@ -262,7 +262,7 @@ module _ (types : List TypeDef) (was : Node) (o : Option Node) (frozen : Node) (
           ∙ (ap (λ b. option_or (cond b (Some x) None) (option_and_then (unkept_property types n) o)) (and_from _ _ (not_from_false _ h) kept) ∙ sym is)
 
   -- nothing but the types is brought to the names of types
-  no_types : (n : Name) → is_type_name n ≡ true → option_and_then (unkept_property types n) o ≡ None
+  no_types : (n : Name) → is_type_property n ≡ true → option_and_then (unkept_property types n) o ≡ None
   no_types n h = by o
     where
       none : (node : Node) (r : Option Property) → option_and_then (λ x. cond (is_unkept types node n x) (Some x) None) r ≡ None
@@ -285,7 +285,7 @@ module _ (types : List TypeDef) (was : Node) (o : Option Node) (frozen : Node) (
       by (Some node) = refl
 
   -- under the name of a type stands what the frozen node tells
-  type_back : (n : Name) (r : Option Property) → is_type_name n ≡ true → is_frozen_name n ≡ true
+  type_back : (n : Name) (r : Option Property) → is_type_property n ≡ true → is_frozen_name n ≡ true
       → option_or r (option_or (if_passed (λ e. not (is_frozen_name e.0)) (λ e. e.1) n (property_of frozen n)) (option_and_then (unkept_property types n) o)) ≡ r
   type_back n r h k =
       ap (λ (s : Option Property). option_or r (option_or s (option_and_then (unkept_property types n) o))) (hidden n (property_of frozen n) k)

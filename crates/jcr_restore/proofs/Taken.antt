@@ -7,9 +7,9 @@ use Rattle.jr_path.specs.Names.{is_under}
 use Rattle.jr_path.specs.declared.path.Path.{Path}
 use Rattle.std.specs.Prelude.{not}
 use Rattle.jr_tree.specs.Trees.{Nodes}
-use Rattle.jcr_restore.specs.Edits.{first_taken, is_one_of, is_taken}
+use Rattle.jcr_restore.specs.Edits.{first_taken, is_id_among, is_taken}
 
-is_none_of : (id : Option (List ℕ)) → is_one_of [] id ≡ false
+is_none_of : (id : Option (List ℕ)) → is_id_among [] id ≡ false
 is_none_of None = refl
 is_none_of (Some id) = refl
 

@@ -7,14 +7,14 @@ use Rattle.jr_tree.specs.declared.shared.Who.{Who}
 use Rattle.jr_tree.specs.Trees.{IsTree, Nodes, node_at, subtree_of, undated}
 use Rattle.jr_items.specs.Items.{is_checked_in}
 use Rattle.jr_types.specs.declared.TypeDef.{TypeDef}
-use Rattle.jcr_ref.specs.Histories.{history_of}
+use Rattle.jcr_ref.specs.Histories.{version_history_of}
 use Rattle.jcr_version.specs.Edits.{checkin_edit, next_version}
 use Rattle.jcr_restore.specs.BroughtBack.{left_out}
 use Rattle.jcr_restore.specs.Edits.{frozen_of}
 
 -- the version that a check-in of p makes
 abbrev pub made_version : Nodes → Path → Path
-made_version t p = next_version t (history_of t p)
+made_version t p = next_version t (version_history_of t p)
 
 -- the node at p is checked in by these writes, as a version that wasn't there
 pub record IsCheckIn (types : List TypeDef) (old : Nodes) (p : Path) (who : Who)
@@ -29,7 +29,7 @@ pub record IsCheckIn (types : List TypeDef) (old : Nodes) (p : Path) (who : Who)
   pub free : node_at old (made_version old p) ≡ None
 
 -- between a check-in of p and a later tree nothing happened to what a restore of the version needs
-pub record IsLeftAlone (types : List TypeDef) (old checked new : Nodes)
+pub record IsUntouchedSince (types : List TypeDef) (old checked new : Nodes)
     (p version : Path) : Type 0 where
   -- the later tree is a tree
   pub is : IsTree new

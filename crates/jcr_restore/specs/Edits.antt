@@ -16,7 +16,7 @@ use Rattle.jr_items.specs.Names.{frozen_node, frozen_uuid, root_version, uuid}
 use Rattle.jr_items.specs.Items.{child_path, first_some, one_text, property_of, same_name}
 use Rattle.jr_items.specs.Refusals.{checked_in, taken, when}
 use Rattle.jr_types.specs.declared.TypeDef.{TypeDef}
-use Rattle.jcr_ref.specs.Histories.{history_of, number_at}
+use Rattle.jcr_ref.specs.Histories.{version_history_of, number_at}
 use Rattle.jcr_version.specs.Edits.{checked_in_writes, unless_refused}
 use Rattle.jcr_version.specs.Limits.{within_limits}
 use Rattle.jcr_frozen.specs.Histories.{no_version, no_versions}
@@ -39,12 +39,12 @@ abbrev pub unfrozen : Nodes → (version : Path) → (name : Name) → Option Re
 unfrozen t v n = when (not (has_frozen t v n)) (checked_in v)
 
 -- the node of the frozen node at g isn't there, and is made
-abbrev pub is_made : List TypeDef → Nodes → (p f : Path) → Path → Bool
-is_made types t p f g = is_brought (fate_below types t p f (drop (length f) g)) && is_none (node_at t (place_of p f g))
+abbrev pub is_node_made : List TypeDef → Nodes → (p f : Path) → Path → Bool
+is_node_made types t p f g = is_brought (fate_below types t p f (drop (length f) g)) && is_none (node_at t (place_of p f g))
 
 -- the identifier that the node of a frozen node is made with
 abbrev pub made_id : List TypeDef → Nodes → (p f : Path) → Path × Node → Option (List ℕ)
-made_id types t p f e = cond (is_made types t p f e.0) (one_text (property_of e.1 frozen_uuid)) None
+made_id types t p f e = cond (is_node_made types t p f e.0) (one_text (property_of e.1 frozen_uuid)) None
 
 -- a set of identifiers with one more, if there is one
 abbrev pub with_id : List (List ℕ × Bool) → Option (List ℕ) → List (List ℕ × Bool)
@@ -56,12 +56,12 @@ abbrev pub made_ids : List TypeDef → Nodes → (p f : Path) → List (List ℕ
 made_ids types t p f = fold (λ ids e. with_id ids (made_id types t p f e)) [] (subtree_of t f)
 
 -- the identifier, if there is one, is in the set
-abbrev pub is_one_of : List (List ℕ × Bool) → Option (List ℕ) → Bool
-is_one_of ids id = option_map_or (λ i. is_some (lookup (is_at (name_cmp i)) ids)) id false
+abbrev pub is_id_among : List (List ℕ × Bool) → Option (List ℕ) → Bool
+is_id_among ids id = option_map_or (λ i. is_some (lookup (is_at (name_cmp i)) ids)) id false
 
 -- the node stands outside p, and its `jcr:uuid` is one of the identifiers
 abbrev pub is_taken : List (List ℕ × Bool) → Nodes → (p : Path) → Path → Bool
-is_taken ids t p q = not (is_under q p) && is_one_of ids (one_text (property_at t q uuid))
+is_taken ids t p q = not (is_under q p) && is_id_among ids (one_text (property_at t q uuid))
 
 -- the first node outside p that has one of the identifiers
 abbrev pub first_taken : List (List ℕ × Bool) → Nodes → (p : Path) → Option Path
@@ -89,4 +89,4 @@ restore_own types t p h n = unless_refused (no_version t h n) (restore_to types 
 
 -- the edit that brings a node to a version
 abbrev pub restore_edit : List TypeDef → Nodes → Path → (version : Name) → Result (List Write) Refusal
-restore_edit types t p n = unless_refused (no_versions (codes "restore") t p) (restore_own types t p (history_of t p) n)
+restore_edit types t p n = unless_refused (no_versions (codes "restore") t p) (restore_own types t p (version_history_of t p) n)

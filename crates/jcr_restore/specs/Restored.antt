@@ -12,7 +12,7 @@ use Rattle.jr_items.specs.Names.{frozen_mixin_types, frozen_primary_type, frozen
 use Rattle.jr_items.specs.Items.{child_path, property_of}
 use Rattle.jr_types.specs.declared.TypeDef.{TypeDef}
 use Rattle.jcr_frozen.specs.declared.frozen.Share.TheVariants as share
-use Rattle.jcr_frozen.specs.Frozen.{is_frozen_along, is_frozen_name, share_of, with_property}
+use Rattle.jcr_frozen.specs.Frozen.{is_frozen_along, is_frozen_name, share_of, with_optional_property}
 use Rattle.jcr_restore.specs.declared.fates.Fate.{Fate}
 use Rattle.jcr_restore.specs.declared.fates.Fate.TheVariants as fate
 
@@ -53,16 +53,16 @@ with_frozen props x = cond (is_frozen_name x.0) props (insert_entry name_cmp pro
 
 -- the type and the mixins that the frozen node tells of
 abbrev pub with_types : Node → List (Name × Property) → List (Name × Property)
-with_types frozen props = with_property (with_property props primary_type (property_of frozen frozen_primary_type)) mixin_types (property_of frozen frozen_mixin_types)
+with_types frozen props = with_optional_property (with_optional_property props primary_type (property_of frozen frozen_primary_type)) mixin_types (property_of frozen frozen_mixin_types)
 
 -- a node that is made has the identifier that the frozen node tells of
-abbrev pub with_identifier : Node → Option Node → List (Name × Property) → List (Name × Property)
-with_identifier frozen None props = with_property props uuid (property_of frozen frozen_uuid)
-with_identifier frozen (Some node) props = props
+abbrev pub with_frozen_identifier : Node → Option Node → List (Name × Property) → List (Name × Property)
+with_frozen_identifier frozen None props = with_optional_property props uuid (property_of frozen frozen_uuid)
+with_frozen_identifier frozen (Some node) props = props
 
 -- the properties of a node that is brought to a frozen node
 abbrev pub brought_props : List TypeDef → Option Node → (frozen : Node) → List (Name × Property)
-brought_props types old frozen = with_identifier frozen old (with_types frozen (fold with_frozen (left_props types old) frozen.props))
+brought_props types old frozen = with_frozen_identifier frozen old (with_types frozen (fold with_frozen (left_props types old) frozen.props))
 
 -- the node at q brought to a frozen node; it was added when it was before
 abbrev pub brought : List TypeDef → Nodes → Path → (frozen : Node) → Node

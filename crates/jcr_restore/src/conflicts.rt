@@ -2,7 +2,7 @@
 ghost use Rattle.std.specs.Prelude.{◌≡◌, IfOk, OnOk};
 ghost use Rattle.std.specs.Option.{option_copied};
 ghost use Rattle.jr_items.specs.Names.{frozen_uuid, uuid};
-ghost use Rattle.jcr_restore.specs.Edits.{first_taken, in_conflict, is_made, is_one_of, is_taken, made_id, made_ids, with_id};
+ghost use Rattle.jcr_restore.specs.Edits.{first_taken, in_conflict, is_node_made, is_id_among, is_taken, made_id, made_ids, with_id};
 
 use crate::restored::Bringing;
 use jr_items::{OwnName, one_text};
@@ -52,7 +52,7 @@ impl Bringing<'_> {
 
     // Whether the node of a frozen node is made.
     fn is_made(&self, from: &Path) -> Result<bool, AllocError>
-        ensures { IfOk result (λ answer. answer ≡ is_made self.now.types.now self.now.tree.now self.now.path.now self.now.frozen.now from.now) }
+        ensures { IfOk result (λ answer. answer ≡ is_node_made self.now.types.now self.now.tree.now self.now.path.now self.now.frozen.now from.now) }
     {
         if self.is_brought(from)? {
             Ok(!self.tree.has(&self.place_of(from)?))
@@ -101,7 +101,7 @@ fn note_id(ids: &mut Ids, alloc: Global, id: Option<&str>) -> Result<(), AllocEr
 
 // Whether the identifier, if there is one, is among these.
 fn is_one_of(alloc: Global, ids: &Ids, id: Option<&str>) -> Result<bool, AllocError>
-    ensures { IfOk result (λ answer. answer ≡ is_one_of ids.now (option_copied id.entry)) }
+    ensures { IfOk result (λ answer. answer ≡ is_id_among ids.now (option_copied id.entry)) }
 {
     match id {
         Some(id) => Ok(ids.contains(&Text::copy_of(alloc, id)?)),

@@ -9,7 +9,7 @@ ghost use Rattle.jr_tree.specs.Edits.{applied};
 ghost use Rattle.jr_tree.specs.Trees.{Nodes};
 ghost use Rattle.jr_types.specs.declared.TypeDef.{TypeDef};
 ghost use Rattle.jcr_restore.specs.BroughtBack.{CanComeBack, IsBack, left_out};
-ghost use Rattle.jcr_restore.specs.CheckedIn.{IsCheckIn, IsLeftAlone, made_version};
+ghost use Rattle.jcr_restore.specs.CheckedIn.{IsCheckIn, IsUntouchedSince, made_version};
 ghost use Rattle.jcr_restore.specs.Edits.{frozen_of};
 
 /// After a check-in, and whatever changes of what the version keeps, a restore of that version brings
@@ -22,7 +22,7 @@ pub fn restores_bring_nodes_back()
 /// out, a restore of that version brings back the node, its properties and the nodes below it as they were
 /// before the check-in (JSR 283, 15.7 Restore).
 pub fn restores_undo_changes_since_a_check_in()
-    ensures { (types : List TypeDef) (born : Option Revision) (old new : Nodes) (p : Path) (who : Who) (ws : List Write) → IsCheckIn types old p who ws → IsLeftAlone types old (applied born old ws) new p (made_version old p) → IsBack types old new p (made_version old p) }
+    ensures { (types : List TypeDef) (born : Option Revision) (old new : Nodes) (p : Path) (who : Who) (ws : List Write) → IsCheckIn types old p who ws → IsUntouchedSince types old (applied born old ws) new p (made_version old p) → IsBack types old new p (made_version old p) }
 {}
 
 /// A check-in of a node other than the root leaves what a version of the node leaves out as it was (JSR 283,

@@ -2,7 +2,7 @@
 ghost use Rattle.std.specs.Prelude.{◌≡◌, IfOk, OnOk};
 ghost use Rattle.std.specs.List.{fold};
 ghost use Rattle.std.specs.Option.{option_copied};
-ghost use Rattle.jcr_restore.specs.Restored.{brought_props, left_props, with_frozen, with_identifier, with_types};
+ghost use Rattle.jcr_restore.specs.Restored.{brought_props, left_props, with_frozen, with_frozen_identifier, with_types};
 
 use jcr_frozen::{Share, is_frozen_name, put_told, share_of};
 use jr_items::OwnName;
@@ -85,7 +85,7 @@ fn put_identifier(
     frozen: &Node,
     old: Option<&Node>,
 ) -> Result<(), AllocError>
-    ensures { OnOk result (props.new ≡ with_identifier frozen.now (option_copied old.entry) props.old) }
+    ensures { OnOk result (props.new ≡ with_frozen_identifier frozen.now (option_copied old.entry) props.old) }
 {
     match old {
         Some(_) => Ok(()),

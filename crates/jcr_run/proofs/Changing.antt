@@ -21,12 +21,12 @@ use Rattle.jcr_law.specs.State.{Call}
 use Rattle.jcr_held.specs.Unread.{unread}
 use Rattle.jcr_steps.specs.declared.answers.Changed.{Changed}
 use Rattle.jcr_steps.specs.declared.answers.Changed.TheVariants as changed
-use Rattle.jcr_steps.specs.Answered.{IsChangesAnswer, changed_by}
+use Rattle.jcr_steps.specs.Answered.{IsChangesAnswer, changed_told}
 use Rattle.jcr_run.specs.declared.run.Fetch.{Fetch}
 use Rattle.jcr_run.specs.declared.run.Fetch.TheVariants as fetch
 use Rattle.jcr_run.specs.declared.run.SessionRun.{SessionRun}
 use Rattle.jcr_run.specs.Nearing.{HasNeared, unread_of}
-use Rattle.jcr_run.specs.Standing.{AreSince, HasLooked, IsBeside, IsBetween, IsCalled, IsIn, IsReading, IsRefused, Stands}
+use Rattle.jcr_run.specs.Standing.{AreSince, HasLooked, IsBeside, IsBetweenCommands, IsCalled, IsIn, IsReading, IsRefused, Stands}
 use Rattle.jcr_run.specs.Standing.{due_for, is_events, lacks_changes, may_read}
 use Rattle.jcr_run.proofs.Lawful.{at_between}
 use Rattle.jcr_run.proofs.Loads.{unfetched}
@@ -52,7 +52,7 @@ apart x y other same = absurd (false≢true (sym other ∙ (ap (λ (d : Changed)
     itself (changed.Commits commits) = refl
     itself changed.Refused = refl
 
-goes : (a : StepOut) → IsChangesAnswer a → changed_by a ≡ changed.Going → (k : StepKind) × (a ≡ out.Went k)
+goes : (a : StepOut) → IsChangesAnswer a → changed_told a ≡ changed.Going → (k : StepKind) × (a ≡ out.Went k)
 goes (out.Went k) is h = (k, refl)
 goes (out.Ready (end.Changes commits)) is h = apart (changed.Commits commits) changed.Going refl h
 goes out.Memory is h = apart changed.Refused changed.Going refl h
@@ -61,13 +61,13 @@ goes a is h = absurd is
 commits_of : (o d : List CommitChanges) → changed.Commits o ≡ changed.Commits d → o ≡ d
 commits_of o d h = ap (λ (x : Changed). elim x [ changed.Commits commits ↦ commits | changed.Going ↦ o | changed.Refused ↦ o ]) h
 
-finds : (a : StepOut) (commits : List CommitChanges) → IsChangesAnswer a → changed_by a ≡ changed.Commits commits → a ≡ out.Ready (end.Changes commits)
+finds : (a : StepOut) (commits : List CommitChanges) → IsChangesAnswer a → changed_told a ≡ changed.Commits commits → a ≡ out.Ready (end.Changes commits)
 finds (out.Went k) commits is h = apart changed.Going (changed.Commits commits) refl h
 finds (out.Ready (end.Changes d)) commits is h = ap (λ (o : List CommitChanges). out.Ready (end.Changes o)) (commits_of d commits h)
 finds out.Memory commits is h = apart changed.Refused (changed.Commits commits) refl h
 finds a commits is h = absurd is
 
-stops : (a : StepOut) → IsChangesAnswer a → changed_by a ≡ changed.Refused → a ≡ out.Memory
+stops : (a : StepOut) → IsChangesAnswer a → changed_told a ≡ changed.Refused → a ≡ out.Memory
 stops (out.Went k) is h = apart changed.Going changed.Refused refl h
 stops (out.Ready (end.Changes commits)) is h = apart (changed.Commits commits) changed.Refused refl h
 stops out.Memory is h = refl
@@ -86,7 +86,7 @@ module _ (law : JcrLaw) (old new : Shown) (run : SessionRun) (v : RevVec)
   abbrev at : SessionRun
   at = record run { fetch = Some (fetch.Changes v) }
 
-  here : IsIn law old run.attached × IsBetween law old at
+  here : IsIn law old run.attached × IsBetweenCommands law old at
   here = at_between law old at stands (reads_between at reads)
 
   pub changes_busy : old.work ≡ Starting (task.Changes v)
@@ -109,7 +109,7 @@ module _ (law : JcrLaw) (old new : Shown) (run : SessionRun) (v : RevVec)
 
   -- ---- what is read is still being read
 
-  pub changes_going : changed_by answer ≡ changed.Going → HasLooked law old new at at
+  pub changes_going : changed_told answer ≡ changed.Going → HasLooked law old new at at
   changes_going h =
       let k = goes answer changes_is h in
       let x : By (out.Went k.0) = subst By k.1 steps in
@@ -120,7 +120,7 @@ module _ (law : JcrLaw) (old new : Shown) (run : SessionRun) (v : RevVec)
 
   -- ---- it is read
 
-  module _ (commits : List CommitChanges) (h : changed_by answer ≡ changed.Commits commits) where
+  module _ (commits : List CommitChanges) (h : changed_told answer ≡ changed.Commits commits) where
     abbrev read : SessionRun
     read = record run { changes = Some commits }
 
@@ -178,7 +178,7 @@ module _ (law : JcrLaw) (old new : Shown) (run : SessionRun) (v : RevVec)
 
   -- ---- memory was refused
 
-  module _ (h : changed_by answer ≡ changed.Refused) where
+  module _ (h : changed_told answer ≡ changed.Refused) where
     memory : By out.Memory
     memory = subst By (stops answer changes_is h) steps
 

@@ -23,7 +23,7 @@ use Rattle.jcr_run.specs.declared.next.Due.TheVariants as due
 use Rattle.jcr_run.specs.declared.run.Fetch.{Fetch}
 use Rattle.jcr_run.specs.declared.run.Fetch.TheVariants as fetch
 use Rattle.jcr_run.specs.declared.run.SessionRun.{SessionRun}
-use Rattle.jcr_run.specs.Standing.{IsBetween, IsFetchFor, IsIn, IsOneFetch, IsReading, IsReadyFor, IsReadyNext, IsWantedBy, IsWantedNext, Stands, due_for}
+use Rattle.jcr_run.specs.Standing.{IsBetweenCommands, IsFetchFor, IsIn, IsOneFetch, IsReading, IsReadyFor, IsReadyNext, IsWantedBy, IsWantedNext, Stands, due_for}
 use Rattle.jcr_run.specs.Standing.{is_events, lacks_changes, may_read}
 use Rattle.jcr_run.proofs.Changing.{standing}
 use Rattle.jcr_run.proofs.Lawful.{at_between}
@@ -100,7 +100,7 @@ fetch_asked asks h s t (fetch.Changes v) is = subst (λ (x : Task). IsAskedOf as
 fetch_asked asks h s t f is = absurd is
 
 module _ (law : JcrLaw) (p : Shown) (run : SessionRun) (stands : Stands law p run) (reads : may_read run ≡ true) where
-  here : IsIn law p run.attached × IsBetween law p run
+  here : IsIn law p run.attached × IsBetweenCommands law p run
   here = at_between law p run stands (reads_between run reads)
 
   -- a session that shows the events isn't attached

@@ -51,7 +51,7 @@ use Rattle.jcr_run.specs.declared.run.Phase.{Phase}
 use Rattle.jcr_run.specs.declared.run.Phase.TheVariants as phase
 use Rattle.jcr_run.specs.declared.run.SessionRun.{SessionRun}
 use Rattle.jcr_run.specs.Asked.{ComesNext, HasSeen, IsAsked, IsQueried, IsUnviewedNext, MayAnswer, MayForgo, MaySettle, Settles, has_drawn}
-use Rattle.jcr_run.specs.Standing.{HasCursor, IsBetween, IsCalled, IsIn, IsMoved, IsReading, Stands, StandsAt, due_by, due_for, due_to, is_allowed}
+use Rattle.jcr_run.specs.Standing.{HasCursor, IsBetweenCommands, IsCalled, IsIn, IsBaseMoved, IsReading, Stands, StandsAt, due_by, due_for, due_to, is_allowed}
 use Rattle.jcr_run.specs.Standing.{is_attaching, is_moving, reads_for}
 use Rattle.jcr_run.proofs.Cursors.{accepts_by, cursor_refused, cursor_settled}
 use Rattle.jcr_run.proofs.Nexts.{allowed_due, barred_due, due_at, due_number, only_head, only_query, seen_viewed, sets_cursor, sets_none, unviewed_due}
@@ -151,7 +151,7 @@ called_typed law p c inside is =
     (inside.typed p.history.past inside.run p.session c.who.base (call_has_base law p.history.begin p.history.past p.session c is))
 
 module _ (law : JcrLaw) (p : Shown) (run : SessionRun) (stands : Stands law p run) (between : run.phase ≡ phase.Between) where
-  pub at_between : IsIn law p run.attached × IsBetween law p run
+  pub at_between : IsIn law p run.attached × IsBetweenCommands law p run
   at_between = subst (λ (f : Phase). StandsAt law p run f) between stands.at
 
   -- nothing is being read for a command that doesn't read
@@ -365,7 +365,7 @@ moving_due attached m is = by (is_allowed attached m) refl is
     by false e h = absurd (false≢true h)
 
 module _ (law : JcrLaw) (p : Shown) (run : SessionRun) (stands : Stands law p run) (v : RevVec) (is : run.phase ≡ phase.Moved v) where
-  at_moved : IsIn law p run.attached × IsMoved law p run v
+  at_moved : IsIn law p run.attached × IsBaseMoved law p run v
   at_moved = subst (λ (f : Phase). StandsAt law p run f) is stands.at
 
   abbrev moved_command : Command

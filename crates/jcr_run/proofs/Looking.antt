@@ -19,7 +19,7 @@ use Rattle.jcr_run.specs.declared.run.SessionRun.{SessionRun}
 use Rattle.jcr_run.specs.declared.turn.Turn.{Turn}
 use Rattle.jcr_run.specs.declared.turn.Turn.TheVariants as turn
 use Rattle.jcr_run.specs.Asked.{MayForgo}
-use Rattle.jcr_run.specs.Standing.{AreSince, HasLooked, HasCounted, IsBeside, IsBetween, IsCalled, IsFetchFor, IsIn, IsReading, IsRefused, IsSame, IsTurned, IsWantedNext, Stands, StandsAt, is_writing, may_read, stage_at, stage_of}
+use Rattle.jcr_run.specs.Standing.{AreSince, HasLooked, HasCounted, IsBeside, IsBetweenCommands, IsCalled, IsFetchFor, IsIn, IsReading, IsRefused, IsSame, IsTurned, IsWantedNext, Stands, StandsAt, is_revision_written, may_read, stage_at, stage_of}
 use Rattle.jcr_run.proofs.Lawful.{at_between, between_forgoes}
 use Rattle.jcr_run.proofs.Nexts.{reads_between, reads_due, reads_next, same_reads}
 use Rattle.jcr_run.proofs.Reading.{beside_both, nobody}
@@ -31,7 +31,7 @@ use Rattle.jcr_run.proofs.Waiting.{unpinned_beside}
 -- ---- a session before a command for which it reads
 
 module _ (law : JcrLaw) (old new : Shown) (run : SessionRun) (stands : Stands law old run) (reads : may_read run ≡ true) (beside : IsBeside law old new) where
-  here : IsIn law old run.attached × IsBetween law old run
+  here : IsIn law old run.attached × IsBetweenCommands law old run
   here = at_between law old run stands (reads_between run reads)
 
   -- it stands where it stood, with what is read by now and what is being read
@@ -126,7 +126,7 @@ reading_first w (Some (fetch.Tree need.All)) h = absurd h
 
 module _ (law : JcrLaw) (a b c : Shown) (run like now : SessionRun) (t : Turn) (old : Stands law a run) (reads : may_read run ≡ true) (looked : HasLooked law a b run like) where
   link_read : b.work ≡ Idle → Link a b
-  link_read idle = free (ap is_writing idle) (ap is_awaiting idle) (reading_unawaited a.work run.fetch (at_between law a run old (reads_between run reads)).1.reads)
+  link_read idle = free (ap is_revision_written idle) (ap is_awaiting idle) (reading_unawaited a.work run.fetch (at_between law a run old (reads_between run reads)).1.reads)
       (subst (λ (n : ℕ). n ≤ stage_of b.work) (sym (reading_first a.work run.fetch (at_between law a run old (reads_between run reads)).1.reads)) (let le : 0 ≤ stage_of b.work = omega arith in le))
 
   -- no reading step is due for a session that has ended

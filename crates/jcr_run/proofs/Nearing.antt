@@ -23,7 +23,7 @@ use Rattle.jcr_steps.specs.declared.answers.Listed.{Listed}
 use Rattle.jcr_steps.specs.declared.answers.Listed.TheVariants as listed
 use Rattle.jcr_steps.specs.declared.answers.Loaded.{Loaded}
 use Rattle.jcr_steps.specs.declared.answers.Loaded.TheVariants as loaded
-use Rattle.jcr_steps.specs.Answered.{changed_by, listed_by, loaded_by}
+use Rattle.jcr_steps.specs.Answered.{changed_told, listed_by, loaded_by}
 use Rattle.jcr_run.specs.declared.run.Fetch.{Fetch}
 use Rattle.jcr_run.specs.declared.run.Fetch.TheVariants as fetch
 use Rattle.jcr_run.specs.declared.run.SessionRun.{SessionRun}
@@ -78,14 +78,14 @@ module _ (starts : Starts) (says : Says) (old new : Shown) (answer : StepOut) (s
       unwaited (out.Wait q) h wait = false≢true (ap is_going h)
       unwaited a h wait = wait
 
-  pub changes_sooner : (before now : ℕ) → LastsLess before now old new answer → changed_by answer ≡ changed.Going → EndsSooner before now old
+  pub changes_sooner : (before now : ℕ) → LastsLess before now old new answer → changed_told answer ≡ changed.Going → EndsSooner before now old
   changes_sooner before now lowers going = sooner before now lowers (unwaited answer going)
     where
       is_going : Changed → Bool
       is_going changed.Going = true
       is_going _ = false
 
-      unwaited : (a : StepOut) → changed_by a ≡ changed.Going → IsWait a → ⊥
+      unwaited : (a : StepOut) → changed_told a ≡ changed.Going → IsWait a → ⊥
       unwaited (out.Wait q) h wait = false≢true (ap is_going h)
       unwaited a h wait = wait
 

@@ -20,7 +20,7 @@ use Rattle.jcr_run.specs.declared.next.Due.TheVariants as due
 use Rattle.jcr_run.specs.declared.run.Phase.{Phase}
 use Rattle.jcr_run.specs.declared.run.Phase.TheVariants as phase
 use Rattle.jcr_run.specs.declared.run.SessionRun.{SessionRun}
-use Rattle.jcr_run.specs.Standing.{IsWantedBy, IsWantedNext, due_by, due_for, due_of, due_to, has_begun, has_moved, is_allowed, is_between}
+use Rattle.jcr_run.specs.Standing.{IsWantedBy, IsWantedNext, due_by, due_for, command_due, due_to, has_begun, base_has_moved, is_allowed, is_between}
 use Rattle.jcr_run.specs.Standing.{is_errand, is_saving, may_read, reads_for}
 
 abbrev pub due_number : Due → ℕ
@@ -341,9 +341,9 @@ reads_next run reads = by (slice_get run.commands run.index) refl (reads_due run
 pub same_reads : (a b : SessionRun) → b.phase ≡ a.phase → b.commands ≡ a.commands → b.index ≡ a.index → b.attached ≡ a.attached → may_read b ≡ may_read a
 same_reads a b at commands index attached =
     ap (λ (f : Phase). is_between f && reads_for (due_for b)) at
-    ∙ (ap (λ (x : Bool). is_between a.phase && reads_for (due_of x b.commands b.index)) attached
-    ∙ (ap (λ (cs : List Command). is_between a.phase && reads_for (due_of a.attached cs b.index)) commands
-    ∙ ap (λ (i : ℕ). is_between a.phase && reads_for (due_of a.attached a.commands i)) index))
+    ∙ (ap (λ (x : Bool). is_between a.phase && reads_for (command_due x b.commands b.index)) attached
+    ∙ (ap (λ (cs : List Command). is_between a.phase && reads_for (command_due a.attached cs b.index)) commands
+    ∙ ap (λ (i : ℕ). is_between a.phase && reads_for (command_due a.attached a.commands i)) index))
 
 -- ---- the command that is found
 
@@ -393,8 +393,8 @@ pub reads_unbegun : {A : Type 0} (run : SessionRun) → may_read run ≡ true �
 reads_unbegun run reads begun = absurd (false≢true (sym (ap has_begun (reads_between run reads)) ∙ begun))
 
 -- nor has its base moved
-pub reads_unmoved : {A : Type 0} (run : SessionRun) → may_read run ≡ true → has_moved run.phase ≡ true → A
-reads_unmoved run reads moved = absurd (false≢true (sym (ap has_moved (reads_between run reads)) ∙ moved))
+pub reads_unmoved : {A : Type 0} (run : SessionRun) → may_read run ≡ true → base_has_moved run.phase ≡ true → A
+reads_unmoved run reads moved = absurd (false≢true (sym (ap base_has_moved (reads_between run reads)) ∙ moved))
 
 -- nothing is being read, so nothing that isn't wanted
 pub unwanted : (c : Call) (run : SessionRun) → run.fetch ≡ None → IsWantedNext c run

@@ -34,7 +34,7 @@ use Rattle.jcr_run.specs.declared.turn.Turn.{Turn}
 use Rattle.jcr_run.specs.declared.turn.Turn.TheVariants as turn
 use Rattle.jcr_run.specs.Asked.{IsAsked, MayAnswer, MayForgo, has_drawn}
 use Rattle.jcr_run.specs.Nearing.{IsReply}
-use Rattle.jcr_run.specs.Standing.{HasCounted, HasCursor, IsBeside, IsBetween, IsFetchFor, IsFresh, IsIn, IsReading, IsSeenFor, IsTurned, KeepsCursor, is_writing, stage_at}
+use Rattle.jcr_run.specs.Standing.{HasCounted, HasCursor, IsBeside, IsBetweenCommands, IsFetchFor, IsFresh, IsIn, IsReading, IsSeenFor, IsTurned, KeepsCursor, is_revision_written, stage_at}
 use Rattle.jcr_run.proofs.Committing.{own}
 use Rattle.jcr_run.proofs.Cursors.{cursor_of_call, has_cursor_over}
 use Rattle.jcr_run.proofs.Nexts.{unwanted}
@@ -234,7 +234,7 @@ module _ (law : JcrLaw) (old new : Shown) (run : SessionRun) (text : Text) (may 
           (list_any (is_pinning old.session) (cond (b || false) [] (event.Said old.session run.index text ∷ since q old.session))))
           (own old.session)
 
-      between_now : IsBetween law new then_run
+      between_now : IsBetweenCommands law new then_run
       between_now = record {
         call = call_after (is_ok_text text) (has_drawn old) may.call may.command;
         is = moved (λ h s. call_of law h.begin h.past s ≡ Some (call_after (is_ok_text text) (has_drawn old) may.call may.command))
@@ -299,7 +299,7 @@ module _ (law : JcrLaw) (old : Shown) (run : SessionRun) (text : Text) (may : Ma
 -- a session that was idle and is so, behind events of others
 pub idle_later : (law : JcrLaw) (old mid new : Shown) (run now : SessionRun) (t : Turn) → {attached : Bool} → IsIn law old attached → old.work ≡ Idle → mid.work ≡ Idle → IsBeside law old mid → HasCounted law mid new run now t → HasCounted law old new run now t
 idle_later law old mid new run now t inside was is beside turned =
-    has_turned_later law old mid new run now t inside.nodes (started old mid (ap is_writing is) (ap is_awaiting is) was) beside
+    has_turned_later law old mid new run now t inside.nodes (started old mid (ap is_revision_written is) (ap is_awaiting is) was) beside
     (never_ends law mid new run now (in_beside law old mid beside inside.nodes inside)) turned
 
 -- ---- a turn of a session that holds something else, or says that it stands elsewhere

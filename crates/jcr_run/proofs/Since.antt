@@ -6,7 +6,7 @@ use Rattle.oak_machine.specs.Laws.{AreOthers, after}
 use Rattle.oak_machine.specs.Runs.{AreNodes, IsRun}
 use Rattle.oak_port.specs.Ports.{Shown}
 use Rattle.jcr_observe.specs.declared.event.JcrEvent.{JcrEvent}
-use Rattle.jcr_observe.specs.Observed.{events_of}
+use Rattle.jcr_observe.specs.Observed.{observed_events}
 use Rattle.jcr_trans.specs.declared.command.Command.{Command}
 use Rattle.jcr_trans.specs.declared.command.Command.TheVariants as command
 use Rattle.jcr_law.specs.declared.law.JcrLaw.{JcrLaw}
@@ -37,7 +37,7 @@ module _ (law : JcrLaw) (h : History) (s : ℕ) (added : Past) (nodes : AreNodes
 
   events_still : (o : Option Cursor) → events_since h.begin (added ++ h.past) c.who.base o ≡ events_since h.begin h.past c.who.base o
   events_still None = refl
-  events_still (Some x) = ap (events_of x.filter) (changes_same h.begin h.past (added ++ h.past) c.who.base seen x.at)
+  events_still (Some x) = ap (observed_events x.filter) (changes_same h.begin h.past (added ++ h.past) c.who.base seen x.at)
 
   pub kept_still : (m : Command) (e : Errand) → IsKeptFor h c m e → IsKeptFor (after added h) c m e
   kept_still command.BackWrite errand.Write kept = tt

@@ -26,7 +26,7 @@ use Rattle.jcr_run.specs.declared.run.Phase.TheVariants as phase
 use Rattle.jcr_run.specs.declared.run.SessionRun.{SessionRun}
 use Rattle.jcr_run.specs.declared.turn.Turn.{Turn}
 use Rattle.jcr_run.specs.declared.turn.Turn.TheVariants as turn
-use Rattle.jcr_run.specs.Standing.{IsBeside, IsInOrder, IsOfCommand, Stands, stage_at, stage_of}
+use Rattle.jcr_run.specs.Standing.{IsBeside, AreInStageOrder, IsOfCommand, Stands, stage_at, stage_of}
 use Rattle.jcr_run.proofs.Waiting.{login_stays, next_beside, shown_beside}
 
 -- ---- the next command
@@ -103,10 +103,10 @@ from_less (Some m) less from until k le is = record {
 -- ---- a counted step
 
 module _ (law : JcrLaw) (old new : Shown) (run now : SessionRun) (k : StepKind) where
-  pub outside_order : has_login old.history.past old.session ≡ false → k ≡ kind.Login → IsInOrder law old new run now (turn.Stepped k)
+  pub outside_order : has_login old.history.past old.session ≡ false → k ≡ kind.Login → AreInStageOrder law old new run now (turn.Stepped k)
   outside_order out is = record { outside = λ none. is; inside = λ has. absurd (false≢true (sym out ∙ has)) }
 
-  pub inside_order : has_login old.history.past old.session ≡ true → (o : Option Command) → command_at law old.session (next_index old.history.past old.session) ≡ o → IsOfCommand o (stage_at run.phase old.work) (stage_at now.phase new.work) k → IsInOrder law old new run now (turn.Stepped k)
+  pub inside_order : has_login old.history.past old.session ≡ true → (o : Option Command) → command_at law old.session (next_index old.history.past old.session) ≡ o → IsOfCommand o (stage_at run.phase old.work) (stage_at now.phase new.work) k → AreInStageOrder law old new run now (turn.Stepped k)
   inside_order login o at is = record {
     outside = λ none. absurd (false≢true (sym none ∙ login));
     inside = λ has. subst (λ (x : Option Command). IsOfCommand x (stage_at run.phase old.work) (stage_at now.phase new.work) k) (sym at) is;
@@ -114,7 +114,7 @@ module _ (law : JcrLaw) (old new : Shown) (run now : SessionRun) (k : StepKind) 
 
   -- a step of a commit
   pub commit_order : has_login old.history.past old.session ≡ true → (m : Command) → commits m ≡ true → command_at law old.session (next_index old.history.past old.session) ≡ Some m → (n : ℕ) (kinds : List StepKind)
-      → slice_get (commit_stages ++ (kind.Say ∷ []) ∷ []) n ≡ Some kinds → list_any (is_kind k) kinds ≡ true → stage_at run.phase old.work ≤ n → n ≤ stage_at now.phase new.work → IsInOrder law old new run now (turn.Stepped k)
+      → slice_get (commit_stages ++ (kind.Say ∷ []) ∷ []) n ≡ Some kinds → list_any (is_kind k) kinds ≡ true → stage_at run.phase old.work ≤ n → n ≤ stage_at now.phase new.work → AreInStageOrder law old new run now (turn.Stepped k)
   commit_order login m commits at n kinds there among behind before = inside_order login (Some m) at record {
     place = n;
     kinds = kinds;
@@ -125,7 +125,7 @@ module _ (law : JcrLaw) (old new : Shown) (run now : SessionRun) (k : StepKind) 
   }
 
 -- the same turn of a session behind as many stages, or fewer
-pub order_like : (law : JcrLaw) (old new : Shown) (run like now : SessionRun) (t : Turn) → stage_at run.phase old.work ≤ stage_at like.phase old.work → IsInOrder law old new like now t → IsInOrder law old new run now t
+pub order_like : (law : JcrLaw) (old new : Shown) (run like now : SessionRun) (t : Turn) → stage_at run.phase old.work ≤ stage_at like.phase old.work → AreInStageOrder law old new like now t → AreInStageOrder law old new run now t
 order_like law old new run like now (turn.Stepped k) le h = record {
   outside = h.outside;
   inside = λ has. from_less (command_at law old.session (next_index old.history.past old.session)) (stage_at run.phase old.work) (stage_at like.phase old.work) (stage_at now.phase new.work) k le (h.inside has);
@@ -137,7 +137,7 @@ order_like law old new run like now turn.Ended le h = tt
 order_like law old new run like now turn.Memory le h = tt
 
 -- and behind events of others
-pub order_later : (law : JcrLaw) (a b c : Shown) (run now : SessionRun) (t : Turn) → IsBeside law a b → stage_of a.work ≤ stage_of b.work → IsInOrder law b c run now t → IsInOrder law a c run now t
+pub order_later : (law : JcrLaw) (a b c : Shown) (run now : SessionRun) (t : Turn) → IsBeside law a b → stage_of a.work ≤ stage_of b.work → AreInStageOrder law b c run now t → AreInStageOrder law a c run now t
 order_later law a b c run now (turn.Stepped k) waits le h = record {
   outside = λ out. h.outside (out_later law a b waits out);
   inside = λ has. subst (λ (o : Option Command). IsOfCommand o (stage_at run.phase a.work) (stage_at now.phase c.work) k) (next_later law a b waits)

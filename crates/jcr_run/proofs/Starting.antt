@@ -27,7 +27,7 @@ use Rattle.jcr_run.specs.declared.run.Phase.TheVariants as phase
 use Rattle.jcr_run.specs.declared.run.SessionRun.{SessionRun}
 use Rattle.jcr_run.specs.declared.turn.Turn.{Turn}
 use Rattle.jcr_run.specs.declared.turn.Turn.TheVariants as turn
-use Rattle.jcr_run.specs.Standing.{HasCounted, IsBeside, IsBetween, IsFresh, IsIn, Stands, StandsAt, due_for, due_of, due_to, is_writing}
+use Rattle.jcr_run.specs.Standing.{HasCounted, IsBeside, IsBetweenCommands, IsFresh, IsIn, Stands, StandsAt, due_for, command_due, due_to, is_revision_written}
 use Rattle.jcr_run.proofs.Committing.{own}
 use Rattle.jcr_run.proofs.Lawful.{at_between, idle_by}
 use Rattle.jcr_run.proofs.Nexts.{left_due}
@@ -128,7 +128,7 @@ pub leave_begins : (law : JcrLaw) (p : Shown) (run : SessionRun) → Stands law 
 leave_begins law p run stands between = let i = (at_between law p run stands between).0 in (i.login, i.stays)
 
 -- no command is left
-pub left_none : (attached : Bool) (commands : List Command) (i : ℕ) → due_of attached commands i ≡ due.Leave → slice_get commands i ≡ None
+pub left_none : (attached : Bool) (commands : List Command) (i : ℕ) → command_due attached commands i ≡ due.Leave → slice_get commands i ≡ None
 left_none attached commands i h = by (slice_get commands i) h
   where
     by : (o : Option Command) → option_map_or (λ m. due_to attached m) o due.Leave ≡ due.Leave → o ≡ None
@@ -136,7 +136,7 @@ left_none attached commands i h = by (slice_get commands i) h
     by (Some m) h = left_due attached m h
 
 -- a session that has nothing left to do has answered each command
-all_answered : (attached : Bool) (commands : List Command) (i : ℕ) → i ≤ length commands → due_of attached commands i ≡ due.Leave → i ≡ length commands
+all_answered : (attached : Bool) (commands : List Command) (i : ℕ) → i ≤ length commands → command_due attached commands i ≡ due.Leave → i ≡ length commands
 all_answered attached [] zero within h = refl
 all_answered attached [] (suc i) within h = absurd (omega arith)
 all_answered attached (c ∷ commands) zero within h = absurd (left_due attached c h)
@@ -146,7 +146,7 @@ module _ (law : JcrLaw) (old mid new : Shown) (room : Option ℕ) (run : Session
   abbrev inside : IsIn law old run.attached
   inside = (at_between law old run stands between).0
 
-  abbrev here : IsBetween law old run
+  abbrev here : IsBetweenCommands law old run
   here = (at_between law old run stands between).1
 
   -- it leaves
@@ -158,7 +158,7 @@ module _ (law : JcrLaw) (old mid new : Shown) (room : Option ℕ) (run : Session
       let moment = inside_moment law old mid new task.End (out.Ready end.Ended) room inside waits steps in
       subst (λ (x : Turn). HasCounted law old new run now x) (sym told)
       (subst (λ (x : SessionRun). HasCounted law old new run x (turn.Stepped kind.End)) (sym is)
-      (turned_later law old mid new run (record run { phase = phase.Over }) (turn.Stepped kind.End) stands.nodes (started old mid (ap is_writing waits.work_is) (ap is_awaiting waits.work_is) (idle_by law old run stands between unread)) (by_waits law old mid (Starting task.End) room waits) (not_ended (turn.Stepped kind.End) refl)
+      (turned_later law old mid new run (record run { phase = phase.Over }) (turn.Stepped kind.End) stands.nodes (started old mid (ap is_revision_written waits.work_is) (ap is_awaiting waits.work_is) (idle_by law old run stands between unread)) (by_waits law old mid (Starting task.End) room waits) (not_ended (turn.Stepped kind.End) refl)
       record {
         others = steps.others;
         own = steps.own;

@@ -22,8 +22,8 @@ use Rattle.jcr_run.specs.declared.run.SessionRun.{SessionRun}
 use Rattle.jcr_run.specs.declared.turn.Turn.{Turn}
 use Rattle.jcr_run.specs.declared.turn.Turn.TheVariants as turn
 use Rattle.jcr_run.specs.Nearing.{IsReply}
-use Rattle.jcr_run.specs.Standing.{HasAwaited, HasCounted, IsBeside, IsIn, IsInOrder, IsMade, IsOneStep, IsSeenFor, IsStep, IsTurned}
-use Rattle.jcr_run.specs.Standing.{IsUnseen, Tells, is_writing, stage_of}
+use Rattle.jcr_run.specs.Standing.{HasAwaited, HasCounted, IsBeside, IsIn, AreInStageOrder, IsMade, IsOneStep, IsSeenFor, IsStep, IsTurned}
+use Rattle.jcr_run.specs.Standing.{IsUnseen, Tells, is_revision_written, stage_of}
 use Rattle.jcr_run.proofs.Others.{others_both}
 use Rattle.jcr_run.proofs.Reading.{after_both, alone_both}
 use Rattle.jcr_run.proofs.Stages.{order_later}
@@ -69,10 +69,10 @@ plain_step h old new own made is stays awaits due ended = subst (λ (e : Past). 
 -- fewer stages are behind
 pub data Link (old mid : Shown) : Type 0 where
   kept : mid.work ≡ old.work → mid.due ≡ old.due → Link old mid
-  free : is_writing mid.work ≡ false → is_awaiting mid.work ≡ false → is_awaiting old.work ≡ false → stage_of old.work ≤ stage_of mid.work → Link old mid
+  free : is_revision_written mid.work ≡ false → is_awaiting mid.work ≡ false → is_awaiting old.work ≡ false → stage_of old.work ≤ stage_of mid.work → Link old mid
 
 -- nothing was being done
-pub started : (old mid : Shown) → is_writing mid.work ≡ false → is_awaiting mid.work ≡ false → old.work ≡ Idle → Link old mid
+pub started : (old mid : Shown) → is_revision_written mid.work ≡ false → is_awaiting mid.work ≡ false → old.work ≡ Idle → Link old mid
 started old mid still waitless idle = free still waitless (ap is_awaiting idle) (subst (λ (w : Work). stage_of w ≤ stage_of mid.work) (sym idle) (let le : 0 ≤ stage_of mid.work = omega arith in le))
 
 link_stage : (old mid : Shown) → Link old mid → stage_of old.work ≤ stage_of mid.work
@@ -80,7 +80,7 @@ link_stage old mid (kept work due) = subst (λ (w : Work). stage_of old.work ≤
 link_stage old mid (free still unwaited awaits le) = le
 
 -- a step that writes nothing, where nothing was waited for
-step_free : (h : History) (old mid new : Shown) (own : Past) → is_writing mid.work ≡ false → is_awaiting old.work ≡ false → mid.session ≡
+step_free : (h : History) (old mid new : Shown) (own : Past) → is_revision_written mid.work ≡ false → is_awaiting old.work ≡ false → mid.session ≡
     old.session → IsStep h mid new own → IsStep h old new own
 step_free h old mid new own still awaits session step = record {
   stays = subst (λ (s : ℕ). has_left h.past s ≡ false) session step.stays;
@@ -95,7 +95,7 @@ step_later h old mid new own (kept work due) session step = record {
   stays = subst (λ (s : ℕ). has_left h.past s ≡ false) session step.stays;
   seen = subst (λ (w : Work). IsSeenFor h w) work step.seen;
   as_due = subst (λ (d : Option StepKind). is_by_due d own ≡ true) due step.as_due;
-  quiet = λ still. step.quiet (ap is_writing work ∙ still);
+  quiet = λ still. step.quiet (ap is_revision_written work ∙ still);
   ended = step.ended;
 }
 step_later h old mid new own (free still unwaited awaits le) session step = step_free h old mid new own still awaits session step
@@ -115,7 +115,7 @@ made_later h old mid new now own turn.Memory link session made never = made
 -- the same turn, which is made and in its order so too
 turned_over : (law : JcrLaw) (a b c : Shown) (run now : SessionRun) (answer : Turn) → AreNodes a.history.clusters a.history.sessions →
     IsBeside law a b → ((h : History) (own : Past) → IsMade h b c now own answer → IsMade h a c now own answer)
-    → (IsInOrder law b c run now answer → IsInOrder law a c run now answer) → IsTurned law b c run now answer → IsTurned law a c run now
+    → (AreInStageOrder law b c run now answer → AreInStageOrder law a c run now answer) → IsTurned law b c run now answer → IsTurned law a c run now
     answer
 turned_over law a b c run now answer nodes waits makes orders turned = record {
   others = turned.others ++ waits.others;
@@ -157,7 +157,7 @@ turned_later law a b c run now answer nodes link waits never turned =
 
 -- a reply, whatever was being done, unless it was waited for
 pub replied_later : (law : JcrLaw) (a b c : Shown) (run now : SessionRun) (t : Turn) → AreNodes a.history.clusters a.history.sessions →
-    IsBeside law a b → is_writing b.work ≡ false → is_awaiting a.work ≡ false → IsReply t → HasCounted law b c run now t → HasCounted law a
+    IsBeside law a b → is_revision_written b.work ≡ false → is_awaiting a.work ≡ false → IsReply t → HasCounted law b c run now t → HasCounted law a
     c run now t
 replied_later law a b c run now (turn.Said i) nodes waits still awaits reply turned =
     turned_over law a b c run now (turn.Said i) nodes waits (λ h own made. step_free h a b c own still awaits waits.session made)

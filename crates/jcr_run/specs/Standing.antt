@@ -31,7 +31,7 @@ use Rattle.oak_machine.specs.Sessions.{base_of, cursor_at, drawn_since, has_left
 use Rattle.oak_machine.specs.Sessions.{is_attached, is_drawing, next_index, refreshed_since, since}
 use Rattle.oak_machine.specs.Steps.{is_appended_by, is_kind}
 use Rattle.oak_port.specs.Ports.{Awaiting, Deciding, Detaching, Grows, HasRoom, HoldsBack, Idle}
-use Rattle.oak_port.specs.Ports.{IsOn}
+use Rattle.oak_port.specs.Ports.{IsSessionOn}
 use Rattle.oak_port.specs.Ports.{Learning, Publishing, Shown, Starting, Undoing, Work, Writing}
 use Rattle.oak_port.specs.Ports.{is_by_due}
 use Rattle.oak_port.specs.declared.task.Task.TheVariants as task
@@ -110,13 +110,13 @@ abbrev pub due_to : (attached : Bool) → Command → Due
 due_to attached m = cond (is_allowed attached m) (due_by m) due.Bar
 
 -- what is to be done for the command of an index, or for none behind the last one
-abbrev pub due_of : (attached : Bool) → List Command → ℕ → Due
-due_of attached commands i =
+abbrev pub command_due : (attached : Bool) → List Command → ℕ → Due
+command_due attached commands i =
     option_map_or (λ m. due_to attached m) (slice_get commands i) due.Leave
 
 -- what is to be done for the session's next command
 abbrev pub due_for : SessionRun → Due
-due_for run = due_of run.attached run.commands run.index
+due_for run = command_due run.attached run.commands run.index
 
 -- what is to be done may ask for nodes of the tree at the base, for what is pending there, or for
 -- what changed
@@ -375,12 +375,12 @@ pub record IsFor (p : Shown) (run : SessionRun) (c : Call) (pledge : Pledge) : T
 
 -- the revision is at least what was local to the session's cluster node when its next command began
 abbrev pub IsAllLocal : History → ℕ → Revision → Type 0
-IsAllLocal h s r = (k : ℕ) → IsOn h s k
+IsAllLocal h s r = (k : ℕ) → IsSessionOn h s k
     → IsTrue (is_at_most (local h.begin (before_turn h.past s) k) r)
 
 -- the vector has of each other cluster node at least what that had published then
 abbrev pub IsAllPublished : History → ℕ → RevVec → Type 0
-IsAllPublished h s v = (k : ℕ) → IsOn h s k
+IsAllPublished h s v = (k : ℕ) → IsSessionOn h s k
     → IsTrue (knows_published h.clusters h.begin (before_turn h.past s) k v)
 
 -- what is being done for the command, which is run with c: its task was begun, or a background
@@ -474,7 +474,7 @@ AreSince h c (Some commits) = (x : Cursor) × (c.state.cursor ≡ Some x)
 -- the session is between two commands, neither its base nor its cursor has moved since the next one
 -- began, and what it holds is what that one is run with; what is being read is for that one, and
 -- what is read of the changes is all since the cursor
-pub record IsBetween (law : JcrLaw) (p : Shown) (run : SessionRun) : Type 0 where
+pub record IsBetweenCommands (law : JcrLaw) (p : Shown) (run : SessionRun) : Type 0 where
   pub unmoved : IsTrue (is_unmoved p.history.past p.session)
   pub unpinned : IsTrue (is_unpinned p.history.past p.session)
   pub call : Call
@@ -500,7 +500,7 @@ pub record IsOnCommand (law : JcrLaw) (p : Shown) (run : SessionRun) (m : Comman
 -- the session's base moved to v, of eight entries, for its next command, which shows that: the law
 -- lets that be said, there is a place for it, and by where the base is the session is attached or
 -- isn't
-pub record IsMoved (law : JcrLaw) (p : Shown) (run : SessionRun) (v : RevVec) : Type 0 where
+pub record IsBaseMoved (law : JcrLaw) (p : Shown) (run : SessionRun) (v : RevVec) : Type 0 where
   pub idle : p.work ≡ Idle
   pub command : Command
   pub call : Call
@@ -560,7 +560,7 @@ pub record IsAtEnd (law : JcrLaw) (p : Shown) (run : SessionRun) (e : CommitEnd)
 -- the task of a command of the cluster node, of the settings or of the cursor is under way, and
 -- this is kept of it for the reply, which has a place; neither the base nor the cursor has moved
 -- since the command began
-pub record IsAtWork (law : JcrLaw) (p : Shown) (run : SessionRun) (e : Errand) : Type 0 where
+pub record IsOnErrand (law : JcrLaw) (p : Shown) (run : SessionRun) (e : Errand) : Type 0 where
   pub command : Command
   pub call : Call
   pub for : IsOnCommand law p run command call
@@ -574,7 +574,7 @@ pub record IsAtWork (law : JcrLaw) (p : Shown) (run : SessionRun) (e : Errand) :
 -- the task of a command of the cluster node, of the settings or of the cursor has ended so, or
 -- there was no checkpoint to attach to: the base hasn't moved, the law lets the reply be said,
 -- which has a place, and behind that reply the cursor stands where the history has it
-pub record IsTold (law : JcrLaw) (p : Shown) (run : SessionRun) (t : Told) : Type 0 where
+pub record IsErrandTold (law : JcrLaw) (p : Shown) (run : SessionRun) (t : Told) : Type 0 where
   pub idle : p.work ≡ Idle
   pub command : Command
   pub call : Call
@@ -598,15 +598,15 @@ pub record IsGone (p : Shown) (run : SessionRun) : Type 0 where
 -- what holds of a session in a phase
 abbrev pub StandsAt : JcrLaw → Shown → SessionRun → Phase → Type 0
 StandsAt law p run phase.Outside = IsOutside law p run
-StandsAt law p run phase.Between = IsIn law p run.attached × IsBetween law p run
-StandsAt law p run (phase.Moved v) = IsIn law p run.attached × IsMoved law p run v
+StandsAt law p run phase.Between = IsIn law p run.attached × IsBetweenCommands law p run
+StandsAt law p run (phase.Moved v) = IsIn law p run.attached × IsBaseMoved law p run v
 StandsAt law p run phase.Detaching = IsIn law p run.attached × IsDetaching law p run
 StandsAt law p run (phase.Committing pledge) =
     IsIn law p run.attached × IsInCommit law p run pledge
 StandsAt law p run (phase.Committed e pledge) =
     IsIn law p run.attached × IsAtEnd law p run e pledge
-StandsAt law p run (phase.Working e) = IsIn law p run.attached × IsAtWork law p run e
-StandsAt law p run (phase.Told t) = IsIn law p run.attached × IsTold law p run t
+StandsAt law p run (phase.Working e) = IsIn law p run.attached × IsOnErrand law p run e
+StandsAt law p run (phase.Told t) = IsIn law p run.attached × IsErrandTold law p run t
 StandsAt law p run phase.Over = IsGone p run
 
 -- the port is the session's; its history is a run by the law, where sessions see trees that meet
@@ -685,10 +685,10 @@ pub record IsInTurn (law : JcrLaw) (h : History) (s : ℕ) (from until : ℕ) (k
 
 -- the counted steps of a command are made in the order of its stages: each is of a stage that isn't
 -- behind, and once it is made no stage before its own is left
-abbrev pub IsInOrder : JcrLaw → (old new : Shown) → (run now : SessionRun) → Turn → Type 0
-IsInOrder law old new run now (turn.Stepped k) = IsInTurn law old.history old.session
+abbrev pub AreInStageOrder : JcrLaw → (old new : Shown) → (run now : SessionRun) → Turn → Type 0
+AreInStageOrder law old new run now (turn.Stepped k) = IsInTurn law old.history old.session
     (stage_at run.phase old.work) (stage_at now.phase new.work) k
-IsInOrder law old new run now _ = ⊤
+AreInStageOrder law old new run now _ = ⊤
 
 -- ---- what a turn makes
 
@@ -737,9 +737,9 @@ HasAwaited past (event.Head k v ∷ event.End r ∷ []) work =
 HasAwaited past _ work = ⊤
 
 -- the work is that a revision is written
-abbrev pub is_writing : Work → Bool
-is_writing (Writing r) = true
-is_writing _ = false
+abbrev pub is_revision_written : Work → Bool
+is_revision_written (Writing r) = true
+is_revision_written _ = false
 
 -- a counted step of a session that has not left: a write, a mark or a last write where it is due,
 -- and none where nothing is being written
@@ -747,7 +747,7 @@ pub record IsStep (h : History) (old new : Shown) (own : Past) : Type 0 where
   pub stays : IsFalse (has_left h.past old.session)
   pub seen : IsSeenFor h old.work
   pub as_due : IsTrue (is_by_due old.due own)
-  pub quiet : IsFalse (is_writing old.work) → IsTrue (is_by_due None own)
+  pub quiet : IsFalse (is_revision_written old.work) → IsTrue (is_by_due None own)
   pub ended : HasAwaited h.past own new.work
 
 -- the session committed r, which the head doesn't see yet
@@ -779,7 +779,7 @@ pub record IsTurned (law : JcrLaw) (old new : Shown) (run now : SessionRun) (ans
   pub alone : IfSome old.beside.seats (λ seats. others ≡ [])
   pub tells : Tells (after others old.history) old.session run.index answer own
   pub made : IsMade (after others old.history) old new now own answer
-  pub in_order : IsInOrder law old new run now answer
+  pub in_order : AreInStageOrder law old new run now answer
   pub same : (now.session ≡ run.session) × (now.commands ≡ run.commands)
   pub stands : Stands law new now
 
@@ -816,10 +816,10 @@ is_saving (phase.Committed e pledge) = true
 is_saving _ = false
 
 -- the base moved for a command that isn't answered yet, whose reply shows that
-abbrev pub has_moved : Phase → Bool
-has_moved (phase.Moved v) = true
-has_moved phase.Detaching = true
-has_moved _ = false
+abbrev pub base_has_moved : Phase → Bool
+base_has_moved (phase.Moved v) = true
+base_has_moved phase.Detaching = true
+base_has_moved _ = false
 
 -- a task of the cluster node or of the settings was begun for a command that isn't answered yet
 abbrev pub has_begun : Phase → Bool
@@ -856,6 +856,6 @@ pub record IsRefused (p : Shown) (run : SessionRun) : Type 0 where
   pub reads : IsTrue (may_read run)
 
 -- the session's commit has ended
-abbrev pub HasEnded : Phase → Type 0
-HasEnded (phase.Committed e pledge) = ⊤
-HasEnded _ = ⊥
+abbrev pub HasCommitEnded : Phase → Type 0
+HasCommitEnded (phase.Committed e pledge) = ⊤
+HasCommitEnded _ = ⊥

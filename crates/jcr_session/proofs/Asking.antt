@@ -14,7 +14,7 @@ use Rattle.jcr_trans.specs.declared.command.Command.{Command}
 use Rattle.jcr_trans.specs.declared.command.Command.TheVariants as command
 use Rattle.jcr_law.specs.declared.law.JcrLaw.{JcrLaw}
 use Rattle.jcr_law.specs.Built.{is_built}
-use Rattle.jcr_law.specs.Makes.{IsAskedAt, Makes, commits}
+use Rattle.jcr_law.specs.Makes.{IsAskedAt, CommandAsks, commits}
 use Rattle.jcr_law.specs.State.{command_at}
 use Rattle.jcr_run.specs.declared.next.Due.TheVariants as due
 use Rattle.jcr_run.specs.declared.run.Phase.TheVariants as phase
@@ -51,7 +51,7 @@ module _ (law : JcrLaw) (p : Shown) (run : SessionRun) (stands : Stands law p ru
       by e m = absurd m
 
 -- the events of a commit, for a command that commits
-commit_makes : (m : Command) (e : Event) → commits m ≡ true → is_of_commit e ≡ true → Makes m e
+commit_makes : (m : Command) (e : Event) → commits m ≡ true → is_of_commit e ≡ true → CommandAsks m e
 commit_makes command.Save e h is = is
 commit_makes (command.Lock p deep) e h is = is
 commit_makes (command.Unlock p) e h is = is

@@ -40,8 +40,8 @@ use Rattle.jcr_run.specs.declared.run.Phase.{Phase}
 use Rattle.jcr_run.specs.declared.run.Phase.TheVariants as phase
 use Rattle.jcr_run.specs.declared.run.SessionRun.{SessionRun}
 use Rattle.jcr_run.specs.declared.turn.Turn.TheVariants as turn
-use Rattle.jcr_run.specs.Standing.{HasAwaited, HasCounted, HasCursor, IsBetween, IsCalled, IsFresh, IsIn, KeepsCursor, Stands, StandsAt}
-use Rattle.jcr_run.specs.Standing.{is_allowed, is_step_event, is_writing, stage_at, stage_of}
+use Rattle.jcr_run.specs.Standing.{HasAwaited, HasCounted, HasCursor, IsBetweenCommands, IsCalled, IsFresh, IsIn, KeepsCursor, Stands, StandsAt}
+use Rattle.jcr_run.specs.Standing.{is_allowed, is_step_event, is_revision_written, stage_at, stage_of}
 use Rattle.jcr_run.proofs.Committing.{own}
 use Rattle.jcr_run.proofs.Cursors.{cursor_moved, cursor_of_call, has_cursor_over}
 use Rattle.jcr_run.proofs.Lawful.{asked_allowed, at_between, idle_by}
@@ -137,7 +137,7 @@ module _ (law : JcrLaw) (old mid new : Shown) (t : Task) (answer : StepOut) (roo
   abbrev inside : IsIn law old run.attached
   inside = (at_between law old run stands between).0
 
-  abbrev here : IsBetween law old run
+  abbrev here : IsBetweenCommands law old run
   here = (at_between law old run stands between).1
 
   abbrev behind : Past
@@ -191,7 +191,7 @@ module _ (law : JcrLaw) (old mid new : Shown) (t : Task) (answer : StepOut) (roo
         → slice_get run.commands run.index ≡ Some m → slice_get (steps_of m) 0 ≡ Some kinds → list_any (is_kind k) kinds ≡ true
         → now.session ≡ run.session → now.commands ≡ run.commands → now.index ≡ run.index → StandsAt law new now now.phase → HasCounted law old new run now (turn.Stepped k)
     first_turn unread k m kinds now step appended undue awaited still next there among session commands index at =
-        turned_later law old mid new run now (turn.Stepped k) stands.nodes (started old mid (ap is_writing waits.work_is) (ap is_awaiting waits.work_is) (idle_by law old run stands between unread)) (by_waits law old mid (Starting t) room waits) (not_ended (turn.Stepped k) refl)
+        turned_later law old mid new run now (turn.Stepped k) stands.nodes (started old mid (ap is_revision_written waits.work_is) (ap is_awaiting waits.work_is) (idle_by law old run stands between unread)) (by_waits law old mid (Starting t) room waits) (not_ended (turn.Stepped k) refl)
         record {
           others = steps.others;
           own = steps.own;

@@ -23,7 +23,7 @@ use Rattle.oak_port.specs.declared.task.Task.{Task}
 use Rattle.oak_port.specs.declared.task.Task.TheVariants as task
 use Rattle.jcr_observe.specs.declared.event.Filter.{Filter}
 use Rattle.jcr_observe.specs.declared.event.JcrEvent.{JcrEvent}
-use Rattle.jcr_observe.specs.Observed.{events_of}
+use Rattle.jcr_observe.specs.Observed.{observed_events}
 use Rattle.jcr_trans.specs.Answers.{Done}
 use Rattle.jcr_trans.specs.Texts.{answer_text}
 use Rattle.jcr_trans.specs.declared.command.Command.{Command}
@@ -58,9 +58,9 @@ use Rattle.jcr_run.specs.Asked.{IsAsked, IsUnviewedNext, MayAnswer, MayForgo, Ma
 use Rattle.jcr_session.specs.Begins.{IsSaidAtOnce, IsTaskFor, MayObserve, MaySetOut}
 use Rattle.jcr_run.specs.Asked.{ObservesNext, SettlesBy}
 use Rattle.jcr_session.specs.Begins.{MayTell, StartsNext, StartsWith}
-use Rattle.jcr_run.specs.Standing.{AreSince, HasCounted, HasCursor, IsBeside, IsBetween, IsIn, IsTold, IsToldFor, IsWorkFor, Stands}
+use Rattle.jcr_run.specs.Standing.{AreSince, HasCounted, HasCursor, IsBeside, IsBetweenCommands, IsIn, IsErrandTold, IsToldFor, IsWorkFor, Stands}
 use Rattle.jcr_steps.specs.Kept.{HasPlace, IsEight}
-use Rattle.jcr_run.specs.Standing.{due_by, due_for, is_errand, is_told_for, is_writing, stage_at}
+use Rattle.jcr_run.specs.Standing.{due_by, due_for, is_errand, is_told_for, is_revision_written, stage_at}
 use Rattle.jcr_steps.specs.Kept.{kept_for, kept_of, reply_of}
 use Rattle.jcr_run.specs.Standing.{stage_of}
 use Rattle.jcr_run.proofs.Lawful.{asks_of}
@@ -130,7 +130,7 @@ module _ (law : JcrLaw) (p : Shown) (run : SessionRun) (stands : Stands law p ru
   abbrev m : (m : Command) × (slice_get run.commands run.index ≡ Some m)
   m = errand_next run next
 
-  abbrev here : IsIn law p run.attached × IsBetween law p run
+  abbrev here : IsIn law p run.attached × IsBetweenCommands law p run
   here = at_between law p run stands between
 
   asked_now : IsAsked law p run m.0 here.1.call
@@ -354,7 +354,7 @@ module _ (law : JcrLaw) (old : Shown) (run : SessionRun) (t : Task) (e : Errand)
     begun_turns later same new now x turned =
         turned_like law old new run working now x refl refl refl (λ k is. none_behind)
         (has_turned_later law old mid new working now x may.asked.inside.nodes
-        (started old mid (ap is_writing begins.work_is) (ap is_awaiting begins.work_is) may.asked.idle) beside
+        (started old mid (ap is_revision_written begins.work_is) (ap is_awaiting begins.work_is) may.asked.idle) beside
         (never_ends law mid new working now inside_mid) (subst (λ (l : JcrLaw). HasCounted l mid new working now x) same turned))
 
 -- ---- the reply
@@ -387,7 +387,7 @@ told_by_due run m next tells = by (told_or (due_for run) tells)
         (errand_viewed m kind, λ c x t holds told. told_accepts c x m t kind holds told)
 
 module _ (law : JcrLaw) (p : Shown) (run : SessionRun) (t : Told) (stands : Stands law p (record run { phase = phase.Told t })) where
-  abbrev told_here : IsIn law p run.attached × IsTold law p (record run { phase = phase.Told t }) t
+  abbrev told_here : IsIn law p run.attached × IsErrandTold law p (record run { phase = phase.Told t }) t
   told_here = stands.at
 
   told_asked : IsAsked law p run told_here.1.command told_here.1.call
@@ -470,13 +470,13 @@ errand_due run x is next = due_at run x next ∙ ap (λ (b : Bool). cond b (due_
 
 -- what changed in these commits is all since the cursor
 shown_since : (h : History) (c : Call) (x : Held) (commits : List CommitChanges) → Holds c x → AreSince h c (Some commits)
-    → option_map_or (λ (y : Cursor). events_of y.filter commits) x.cursor [] ≡ events_since h.begin h.past c.who.base c.state.cursor
+    → option_map_or (λ (y : Cursor). observed_events y.filter commits) x.cursor [] ≡ events_since h.begin h.past c.who.base c.state.cursor
 shown_since h c x commits holds (y, is, same) =
-    ap (λ (o : Option Cursor). option_map_or (λ (z : Cursor). events_of z.filter commits) o []) (holds.cursor ∙ is)
-    ∙ (ap (events_of y.filter) same ∙ sym (ap (events_since h.begin h.past c.who.base) is))
+    ap (λ (o : Option Cursor). option_map_or (λ (z : Cursor). observed_events z.filter commits) o []) (holds.cursor ∙ is)
+    ∙ (ap (observed_events y.filter) same ∙ sym (ap (events_since h.begin h.past c.who.base) is))
 
 pub events_kept : (h : History) (c : Call) (x : Held) (commits : List CommitChanges) (reply : String Global) → Holds c x → AreSince h c (Some commits)
-    → string_bytes reply ≡ events_reply (option_map_or (λ (y : Cursor). events_of y.filter commits) x.cursor [])
+    → string_bytes reply ≡ events_reply (option_map_or (λ (y : Cursor). observed_events y.filter commits) x.cursor [])
     → StartsWith h c command.Events (start.Begun task.Observe (errand.Events reply))
 events_kept h c x commits reply holds since told =
     (refl, told ∙ ap (λ (es : List JcrEvent). events_reply es) (shown_since h c x commits holds since))

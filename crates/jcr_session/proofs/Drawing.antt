@@ -47,7 +47,7 @@ use Rattle.jcr_run.specs.declared.run.SessionRun.{SessionRun}
 use Rattle.jcr_run.specs.declared.turn.Turn.TheVariants as turn
 use Rattle.jcr_run.specs.Asked.{ComesNext, IsAsked, MayForgo}
 use Rattle.jcr_session.specs.Begins.{MayDrawFor}
-use Rattle.jcr_run.specs.Standing.{HasDrawnFor, HasCounted, IsBeside, IsCalled, IsCommitting, IsFresh, IsIn, IsInOrder, IsPlace, IsPrepared, IsTurned, KeepsCursor, Stands, StandsAt, due_for, due_to, is_allowed, is_writing, stage_at, stage_of}
+use Rattle.jcr_run.specs.Standing.{HasDrawnFor, HasCounted, IsBeside, IsCalled, IsCommitting, IsFresh, IsIn, AreInStageOrder, IsPlace, IsPrepared, IsTurned, KeepsCursor, Stands, StandsAt, due_for, due_to, is_allowed, is_revision_written, stage_at, stage_of}
 use Rattle.jcr_run.specs.Standing.{is_events, reads_for}
 use Rattle.jcr_run.proofs.Readying.{ready_by}
 use Rattle.jcr_run.proofs.Committing.{committing_drawn, own as same_number}
@@ -320,7 +320,7 @@ module _ (law : JcrLaw) (mid : Shown) (run : SessionRun) (plan : Plan) (may : Ma
     none_behind : stage_at run.phase begun.work ≡ 0
     none_behind = ap (λ (f : Phase). stage_at f begun.work) may.phase_is ∙ ap stage_of begins.work_is
 
-    order_new : IsInOrder law begun new run run (turn.Stepped kind.Draw)
+    order_new : AreInStageOrder law begun new run run (turn.Stepped kind.Draw)
     order_new = commit_order law begun new run run kind.Draw in_begun.login may.command (commit_commits run may.command may.asked.next may.commits) (next_later law mid begun first_beside ∙ next_mid) 0 (kind.Draw ∷ []) refl refl
         (subst (λ (n : ℕ). n ≤ 0) (sym none_behind) (let le : 0 ≤ 0 = omega arith in le)) (let le : 0 ≤ stage_at run.phase new.work = omega arith in le)
 
@@ -340,7 +340,7 @@ module _ (law : JcrLaw) (mid : Shown) (run : SessionRun) (plan : Plan) (may : Ma
 
     -- it draws, and the session is in its commit
     pub draw_turns : HasCounted law mid new run run (turn.Stepped kind.Draw)
-    draw_turns = turned_later law mid begun new run run (turn.Stepped kind.Draw) may.asked.inside.nodes (started mid begun (ap is_writing begins.work_is) (ap is_awaiting begins.work_is) may.asked.idle) first_beside
+    draw_turns = turned_later law mid begun new run run (turn.Stepped kind.Draw) may.asked.inside.nodes (started mid begun (ap is_revision_written begins.work_is) (ap is_awaiting begins.work_is) may.asked.idle) first_beside
         (not_ended (turn.Stepped kind.Draw) refl) draws_new
 
   -- memory was refused for its draw

@@ -15,7 +15,7 @@ use Rattle.jr_tree.specs.declared.edit.Edit.{Edit}
 use Rattle.jr_tree.specs.declared.shared.Who.{Who}
 use Rattle.jr_tree.specs.Edits.{IsProper, applied}
 use Rattle.jr_tree.specs.Trees.{IsTree, Nodes}
-use Rattle.jr_items.specs.Refusals.{clash}
+use Rattle.jr_items.specs.Refusals.{clash_refusal}
 use Rattle.oak_machine.specs.Commits.{draw_of, is_committed, is_ended, tree_at}
 use Rattle.oak_machine.specs.Sessions.{base_of, is_drawing}
 use Rattle.oak_port.specs.Ports.{HasRoom, Shown}
@@ -39,7 +39,7 @@ use Rattle.jcr_call.specs.Comings.{accepted_text}
 use Rattle.jcr_held.specs.Holds.{Holds}
 use Rattle.jcr_held.specs.declared.held.Held.{Held}
 use Rattle.jr_rev.specs.Alone.{IsNextAlone}
-use Rattle.core_calls.specs.Replies.{is_refusal}
+use Rattle.core_calls.specs.Replies.{is_refusing}
 use Rattle.core_calls.proofs.Accepting.{answer_accepts}
 use Rattle.core_calls.proofs.Alone.{tree_next}
 use Rattle.core_calls.proofs.Draws.{draw_known}
@@ -121,18 +121,18 @@ module _ (law : JcrLaw) (p : Shown) (run now : SessionRun) (item : Item) (o : Re
   pub clash_memory : MayAnswer law p now memory_text
   clash_memory = forgo_answers law p run now true clash_forgoes settles
 
-  pub clash_answers : MayAnswer law p now (no_text (clash item o))
+  pub clash_answers : MayAnswer law p now (no_text (clash_refusal item o))
   clash_answers = record {
     began = run.attached;
     command = has.command;
     call = has.call;
     asked = settled_asked law p run now false true None settles has.command has.call has.asked;
-    says = settled_says law p run now false true None settles (no_text (clash item o))
-        (says_allowed law p run has.command has.call has.asked (no_text (clash item o)) (commit_allowed run has.command has.asked.next has.commits)
+    says = settled_says law p run now false true None settles (no_text (clash_refusal item o))
+        (says_allowed law p run has.command has.call has.asked (no_text (clash_refusal item o)) (commit_allowed run has.command has.asked.next has.commits)
         (clashed has.command has.revision o item has.clash.unmade.drawn has.clash.ended has.clash.told has.clash.unmade.unmoved));
-    leaves = settled_leaves law p run now false true None settles has.command has.call (no_text (clash item o)) has.asked.next has.holds (λ ok. absurd (false≢true ok)) (refused_text (clash item o)) clash_forgoes.drew_is;
+    leaves = settled_leaves law p run now false true None settles has.command has.call (no_text (clash_refusal item o)) has.asked.next has.holds (λ ok. absurd (false≢true ok)) (refused_text (clash_refusal item o)) clash_forgoes.drew_is;
     stands = attached_still law p run has.command has.call has.asked has.clash.unmade.unmoved ∙ sym (settled_attached law p run now false true None settles);
-    cursor = cursor_refused p.history.past p.session (no_text (clash item o)) (has_drawn p) has.call has.command (refused_text (clash item o))
+    cursor = cursor_refused p.history.past p.session (no_text (clash_refusal item o)) (has_drawn p) has.call has.command (refused_text (clash_refusal item o))
         (has.asked.inside.cursor has.call has.asked.call has.clash.unmade.unpinned);
   }
 
@@ -168,11 +168,11 @@ moved_tokens c v t command.Events h = apart due.Events due.Commit refl h
 moved_tokens c v t m h = apart due.See due.Commit refl h
 
 -- and it is no refusal
-version_shown : (n : Option Name) → is_refusal (version_answer n) ≡ false
+version_shown : (n : Option Name) → is_refusing (version_answer n) ≡ false
 version_shown None = refl
 version_shown (Some n) = refl
 
-committed_shown : (c : Call) (on : Nodes) (r : Revision) (m : Command) → is_refusal (committed_answer c on r m) ≡ false
+committed_shown : (c : Call) (on : Nodes) (r : Revision) (m : Command) → is_refusing (committed_answer c on r m) ≡ false
 committed_shown c on r (command.Lock p deep) = refl
 committed_shown c on r (command.Checkin p) = version_shown _
 committed_shown c on r m = refl

@@ -24,7 +24,7 @@ use Rattle.oak_machine.specs.Runs.{IsRun}
 use Rattle.oak_machine.specs.Sessions.{cursor_at, has_left, is_attached, kept_checkpoint, next_index, pinned_at, session_base, since}
 use Rattle.oak_machine.specs.Commits.{is_committed}
 use Rattle.oak_machine.specs.Steps.{is_appended_by, is_kind}
-use Rattle.oak_port.specs.Ports.{AreOfStep, Grows, HasRoom, Idle, IsOn, Makes, Shown, Steps, Work}
+use Rattle.oak_port.specs.Ports.{AreOfStep, Grows, HasRoom, Idle, IsSessionOn, Makes, Shown, Steps, Work}
 use Rattle.oak_port.specs.declared.task.StepOut.{StepOut}
 use Rattle.oak_port.specs.declared.task.StepOut.TheVariants as out
 use Rattle.oak_port.specs.declared.task.TaskEnd.TheVariants as end
@@ -68,9 +68,9 @@ use Rattle.jcr_run.specs.Asked.{MayForgo}
 use Rattle.jcr_run.specs.Nearing.{IsReply}
 use Rattle.jcr_steps.specs.Answered.{IsErrandAnswer, MayCome, MayEnd, came_by, kind_told, told_by}
 use Rattle.jcr_session.specs.Phases.{phase_came, turn_came}
-use Rattle.jcr_run.specs.Standing.{HasCounted, HasCursor, IsAtWork, IsBeside, IsFresh, IsIn, IsToldFor, due_for, is_errand, is_told_for}
+use Rattle.jcr_run.specs.Standing.{HasCounted, HasCursor, IsOnErrand, IsBeside, IsFresh, IsIn, IsToldFor, due_for, is_errand, is_told_for}
 use Rattle.jcr_steps.specs.Kept.{HasPlace, IsEight}
-use Rattle.jcr_run.specs.Standing.{IsInOrder, IsKeptFor, IsOnCommand, IsWorkFor, Stands, StandsAt, is_writing}
+use Rattle.jcr_run.specs.Standing.{AreInStageOrder, IsKeptFor, IsOnCommand, IsWorkFor, Stands, StandsAt, is_revision_written}
 use Rattle.jcr_steps.specs.Kept.{kept_for}
 use Rattle.jcr_steps.specs.Kept.{kept_of, reply_of}
 use Rattle.jcr_run.specs.Standing.{stage_at, stage_of}
@@ -187,7 +187,7 @@ module _ (law : JcrLaw) (old new : Shown) (answer : StepOut) (run : SessionRun) 
   abbrev at : SessionRun
   at = record run { phase = phase.Working e }
 
-  abbrev here : IsIn law old run.attached × IsAtWork law old at e
+  abbrev here : IsIn law old run.attached × IsOnErrand law old at e
   here = stands.at
 
   abbrev s : ℕ
@@ -253,12 +253,12 @@ module _ (law : JcrLaw) (old new : Shown) (answer : StepOut) (run : SessionRun) 
     -- the step is one of its command, of the stage at that place
     ordered : (f : Phase) (k : StepKind) (place : ℕ) (kinds : List StepKind) → slice_get (steps_of m) place ≡ Some kinds → list_any
         (is_kind k) kinds ≡ true → stage_of old.work ≤ place → place ≤ stage_at f new.work
-        → IsInOrder law old new at (record run { phase = f }) (turn.Stepped k)
+        → AreInStageOrder law old new at (record run { phase = f }) (turn.Stepped k)
     ordered f k place kinds there among behind before =
         inside_order law old new at (record run { phase = f }) k here.0.login (Some m) (next_is law old at stands ∙ for.next) record
         { place = place; kinds = kinds; there = there; among = among; behind = behind; before = before }
 
-    goes : (f : Phase) (k : StepKind) → is_awaiting old.work ≡ false → is_appended_by moment s k (reverse steps.own) ≡ true → IsInOrder law
+    goes : (f : Phase) (k : StepKind) → is_awaiting old.work ≡ false → is_appended_by moment s k (reverse steps.own) ≡ true → AreInStageOrder law
         old new at (record run { phase = f }) (turn.Stepped k) → StandsAt law new (record run { phase = f }) f
         → HasCounted law old new at (record run { phase = f }) (turn.Stepped k)
     goes f k awaits appended order stands_now = turned_quiet law old new answer at stands here.0 steps f (turn.Stepped k)
@@ -271,7 +271,7 @@ module _ (law : JcrLaw) (old new : Shown) (answer : StepOut) (run : SessionRun) 
         } order (plain.quiet.next moment.past) stands_now
 
     -- it goes on
-    goes_on : (k : StepKind) → is_awaiting old.work ≡ false → is_appended_by moment s k (reverse steps.own) ≡ true → IsInOrder law old new
+    goes_on : (k : StepKind) → is_awaiting old.work ≡ false → is_appended_by moment s k (reverse steps.own) ≡ true → AreInStageOrder law old new
         at at (turn.Stepped k) → IsKeptFor (after steps.own moment) c m e → is_unpinned (steps.own ++ moment.past) s ≡ is_unpinned moment.past s
         → IsWorkFor (after steps.own moment) s c m new.work → HasCounted law old new at at (turn.Stepped k)
     goes_on k awaits appended order kept_is still works = goes (phase.Working e) k awaits appended order (
@@ -291,7 +291,7 @@ module _ (law : JcrLaw) (old new : Shown) (answer : StepOut) (run : SessionRun) 
     )
 
     -- it has ended
-    has_ended : (t : Told) (k : StepKind) → is_awaiting old.work ≡ false → is_appended_by moment s k (reverse steps.own) ≡ true → IsInOrder
+    has_ended : (t : Told) (k : StepKind) → is_awaiting old.work ≡ false → is_appended_by moment s k (reverse steps.own) ≡ true → AreInStageOrder
         law old new at (record run { phase = phase.Told t }) (turn.Stepped k) → new.work ≡ Idle
         → MaySay law (after steps.own moment) s (Allowed m) (reply_of t) → IsToldFor m t
         → HasCursor (steps.own ++ moment.past) s (call_after (is_ok_text (reply_of t)) false c m) → HasPlace old.room (kept_of t) → IsEight t
@@ -314,7 +314,7 @@ module _ (law : JcrLaw) (old new : Shown) (answer : StepOut) (run : SessionRun) 
     )
 
     -- a command that sets no cursor has ended
-    ended_plain : (t : Told) (k : StepKind) → is_awaiting old.work ≡ false → is_appended_by moment s k (reverse steps.own) ≡ true → IsInOrder
+    ended_plain : (t : Told) (k : StepKind) → is_awaiting old.work ≡ false → is_appended_by moment s k (reverse steps.own) ≡ true → AreInStageOrder
         law old new at (record run { phase = phase.Told t }) (turn.Stepped k) → new.work ≡ Idle
         → MaySay law (after steps.own moment) s (Allowed m) (reply_of t) → IsToldFor m t → sets_cursor m ≡ false
         → is_unpinned (steps.own ++ moment.past) s ≡ is_unpinned moment.past s → HasPlace old.room (kept_of t) → IsEight t
@@ -325,7 +325,7 @@ module _ (law : JcrLaw) (old new : Shown) (answer : StepOut) (run : SessionRun) 
   -- ---- case by case
 
   -- a vector that a cluster node has learned has eight entries
-  learned_eight : (k : ℕ) (v : RevVec) → IsOn moment s k → IsRun (starts_of law) (says_of law) (after (event.In k v ∷ []) moment) → length
+  learned_eight : (k : ℕ) (v : RevVec) → IsSessionOn moment s k → IsRun (starts_of law) (says_of law) (after (event.In k v ∷ []) moment) → length
       v ≡ 8
   learned_eight k v on now =
       let h = old.history in
@@ -723,7 +723,7 @@ module _ (law : JcrLaw) (old new : Shown) (answer : StepOut) (run : SessionRun) 
       HasCounted later new newer run now t → HasCounted law old newer at now t
   refused_turns later same newer now t memory reply turned =
       replied_like law old newer at run now t refl refl refl reply
-      (replied_later law old new newer run now t here.0.nodes (refused_beside memory) (ap is_writing (refused_quiet memory).1) unwaited
+      (replied_later law old new newer run now t here.0.nodes (refused_beside memory) (ap is_revision_written (refused_quiet memory).1) unwaited
       reply
       (subst (λ (l : JcrLaw). HasCounted l new newer run now t) same turned))
 

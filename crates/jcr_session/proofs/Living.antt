@@ -37,7 +37,7 @@ use Rattle.jcr_run.specs.declared.run.Phase.TheVariants as phase
 use Rattle.jcr_run.specs.declared.run.SessionRun.{SessionRun}
 use Rattle.jcr_run.specs.declared.turn.Turn.{Turn}
 use Rattle.jcr_run.specs.declared.turn.Turn.TheVariants as turn
-use Rattle.jcr_run.specs.Standing.{AreSince, HasCounted, IsBetween, IsFetchFor, IsFresh, IsIn, IsOutside, IsReading, KeepsCursor, Stands, StandsAt, is_writing}
+use Rattle.jcr_run.specs.Standing.{AreSince, HasCounted, IsBetweenCommands, IsFetchFor, IsFresh, IsIn, IsOutside, IsReading, KeepsCursor, Stands, StandsAt, is_revision_written}
 use Rattle.jcr_run.proofs.Committing.{own}
 use Rattle.jcr_run.proofs.Cursors.{cursor_of_call}
 use Rattle.jcr_run.proofs.Nexts.{unwanted}
@@ -197,7 +197,7 @@ module _ (law : JcrLaw) (old mid new : Shown) (run : SessionRun) (stands : Stand
     abbrev run_now : SessionRun
     run_now = record run { held = held; phase = phase.Between }
 
-    between_now : IsBetween law new run_now
+    between_now : IsBetweenCommands law new run_now
     between_now = record {
       call = first;
       is = called_now;
@@ -230,7 +230,7 @@ module _ (law : JcrLaw) (old mid new : Shown) (run : SessionRun) (stands : Stand
     logged_in now t is told =
         subst (λ (x : Turn). HasCounted law old new run now x) (sym told)
         (subst (λ (x : SessionRun). HasCounted law old new run x (turn.Stepped kind.Login)) (sym is)
-        (turned_later law old mid new run run_now (turn.Stepped kind.Login) stands.nodes (started old mid (ap is_writing waits.work_is) (ap is_awaiting waits.work_is) is_out.idle) (by_waits law old mid (Starting task.Login) room waits) (not_ended (turn.Stepped kind.Login) refl)
+        (turned_later law old mid new run run_now (turn.Stepped kind.Login) stands.nodes (started old mid (ap is_revision_written waits.work_is) (ap is_awaiting waits.work_is) is_out.idle) (by_waits law old mid (Starting task.Login) room waits) (not_ended (turn.Stepped kind.Login) refl)
         record {
           others = steps.others;
           own = steps.own;

@@ -58,9 +58,9 @@ use Rattle.jcr_run.specs.declared.turn.Turn.TheVariants as turn
 use Rattle.jcr_run.specs.Nearing.{IsReply}
 use Rattle.jcr_run.specs.Asked.{IsAsked, MayAnswer, Settles, has_drawn}
 use Rattle.jcr_session.specs.Begins.{IsTargetNext, IsTargetOf, MayStayHalf}
-use Rattle.jcr_run.specs.Standing.{HasAwaited, HasCounted, IsBeside, IsBetween, IsDetaching, IsFresh, IsHalfDetached, IsIn}
-use Rattle.jcr_run.specs.Standing.{IsInOrder, IsMoved, Stands, StandsAt, due_for, is_allowed, is_attaching, is_moving, is_told_for}
-use Rattle.jcr_run.specs.Standing.{is_writing, stage_at}
+use Rattle.jcr_run.specs.Standing.{HasAwaited, HasCounted, IsBeside, IsBetweenCommands, IsDetaching, IsFresh, IsHalfDetached, IsIn}
+use Rattle.jcr_run.specs.Standing.{AreInStageOrder, IsBaseMoved, Stands, StandsAt, due_for, is_allowed, is_attaching, is_moving, is_told_for}
+use Rattle.jcr_run.specs.Standing.{is_revision_written, stage_at}
 use Rattle.jcr_run.proofs.Lawful.{asks_of}
 use Rattle.jcr_session.proofs.Bases.{IsBased, attached_base, based_attached, by_event, first_of, first_turn, looked_on, missed_came, refreshed_base}
 use Rattle.jcr_session.proofs.Bases.{says_event, unmoved_then}
@@ -176,7 +176,7 @@ moved_is law new run held m c v b idle unread next holds moves stands says place
 )
 
 module _ (law : JcrLaw) (old mid new : Shown) (room : Option ℕ) (run : SessionRun) (stands : Stands law old run) (between : run.phase ≡ phase.Between) (unread : run.fetch ≡ None) where
-  abbrev here : IsBetween law old run
+  abbrev here : IsBetweenCommands law old run
   here = (at_between law old run stands between).1
 
   abbrev Waits : Task → Type 0
@@ -396,8 +396,8 @@ module _ (law : JcrLaw) (old new : Shown) (answer : StepOut) (run : SessionRun) 
     abbrev run_now : SessionRun
     run_now = record run { held = held; phase = phase.Moved pin.base }
 
-    at_moved : (w : RevVec) → w ≡ v → IsMoved law new (record run { held = held; phase = phase.Moved w }) w
-    at_moved w same = subst (λ (x : RevVec). IsMoved law new (record run { held = held; phase = phase.Moved x }) x) (sym same) record {
+    at_moved : (w : RevVec) → w ≡ v → IsBaseMoved law new (record run { held = held; phase = phase.Moved w }) w
+    at_moved w same = subst (λ (x : RevVec). IsBaseMoved law new (record run { held = held; phase = phase.Moved x }) x) (sym same) record {
       idle = made_it.2;
       command = command.Detach;
       call = call_moved half.call v half.tree;
@@ -426,7 +426,7 @@ module _ (law : JcrLaw) (old new : Shown) (answer : StepOut) (run : SessionRun) 
       place = subst (λ (x : Option ℕ). HasRoom x VECTOR_REPLY_BYTES) (sym steps.room) half.place;
     }
 
-    order_it : IsInOrder law old new run run_now (turn.Stepped kind.Settings)
+    order_it : AreInStageOrder law old new run run_now (turn.Stepped kind.Settings)
     order_it = inside_order law old new run run_now kind.Settings halfway.0.login (Some command.Detach) (next_is law old run stands ∙ d.0) record {
       place = 1;
       kinds = kind.Settings ∷ [];
@@ -477,7 +477,7 @@ module _ (law : JcrLaw) (old new : Shown) (answer : StepOut) (run : SessionRun) 
     -- and that is its turn
     pub half_turns : (later : JcrLaw) → later ≡ law → (newer : Shown) (now : SessionRun) (t : Turn) → IsReply t → HasCounted later new newer run now t → HasCounted law old newer run now t
     half_turns later same newer now t reply turned =
-        replied_later law old new newer run now t halfway.0.nodes half_beside_it (ap is_writing refused_it.1) (ap is_awaiting halfway.1.works) reply
+        replied_later law old new newer run now t halfway.0.nodes half_beside_it (ap is_revision_written refused_it.1) (ap is_awaiting halfway.1.works) reply
         (subst (λ (l : JcrLaw). HasCounted l new newer run now t) same turned)
 
 -- ---- a detach that stays half made

@@ -40,7 +40,7 @@ use Rattle.jcr_run.specs.declared.turn.Turn.{Turn}
 use Rattle.jcr_run.specs.declared.turn.Turn.TheVariants as turn
 use Rattle.jcr_steps.specs.Answered.{kind_of_end}
 use Rattle.jcr_session.specs.Phases.{phase_by, turn_by}
-use Rattle.jcr_run.specs.Standing.{HasAwaited, HasCommitted, HasDrawnFor, HasCounted, IsBeside, IsCalled, IsCommitting, IsFor, IsIn, IsInCommit, IsInOrder, IsMade, IsMadeFor, IsPlace, IsSeenFor, IsStep, IsToldEnd, IsTurned, KeepsCursor, Stands, StandsAt, Tells, is_writing, stage_at, stage_of}
+use Rattle.jcr_run.specs.Standing.{HasAwaited, HasCommitted, HasDrawnFor, HasCounted, IsBeside, IsCalled, IsCommitting, IsFor, IsIn, IsInCommit, AreInStageOrder, IsMade, IsMadeFor, IsPlace, IsSeenFor, IsStep, IsToldEnd, IsTurned, KeepsCursor, Stands, StandsAt, Tells, is_revision_written, stage_at, stage_of}
 use Rattle.jcr_run.proofs.Cursors.{cursor_moved, has_cursor_over}
 use Rattle.jcr_run.proofs.Committing.{clash_end, committing_finish, committing_undo, committing_write, own, still_moved, unmade_end}
 use Rattle.jcr_session.proofs.Drawing.{commit_commits}
@@ -116,13 +116,13 @@ module _ (law : JcrLaw) (old new : Shown) (answer : StepOut) (run : SessionRun) 
 
   -- the step is a turn, behind which this is held
   pub turned_with : (held : Held) (f : Phase) (t : Turn) → Tells moment old.session run.index t steps.own → IsMade moment old new
-      (record run { held = held; phase = f }) steps.own t → IsInOrder law old new run (record run { held = held; phase = f }) t → next_index
+      (record run { held = held; phase = f }) steps.own t → AreInStageOrder law old new run (record run { held = held; phase = f }) t → next_index
       (steps.own ++ moment.past) old.session ≡ next_index moment.past old.session → StandsAt law new (record run { held = held; phase = f }) f
       → IsTurned law old new run (record run { held = held; phase = f }) t
   turned_with held f t tells made order next at = record { others = steps.others; own = steps.own; grows = steps.grows; beside = steps.beside; alone = steps.alone; tells = tells; made = made; in_order = order; same = (refl, refl); stands = stands_with held f next at }
 
   pub turned_quiet : (f : Phase) (t : Turn) → Tells moment old.session run.index t steps.own → IsMade moment old new
-      (record run { phase = f }) steps.own t → IsInOrder law old new run (record run { phase = f }) t → next_index
+      (record run { phase = f }) steps.own t → AreInStageOrder law old new run (record run { phase = f }) t → next_index
       (steps.own ++ moment.past) old.session ≡ next_index moment.past old.session → StandsAt law new (record run { phase = f }) f
       → IsTurned law old new run (record run { phase = f }) t
   turned_quiet f t tells made order next at = turned_with run.held f t tells made order next at
@@ -138,29 +138,29 @@ module _ (law : JcrLaw) (old new : Shown) (answer : StepOut) (run : SessionRun) 
 
     -- by what was being done and is, a step of a stage between
     ordered : (f : Phase) (k : StepKind) (w v : Work) (n : ℕ) (kinds : List StepKind) → old.work ≡ w → new.work ≡ v → slice_get (commit_stages ++ (kind.Say ∷ []) ∷ []) n ≡ Some kinds → list_any (is_kind k) kinds ≡ true
-        → stage_of w ≤ n → n ≤ stage_at f v → IsInOrder law old new run (record run { phase = f }) (turn.Stepped k)
+        → stage_of w ≤ n → n ≤ stage_at f v → AreInStageOrder law old new run (record run { phase = f }) (turn.Stepped k)
     ordered f k w v n kinds was is there among behind before =
         commit_order law old new run (record run { phase = f }) k inside.login at_commit.for.command (commit_commits run at_commit.for.command at_commit.for.next at_commit.for.commits) (next_is law old run stands ∙ at_commit.for.next) n kinds there among
         (subst (λ (m : ℕ). m ≤ n) (sym (ap (λ (g : Phase). stage_at g old.work) commits ∙ ap stage_of was)) behind)
         (subst (λ (x : Work). n ≤ stage_at f x) (sym is) before)
 
     -- a step that writes
-    write_order : (k : StepKind) (r : Revision) → old.work ≡ Writing r → WritesOn old.session r k steps.own new.work → is_appended_by moment old.session k (reverse steps.own) ≡ true → IsInOrder law old new run (record run { phase = phase.Committing a }) (turn.Stepped k)
-    write_order k r was (inl (is, mine, inl work)) told = subst (λ (x : StepKind). IsInOrder law old new run (record run { phase = phase.Committing a }) (turn.Stepped x)) (sym is)
+    write_order : (k : StepKind) (r : Revision) → old.work ≡ Writing r → WritesOn old.session r k steps.own new.work → is_appended_by moment old.session k (reverse steps.own) ≡ true → AreInStageOrder law old new run (record run { phase = phase.Committing a }) (turn.Stepped k)
+    write_order k r was (inl (is, mine, inl work)) told = subst (λ (x : StepKind). AreInStageOrder law old new run (record run { phase = phase.Committing a }) (turn.Stepped x)) (sym is)
         (ordered (phase.Committing a) kind.Write (Writing r) (Writing r) 1 (kind.Write ∷ kind.Mark ∷ []) was work refl refl (let le : 1 ≤ 1 = omega arith in le) (let le : 1 ≤ 1 = omega arith in le))
-    write_order k r was (inl (is, mine, inr work)) told = subst (λ (x : StepKind). IsInOrder law old new run (record run { phase = phase.Committing a }) (turn.Stepped x)) (sym is)
+    write_order k r was (inl (is, mine, inr work)) told = subst (λ (x : StepKind). AreInStageOrder law old new run (record run { phase = phase.Committing a }) (turn.Stepped x)) (sym is)
         (ordered (phase.Committing a) kind.Write (Writing r) (Undoing r commit.Memory) 1 (kind.Write ∷ kind.Mark ∷ []) was work refl refl (let le : 1 ≤ 1 = omega arith in le) (let le : 1 ≤ 3 = omega arith in le))
-    write_order k r was (inr (inl (is, mine, work))) told = subst (λ (x : StepKind). IsInOrder law old new run (record run { phase = phase.Committing a }) (turn.Stepped x)) (sym is)
+    write_order k r was (inr (inl (is, mine, work))) told = subst (λ (x : StepKind). AreInStageOrder law old new run (record run { phase = phase.Committing a }) (turn.Stepped x)) (sym is)
         (ordered (phase.Committing a) kind.Mark (Writing r) (Writing r) 1 (kind.Write ∷ kind.Mark ∷ []) was work refl refl (let le : 1 ≤ 1 = omega arith in le) (let le : 1 ≤ 1 = omega arith in le))
-    write_order k r was (inr (inr (inl (is, mine, work)))) told = subst (λ (x : StepKind). IsInOrder law old new run (record run { phase = phase.Committing a }) (turn.Stepped x)) (sym is)
+    write_order k r was (inr (inr (inl (is, mine, work)))) told = subst (λ (x : StepKind). AreInStageOrder law old new run (record run { phase = phase.Committing a }) (turn.Stepped x)) (sym is)
         (ordered (phase.Committing a) kind.Last (Writing r) (Deciding r) 2 (kind.Last ∷ []) was work refl refl (let le : 1 ≤ 2 = omega arith in le) (let le : 2 ≤ 4 = omega arith in le))
     write_order k r was (inr (inr (inr (item, o, mine, work)))) told =
         by (refusal_kind moment old.session k r o item (subst (λ (p : Past). is_appended_by moment old.session k (reverse p) ≡ true) mine told))
       where
-        by : (k ≡ kind.Mark) ⊎ (k ≡ kind.Last) → IsInOrder law old new run (record run { phase = phase.Committing a }) (turn.Stepped k)
-        by (inl is) = subst (λ (x : StepKind). IsInOrder law old new run (record run { phase = phase.Committing a }) (turn.Stepped x)) (sym is)
+        by : (k ≡ kind.Mark) ⊎ (k ≡ kind.Last) → AreInStageOrder law old new run (record run { phase = phase.Committing a }) (turn.Stepped k)
+        by (inl is) = subst (λ (x : StepKind). AreInStageOrder law old new run (record run { phase = phase.Committing a }) (turn.Stepped x)) (sym is)
             (ordered (phase.Committing a) kind.Mark (Writing r) (Undoing r (commit.Clash item o)) 1 (kind.Write ∷ kind.Mark ∷ []) was work refl refl (let le : 1 ≤ 1 = omega arith in le) (let le : 1 ≤ 3 = omega arith in le))
-        by (inr is) = subst (λ (x : StepKind). IsInOrder law old new run (record run { phase = phase.Committing a }) (turn.Stepped x)) (sym is)
+        by (inr is) = subst (λ (x : StepKind). AreInStageOrder law old new run (record run { phase = phase.Committing a }) (turn.Stepped x)) (sym is)
             (ordered (phase.Committing a) kind.Last (Writing r) (Undoing r (commit.Clash item o)) 2 (kind.Last ∷ []) was work refl refl (let le : 1 ≤ 2 = omega arith in le) (let le : 2 ≤ 3 = omega arith in le))
 
     -- what the command is run with, before the step
@@ -283,12 +283,12 @@ module _ (law : JcrLaw) (old new : Shown) (answer : StepOut) (run : SessionRun) 
     kind_undone past r e (commit.Committed q) same told = absurd (subst (λ (x : CommitEnd). IsToldEnd past r x) (sym same) told)
 
     -- the step, where it awaited what it needs, and writes where that is due
-    made_by : (work : Work) → old.work ≡ work → IsSeenFor moment work → (is_writing work ≡ false → is_by_due None steps.own ≡ true) → HasAwaited moment.past steps.own new.work → IsStep moment old new steps.own
+    made_by : (work : Work) → old.work ≡ work → IsSeenFor moment work → (is_revision_written work ≡ false → is_by_due None steps.own ≡ true) → HasAwaited moment.past steps.own new.work → IsStep moment old new steps.own
     made_by work at seen quiet ended = record {
       stays = inside_moment.stays;
       seen = subst (λ (w : Work). IsSeenFor moment w) (sym at) seen;
       as_due = steps.as_due;
-      quiet = λ still. quiet (ap is_writing (sym at) ∙ still);
+      quiet = λ still. quiet (ap is_revision_written (sym at) ∙ still);
       ended = ended;
     }
 
@@ -362,7 +362,7 @@ module _ (law : JcrLaw) (old new : Shown) (answer : StepOut) (run : SessionRun) 
     pub record IsRefusedStep (work : Work) : Type 0 where
       pub still_stands : Stands law new (record run { phase = phase.Committing a })
       pub none : steps.own ≡ []
-      pub undoing : is_writing new.work ≡ false
+      pub undoing : is_revision_written new.work ≡ false
       pub waitless : is_awaiting new.work ≡ false
       pub unawaited : is_awaiting work ≡ false
       pub further : stage_of work ≤ stage_of new.work
@@ -375,7 +375,7 @@ module _ (law : JcrLaw) (old new : Shown) (answer : StepOut) (run : SessionRun) 
               (subst (λ (e : Past). IsCommitting (e ++ moment.past) old.session (Undoing r commit.Memory)) (sym mine)
               (let x = still (Writing r) committing in (x.0, x.1, tt)))));
           none = mine;
-          undoing = ap is_writing work;
+          undoing = ap is_revision_written work;
           waitless = ap is_awaiting work;
           unawaited = refl;
           further = subst (λ (w : Work). 1 ≤ stage_of w) (sym work) (let le : 1 ≤ 3 = omega arith in le);

@@ -1,7 +1,7 @@
 // What a session answers once its commit has ended.
 ghost use Rattle.std.specs.Prelude.{◌≡◌, IfOk, IsFalse, string_bytes};
 ghost use Rattle.jr_tree.specs.Trees.{Nodes};
-ghost use Rattle.jr_items.specs.Refusals.{clash};
+ghost use Rattle.jr_items.specs.Refusals.{clash_refusal};
 ghost use Rattle.oak_commit.specs.declared.outcome.CommitEnd.TheVariants as commit;
 ghost use Rattle.oak_port.specs.Ports.{HasRoom};
 ghost use Rattle.jcr_trans.specs.Answers.{ShowsRevision};
@@ -13,7 +13,7 @@ ghost use Rattle.jcr_held.specs.Holds.{Holds};
 ghost use Rattle.jcr_run.specs.Asked.{MayAnswer};
 ghost use Rattle.jcr_session.specs.Begins.{HasClashed, SeesCommit};
 ghost use Rattle.jcr_run.specs.Nearing.{IsReply};
-ghost use Rattle.jcr_run.specs.Standing.{HasEnded, HasCounted, IsGranted, Stands};
+ghost use Rattle.jcr_run.specs.Standing.{HasCommitEnded, HasCounted, IsGranted, Stands};
 ghost use Rattle.jcr_steps.specs.declared.limits.TheConstants.{COMMIT_REPLY_BYTES};
 ghost use Rattle.jcr_run.specs.declared.run.Phase.TheVariants as phase;
 
@@ -33,7 +33,7 @@ use std::mem;
 // Answers a command whose commit has ended.
 pub(crate) fn say_end<P: Port<L = JcrLaw>>(run: &mut SessionRun, port: &mut P) -> Turn
     requires stands { Stands (P.law port.old) (P.shown port.old) run.old }
-    requires ended { HasEnded run.old.phase }
+    requires ended { HasCommitEnded run.old.phase }
     ensures law { P.law port.new ≡ P.law port.old }
     ensures turned { HasCounted (P.law port.old) (P.shown port.old) (P.shown port.new)
         run.old run.new result }
@@ -151,7 +151,7 @@ fn say_clash<P: Port<L = JcrLaw>>(
 
 // The reply of a commit that was refused for a clash.
 fn clash_reply(alloc: Global, item: &Item, other: Revision) -> Result<String, AllocError>
-    ensures { IfOk result (λ text. string_bytes text ≡ no_text (clash item.now other)) }
+    ensures { IfOk result (λ text. string_bytes text ≡ no_text (clash_refusal item.now other)) }
 {
     cause_text(alloc, &clash(alloc, item, other))
 }

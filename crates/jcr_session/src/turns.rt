@@ -3,7 +3,7 @@ ghost use Rattle.std.specs.Prelude.{◌≡◌, IsTrue, IsFalse};
 ghost use Rattle.jcr_run.specs.Nearing.{ComesNearer, DrawsNoOther, EndsSooner, IsReply, ReadsOn};
 ghost use Rattle.jcr_run.specs.Nearing.{StepsOn, WorksSooner, turns_left};
 ghost use Rattle.jcr_run.specs.Standing.{HasCounted, HasTurned, IsGranted, IsPrepared, Stands};
-ghost use Rattle.jcr_run.specs.Standing.{due_for, has_begun, has_moved, is_saving, may_read};
+ghost use Rattle.jcr_run.specs.Standing.{due_for, has_begun, base_has_moved, is_saving, may_read};
 ghost use Rattle.jcr_run.specs.declared.next.Due.TheVariants as due;
 ghost use Rattle.jcr_run.specs.declared.run.Phase.TheVariants as phase;
 
@@ -38,7 +38,7 @@ pub fn turn<P: Port<L = JcrLaw>>(run: &mut SessionRun, port: &mut P) -> Turn
     ensures turned { HasTurned (P.law port.old) (P.shown port.old) (P.shown port.new)
         run.old run.new result }
     ensures granted { IsTrue (is_saving run.old.phase) → IsGranted result }
-    ensures moved { IsTrue (has_moved run.old.phase) → IsGranted result }
+    ensures moved { IsTrue (base_has_moved run.old.phase) → IsGranted result }
     ensures begun { IsTrue (has_begun run.old.phase) → IsGranted result }
     ensures draws { IsTrue (is_saving run.old.phase)
         → DrawsNoOther (P.shown port.old) (P.shown port.new) }
@@ -67,7 +67,7 @@ fn counted<P: Port<L = JcrLaw>>(run: &mut SessionRun, port: &mut P) -> Turn
     ensures turned { HasCounted (P.law port.old) (P.shown port.old) (P.shown port.new)
         run.old run.new result }
     ensures granted { IsTrue (is_saving run.old.phase) → IsGranted result }
-    ensures moved { IsTrue (has_moved run.old.phase) → IsGranted result }
+    ensures moved { IsTrue (base_has_moved run.old.phase) → IsGranted result }
     ensures begun { IsTrue (has_begun run.old.phase) → IsGranted result }
     ensures draws { IsTrue (is_saving run.old.phase)
         → DrawsNoOther (P.shown port.old) (P.shown port.new) }

@@ -85,10 +85,10 @@ IsChangesAnswer out.Memory = ⊤
 IsChangesAnswer _ = ⊥
 
 -- what the answer tells of what changed
-abbrev pub changed_by : StepOut → Changed
-changed_by (out.Went k) = changed.Going
-changed_by (out.Ready (end.Changes commits)) = changed.Commits commits
-changed_by _ = changed.Refused
+abbrev pub changed_told : StepOut → Changed
+changed_told (out.Went k) = changed.Going
+changed_told (out.Ready (end.Changes commits)) = changed.Commits commits
+changed_told _ = changed.Refused
 
 -- ---- a commit
 

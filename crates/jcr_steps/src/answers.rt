@@ -2,7 +2,7 @@
 ghost use Rattle.std.specs.Prelude.{◌≡◌};
 ghost use Rattle.jcr_steps.specs.Answered.{IsAttachAnswer, IsChangesAnswer, IsFirstAnswer};
 ghost use Rattle.jcr_steps.specs.Answered.{IsLeaveAnswer, IsListAnswer, IsLoadAnswer, IsPinAnswer};
-ghost use Rattle.jcr_steps.specs.Answered.{attached_by, changed_by, ended_by, has_went};
+ghost use Rattle.jcr_steps.specs.Answered.{attached_by, changed_told, ended_by, has_went};
 ghost use Rattle.jcr_steps.specs.Answered.{kind_of_end, listed_by, loaded_by, pinned_by};
 
 use jr_path::{List, Name};
@@ -134,7 +134,7 @@ pub fn attach_came(answer: StepOut) -> Attached
 /// What a step of reading what changed came to.
 pub fn changes_came(answer: StepOut) -> Changed
     requires { IsChangesAnswer answer }
-    ensures { result ≡ changed_by answer }
+    ensures { result ≡ changed_told answer }
 {
     match answer {
         StepOut::Went(_) => Changed::Going,

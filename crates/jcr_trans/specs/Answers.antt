@@ -21,5 +21,5 @@ pub data Answer : Type 0 where
   Refused : (number : ℕ) → List Datum → Answer
 
 -- memory was refused
-abbrev pub out_of_memory : Answer
-out_of_memory = Refused 16 []
+abbrev pub memory_refused : Answer
+memory_refused = Refused 16 []

@@ -14,7 +14,7 @@ use Rattle.jr_value.specs.declared.value.Property.{Property}
 use Rattle.jr_rev.specs.Texts.{revision_text, vector_text}
 use Rattle.jr_tree.specs.declared.shared.Datum.{Datum}
 use Rattle.jr_tree.specs.declared.shared.Datum.TheVariants as datum
-use Rattle.jcr_trans.specs.Answers.{Answer, Done, ShowsProperty, ShowsNames, ShowsRevision, ShowsVector, ShowsNothing, ShowsProperties, ShowsText, ShowsItems, Refused, out_of_memory}
+use Rattle.jcr_trans.specs.Answers.{Answer, Done, ShowsProperty, ShowsNames, ShowsRevision, ShowsVector, ShowsNothing, ShowsProperties, ShowsText, ShowsItems, Refused, memory_refused}
 
 -- names, as texts
 abbrev pub name_items : List Name → Items
@@ -64,4 +64,4 @@ answer_text (Refused n ds) = codes "no " ++ decimal n ++ codes " " ++ compact_te
 
 -- the reply where memory was refused
 abbrev pub memory_text : List ℕ
-memory_text = answer_text out_of_memory
+memory_text = answer_text memory_refused

@@ -7,7 +7,7 @@ ghost use Rattle.serde_json.specs.View.{members_view, view};
 ghost use Rattle.serde_json.specs.Written.{compact_text, has_float};
 ghost use Rattle.jcr_trans.specs.Answers.{Done, ShowsProperty, ShowsNames, ShowsRevision, ShowsVector, ShowsNothing, ShowsProperties, ShowsText, ShowsItems, Refused};
 ghost use Rattle.jcr_trans.specs.Texts.{answer_text, datum_data, datum_items, item_texts, memory_text, name_items, ok_text, property_members};
-ghost use Rattle.jcr_trans.specs.Views.{over_limit, too_many_nodes, IsRefusal};
+ghost use Rattle.jcr_trans.specs.Views.{limit_passed, too_many_nodes, IsRefusal};
 ghost use Rattle.jr_path.specs.Ids.{path_text};
 ghost use Rattle.jr_path.specs.Names.{item_path};
 ghost use Rattle.jr_rev.specs.Digits.{IsHexDigit};
@@ -226,7 +226,7 @@ pub fn too_many_reply(alloc: Global) -> Result<String, AllocError>
 
 // A limit is passed.
 fn limit(alloc: Global, what: &str, most: u64) -> Result<Refusal, AllocError>
-    ensures { IfOk result (IsRefusal (over_limit what.now most)) }
+    ensures { IfOk result (IsRefusal (limit_passed what.now most)) }
 {
     let mut parts = List::new(alloc);
     parts.push(Datum::Text(Text::of(String::from_str(alloc, what)?)))?;

@@ -22,8 +22,8 @@ use Rattle.jr_items.specs.Refusals.{checked_in, no_item, or_else, refusal, when}
 use Rattle.jr_types.specs.declared.TypeDef.{TypeDef}
 use Rattle.jcr_lock.specs.Needed.{is_needed}
 use Rattle.jcr_ref.specs.Drawn.{latest_date, too_many_ids}
-use Rattle.jcr_ref.specs.Histories.{history_of, labels_of, number_at, number_by, reference_to, version_names}
-use Rattle.jcr_frozen.specs.Frozen.{aborting, frozen_tree, with_property}
+use Rattle.jcr_ref.specs.Histories.{version_history_of, labels_of, number_at, number_by, reference_to, version_names}
+use Rattle.jcr_frozen.specs.Frozen.{aborting, frozen_tree, with_optional_property}
 use Rattle.jcr_frozen.specs.Histories.{drawn_id, is_numbered, no_version, no_versions, predecessors_of, version_name}
 use Rattle.jcr_version.specs.Limits.{within_limits}
 
@@ -48,7 +48,7 @@ version_props id date =
 
 -- a new version with that identifier, which takes the node's predecessors
 abbrev pub new_version : Nodes → Path → (id : List ℕ) → (date : ℤ) → Node
-new_version t p id date = record { props = with_property (version_props id date) predecessors (property_at t p predecessors); born = None }
+new_version t p id date = record { props = with_optional_property (version_props id date) predecessors (property_at t p predecessors); born = None }
 
 -- the path of the version that a check-in makes
 abbrev pub next_version : Nodes → (history : Path) → Path
@@ -74,7 +74,7 @@ checked_in_writes p id =
 abbrev pub checkin_writes : List TypeDef → Nodes → Path → Who → List Write
 checkin_writes types t p who =
     let id = number_by who (who.ids + 1) in
-    adding (version_nodes types t p (next_version t (history_of t p)) (drawn_id who) (latest_date who.base))
+    adding (version_nodes types t p (next_version t (version_history_of t p)) (drawn_id who) (latest_date who.base))
     ++ (map (succeed t id) (predecessors_of t p) ++ checked_in_writes p id)
 
 -- the edit that checks in a node that is checked out
@@ -105,8 +105,8 @@ base_name t p h = option_and_then (λ k. find (λ n. is_numbered k t (child_path
 abbrev pub checked_in_version : Nodes → Path → Option Name
 checked_in_version t p =
     cond (is_checked_in t p)
-    (base_name t p (history_of t p))
-    (Some (version_name (length (version_names t (history_of t p)))))
+    (base_name t p (version_history_of t p))
+    (Some (version_name (length (version_names t (version_history_of t p)))))
 
 -- a check-out: the base version is the one predecessor
 abbrev pub checkout_writes : Nodes → Path → List Write
@@ -145,7 +145,7 @@ label_own t h version label take = or_else (label_refusal t h version label take
 
 -- the edit that gives a version of a node a label, and takes it from the version that had it
 abbrev pub label_edit : Nodes → Path → (version label : Name) → (take : Bool) → Result (List Write) Refusal
-label_edit t p version label take = unless_refused (no_versions (codes "label") t p) (label_own t (history_of t p) version label take)
+label_edit t p version label take = unless_refused (no_versions (codes "label") t p) (label_own t (version_history_of t p) version label take)
 
 -- no version has the label
 abbrev pub no_label : Nodes → (history : Path) → (label : Name) → Option Refusal
@@ -157,4 +157,4 @@ unlabel_own t h label = or_else (no_label t h label) (filter (is_needed t) (Unse
 
 -- the edit that takes a label of a node's versions away
 abbrev pub unlabel_edit : Nodes → Path → (label : Name) → Result (List Write) Refusal
-unlabel_edit t p label = unless_refused (no_versions (codes "unlabel") t p) (unlabel_own t (history_of t p) label)
+unlabel_edit t p label = unless_refused (no_versions (codes "unlabel") t p) (unlabel_own t (version_history_of t p) label)

@@ -16,11 +16,11 @@ ghost use Rattle.jr_items.specs.Own.{own_name};
 ghost use Rattle.jr_items.specs.Refusals.{IsOrMemory, IsTheRefusal, refusal};
 ghost use Rattle.jcr_lock.specs.Locks.{IsDue, IsDueRefusal};
 ghost use Rattle.jcr_lock.specs.Needed.{is_needed};
-ghost use Rattle.jcr_ref.specs.Histories.{history_of, number_by, version_names};
+ghost use Rattle.jcr_ref.specs.Histories.{version_history_of, number_by, version_names};
 ghost use Rattle.jcr_version.specs.Edits.{aborted, base_name, checked_in_version, checked_in_writes, checkin_drawn, checkin_due, checkin_edit, checkin_own, checkin_refusal, checkin_writes, having_drawn, new_version, next_version, succeed, version_nodes, version_props};
 ghost use Rattle.jcr_version.specs.Limits.{within_limits};
 ghost use Rattle.jcr_ref.specs.Drawn.{latest_date, too_many_ids};
-ghost use Rattle.jcr_frozen.specs.Histories.{drawn_id, is_named, is_numbered, version_name};
+ghost use Rattle.jcr_frozen.specs.Histories.{drawn_id, is_referenced, is_numbered, version_name};
 
 use crate::limits::within_limits;
 use crate::writes::{needed, push_adding, push_property};
@@ -74,7 +74,7 @@ fn checkin_of(
     history: &Path,
     who: &mut Who,
 ) -> Result<Edit, Refusal>
-    requires { history.now ≡ history_of tree.now path.now }
+    requires { history.now ≡ version_history_of tree.now path.now }
     ensures ok { IfOk result (IsDue (checkin_own types.now tree.now path.now who.old)) }
     ensures err { IfErr result (IsDueRefusal (checkin_own types.now tree.now path.now who.old)) }
     ensures drawn { OnOk result (who.new ≡ having_drawn who.old (checkin_drawn tree.now path.now)) }
@@ -111,7 +111,7 @@ fn check_in(
     history: &Path,
     who: &mut Who,
 ) -> Result<Edit, Refusal>
-    requires { history.now ≡ history_of tree.now path.now }
+    requires { history.now ≡ version_history_of tree.now path.now }
     ensures ok { IfOk result (IsDue (checkin_due types.now tree.now path.now who.old)) }
     ensures err { IfErr result (IsDueRefusal (checkin_due types.now tree.now path.now who.old)) }
     ensures drawn { OnOk result (who.new ≡ having_drawn who.old 1) }
@@ -132,7 +132,7 @@ fn draw(
     history: &Path,
     who: &mut Who,
 ) -> Result<Edit, Refusal>
-    requires history { history.now ≡ history_of tree.now path.now }
+    requires history { history.now ≡ version_history_of tree.now path.now }
     requires more { who.old.ids < 16777215 }
     ensures ok { IfOk result (IsDue (within_limits (filter (is_needed tree.now) (checkin_writes types.now tree.now path.now who.old)))) }
     ensures err { IfErr result (IsDueRefusal (within_limits (filter (is_needed tree.now) (checkin_writes types.now tree.now path.now who.old)))) }
@@ -222,7 +222,7 @@ fn checkin_writes(
     history: &Path,
     who: &Who,
 ) -> Result<Edit, AllocError>
-    requires history { history.now ≡ history_of tree.now path.now }
+    requires history { history.now ≡ version_history_of tree.now path.now }
     requires more { who.now.ids < 16777215 }
     ensures { IfOk result (λ edit. edit.writes ≡ filter (is_needed tree.now) (checkin_writes types.now tree.now path.now who.now)) }
 {
@@ -240,7 +240,7 @@ fn push_checkin(
     history: &Path,
     who: &Who,
 ) -> Result<(), AllocError>
-    requires history { history.now ≡ history_of tree.now path.now }
+    requires history { history.now ≡ version_history_of tree.now path.now }
     requires more { who.now.ids < 16777215 }
     ensures { OnOk result (writes.new ≡ writes.old ++ checkin_writes types.now tree.now path.now who.now) }
 {
@@ -408,7 +408,7 @@ fn push_succeeding(
     versions: &[Path],
     id: u128,
 ) -> Result<(), AllocError>
-    ensures { OnOk result (writes.new ≡ writes.old ++ map (succeed tree.now id) (filter (is_named (many_references (property_at tree.now path.now predecessors)) tree.now) versions.now)) }
+    ensures { OnOk result (writes.new ≡ writes.old ++ map (succeed tree.now id) (filter (is_referenced (many_references (property_at tree.now path.now predecessors)) tree.now) versions.now)) }
 {
     let predecessors = OwnName::Predecessors.name(alloc)?;
     let references = references_in(alloc, tree.property(path, &predecessors))?;
@@ -423,7 +423,7 @@ fn push_successors(
     versions: &[Path],
     id: u128,
 ) -> Result<(), AllocError>
-    ensures { OnOk result (writes.new ≡ writes.old ++ map (succeed tree.now id) (filter (is_named references.now tree.now) versions.now)) }
+    ensures { OnOk result (writes.new ≡ writes.old ++ map (succeed tree.now id) (filter (is_referenced references.now tree.now) versions.now)) }
 {
     let uuid = OwnName::Uuid.name(alloc)?;
     for version in versions {
@@ -497,7 +497,7 @@ pub fn checked_in_version(
     path: &Path,
     history: &Path,
 ) -> Result<Option<Name>, AllocError>
-    requires { history.now ≡ history_of tree.now path.now }
+    requires { history.now ≡ version_history_of tree.now path.now }
     ensures { IfOk result (λ name. name ≡ checked_in_version tree.now path.now) }
 {
     if is_checked_in(alloc, tree, path)? {

@@ -3,7 +3,7 @@ ghost use Rattle.std.specs.Prelude.{◌≡◌, ◌++◌, ◌∷◌, [], IfOk, On
 ghost use Rattle.jr_tree.specs.declared.edit.Write.TheVariants.{Put};
 ghost use Rattle.jr_items.specs.Items.{adding};
 ghost use Rattle.jr_items.specs.Own.{own_name};
-ghost use Rattle.jcr_lock.specs.Needed.{has_property, is_needed};
+ghost use Rattle.jcr_lock.specs.Needed.{has_this_property, is_needed};
 
 use jr_items::OwnName;
 use jr_path::{DeepCopy, List, Name, Path};
@@ -33,7 +33,7 @@ fn is_needed(tree: &Tree, write: &Write) -> bool
 
 // Whether the node has this property.
 fn is_there(tree: &Tree, path: &Path, name: &Name, property: &Property) -> bool
-    ensures { result ≡ has_property tree.now path.now name.now property.now }
+    ensures { result ≡ has_this_property tree.now path.now name.now property.now }
 {
     match tree.property(path, name) {
         Some(found) => property == found,

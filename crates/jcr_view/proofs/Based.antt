@@ -35,7 +35,7 @@ use Rattle.jcr_mixin.specs.Histories.{due_history, mixin_made}
 use Rattle.jcr_make.specs.Subtrees.{makes_histories, tree_made}
 use Rattle.jcr_make.proofs.Touched.{add_elsewhere, mixin_elsewhere, tree_elsewhere, type_elsewhere}
 use Rattle.jcr_view.specs.Needs.{children_needs, listing_needs, needs_of}
-use Rattle.jcr_view.specs.Outcomes.{Outcome, drawing_none, eval, made_outcome, outcome}
+use Rattle.jcr_view.specs.Outcomes.{CommandOutcome, drawing_none, eval, made_outcome, outcome}
 use Rattle.jcr_view.specs.Parts.{IsPartOf}
 use Rattle.jcr_view.proofs.Enough.{first_met, mixin_met, outcome_same, rest_met, tree_met}
 
@@ -191,4 +191,4 @@ module _ (t : Nodes) (k : Knowledge) (c : Changed) (part : IsPartOf t k c) where
       ≡ (eval types who t (view_of t c) command).view
   view_after types who command all =
       view_steps t k.nodes c (outcome types who (known_view k c) k.nodes command).steps part.tree.paths part.over (steps_based types who command all)
-      ∙ ap (λ (o : Outcome). stepped t (view_of t c) o.steps) (outcome_same types who t k c command part all)
+      ∙ ap (λ (o : CommandOutcome). stepped t (view_of t c) o.steps) (outcome_same types who t k c command part all)

@@ -28,7 +28,7 @@ use Rattle.jr_overlay.proofs.Children.{children_known}
 use Rattle.jr_overlay.proofs.Commits.{known_seen}
 use Rattle.jr_overlay.proofs.Views.{node_at-view}
 use Rattle.jr_types.specs.declared.TypeDef.{TypeDef}
-use Rattle.jcr_ref.specs.References.{by_id, referrers}
+use Rattle.jcr_ref.specs.References.{node_by_id, referrers}
 use Rattle.jcr_trans.specs.Answers.{Answer, ShowsItems, ShowsNames, ShowsProperties, ShowsProperty, ShowsText}
 use Rattle.jcr_trans.specs.declared.command.Command.{Command}
 use Rattle.jcr_trans.specs.declared.command.Command.TheVariants as command
@@ -78,7 +78,7 @@ list_same types u w p e f =
     ∙ ap (λ (names : ChildNames). answer_at w p (λ node. ShowsNames (ordered types node names))) f
 
 by_id_same : (u w : View) (id : List ℕ) → u.below [] ≡ w.below [] → by_id_answer u id ≡ by_id_answer w id
-by_id_same u w id e = ap (λ (t : Nodes). option_map_or (λ p. ShowsText (path_text p)) (by_id t id)
+by_id_same u w id e = ap (λ (t : Nodes). option_map_or (λ p. ShowsText (path_text p)) (node_by_id t id)
     (refused (no_identifier id))) e
 
 refs_same : (u w : View) (p : Path) → u.node p ≡ w.node p → u.below [] ≡ w.below []

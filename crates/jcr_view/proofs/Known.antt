@@ -15,7 +15,7 @@ use Rattle.jr_tree.proofs.Entries.{rising}
 use Rattle.jr_tree.proofs.Pointwise.{same_path}
 use Rattle.jr_part.specs.Parts.{ChildNames, Knowledge, list_at, nothing_known, with_children, with_node}
 use Rattle.jr_overlay.specs.Overlays.{known_view, whole_view}
-use Rattle.jcr_view.specs.Whole.{all_known, with_known}
+use Rattle.jcr_view.specs.Whole.{all_known, with_node_known}
 
 module _ (t : Nodes) where
   -- ---- nodes
@@ -27,14 +27,14 @@ module _ (t : Nodes) where
   one_node k e (Some q) = refl
 
   nodes_known : (k : Knowledge) (es : Nodes) → is_sorted path_cmp (k.nodes ++ es) ≡ true
-      → (fold (with_known t) k es).nodes ≡ k.nodes ++ es
+      → (fold (with_node_known t) k es).nodes ≡ k.nodes ++ es
   nodes_known k [] s = sym (append-nil k.nodes)
   nodes_known k (e ∷ es) s =
-      let one : (with_known t k e).nodes ≡ k.nodes ++ e ∷ [] = one_node k e (parent_of e.0)
+      let one : (with_node_known t k e).nodes ≡ k.nodes ++ e ∷ [] = one_node k e (parent_of e.0)
       ∙ insert_entry_last path_cmp path_total k.nodes e.0 e.1 es (rising path_cmp _ s) in
-      let whole : (with_known t k e).nodes ++ es ≡ k.nodes ++ e ∷ es =
+      let whole : (with_node_known t k e).nodes ++ es ≡ k.nodes ++ e ∷ es =
       ap (λ (u : Nodes). u ++ es) one ∙ append_assoc k.nodes (e ∷ []) es in
-      nodes_known (with_known t k e) es (ap (is_sorted path_cmp) whole ∙ s) ∙ whole
+      nodes_known (with_node_known t k e) es (ap (is_sorted path_cmp) whole ∙ s) ∙ whole
 
   -- ---- children
 
@@ -67,19 +67,19 @@ module _ (t : Nodes) where
         ap (λ b. cons_option (cond b (option_map (λ n. (n, e.1.born)) (last_name e.0)) None) (dated_children_of es p)) is ∙ none,
       )
 
-  listed : (k : Knowledge) (es : Nodes) (p : Path) → Listed k (fold (with_known t) k es) es p
+  listed : (k : Knowledge) (es : Nodes) (p : Path) → Listed k (fold (with_node_known t) k es) es p
   listed k [] p = inr (refl, refl)
-  listed k (e ∷ es) p = by (listed (with_known t k e) es p)
+  listed k (e ∷ es) p = by (listed (with_node_known t k e) es p)
     where
-      last : (list_at (fold (with_known t) k (e ∷ es)) p ≡ list_at (with_known t k e) p)
-          → (list_at (with_known t k e) p ≡ Some (dated_children_of t p))
-          ⊎ ((list_at (with_known t k e) p ≡ list_at k p) × (dated_children_of (e ∷ es) p ≡ []))
-          → Listed k (fold (with_known t) k (e ∷ es)) (e ∷ es) p
+      last : (list_at (fold (with_node_known t) k (e ∷ es)) p ≡ list_at (with_node_known t k e) p)
+          → (list_at (with_node_known t k e) p ≡ Some (dated_children_of t p))
+          ⊎ ((list_at (with_node_known t k e) p ≡ list_at k p) × (dated_children_of (e ∷ es) p ≡ []))
+          → Listed k (fold (with_node_known t) k (e ∷ es)) (e ∷ es) p
       last same (inl is) = inl (same ∙ is)
       last same (inr is) = inr (same ∙ is.0, is.1)
 
-      by : Listed (with_known t k e) (fold (with_known t) k (e ∷ es)) es p
-          → Listed k (fold (with_known t) k (e ∷ es)) (e ∷ es) p
+      by : Listed (with_node_known t k e) (fold (with_node_known t) k (e ∷ es)) es p
+          → Listed k (fold (with_node_known t) k (e ∷ es)) (e ∷ es) p
       by (inl is) = inl is
       by (inr is) = last is.0 (one_listed k e es p (parent_of e.0) is.1)
 
@@ -103,5 +103,5 @@ module _ (t : Nodes) where
 
 -- none is left
 pub known_whole : (t : Nodes) (k : Knowledge) (rest : Nodes) → rest ≡ []
-    → fold (with_known t) k rest ≡ all_known t → k ≡ all_known t
-known_whole t k rest none is = sym (ap (fold (with_known t) k) none) ∙ is
+    → fold (with_node_known t) k rest ≡ all_known t → k ≡ all_known t
+known_whole t k rest none is = sym (ap (fold (with_node_known t) k) none) ∙ is

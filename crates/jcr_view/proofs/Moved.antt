@@ -21,7 +21,7 @@ use Rattle.jcr_fill.specs.Makings.{Making, making}
 use Rattle.jcr_trans.specs.Answers.{Answer, Done}
 use Rattle.jcr_trans.specs.Texts.{answer_text}
 use Rattle.jcr_trans.specs.declared.command.Command.{Command}
-use Rattle.jcr_view.specs.Outcomes.{Evaluated, eval, evaluated, is_writing, made_outcome, shown_outcome, written}
+use Rattle.jcr_view.specs.Outcomes.{Evaluated, eval, evaluated, is_writing, made_outcome, shown_outcome, written_outcome}
 use Rattle.jcr_read.specs.Reading.{Replies, refused, shown}
 use Rattle.jcr_view.specs.Rebases.{moved_view, rebased, steps_again}
 
@@ -43,14 +43,14 @@ moved_by old new view moved k ws c sorted nodes seen writes made is =
 
 module _ (types : List TypeDef) (who : Who) (base view : Nodes) (command : Command) where
   writing : is_writing command ≡ true → eval types who base view command
-      ≡ evaluated base view (made_outcome who.ids (written types who (whole_view view) command (making [] who.ids)))
+      ≡ evaluated base view (made_outcome who.ids (written_outcome types who (whole_view view) command (making [] who.ids)))
   writing writes = ap (λ (b : Bool). evaluated base view (cond b
-      (made_outcome who.ids (written types who (whole_view view) command (making [] who.ids)))
+      (made_outcome who.ids (written_outcome types who (whole_view view) command (making [] who.ids)))
       (shown_outcome who.ids (shown types (whole_view view) base command)))) writes
 
   -- what a writing command made counts
   pub write_made : (steps : Steps) (ids : _) → is_writing command ≡ true
-      → written types who (whole_view view) command (making [] who.ids) ≡ Ok (making steps ids)
+      → written_outcome types who (whole_view view) command (making [] who.ids) ≡ Ok (making steps ids)
       → eval types who base view command
       ≡ record { answer = Done; view = stepped base view steps; ids = ids }
   write_made steps ids writes is =
@@ -58,7 +58,7 @@ module _ (types : List TypeDef) (who : Who) (base view : Nodes) (command : Comma
 
   -- of one that is refused nothing does
   pub write_refused : (r : Refusal) → is_writing command ≡ true
-      → written types who (whole_view view) command (making [] who.ids) ≡ Err r
+      → written_outcome types who (whole_view view) command (making [] who.ids) ≡ Err r
       → eval types who base view command ≡ record { answer = refused r; view = view; ids = who.ids }
   write_refused r writes is =
       writing writes ∙ ap (λ (m : Result Making Refusal). evaluated base view (made_outcome who.ids m)) is
@@ -67,7 +67,7 @@ module _ (types : List TypeDef) (who : Who) (base view : Nodes) (command : Comma
   pub read_shown : is_writing command ≡ false → eval types who base view command
       ≡ record { answer = shown types (whole_view view) base command; view = view; ids = who.ids }
   read_shown reads = ap (λ (b : Bool). evaluated base view (cond b
-      (made_outcome who.ids (written types who (whole_view view) command (making [] who.ids)))
+      (made_outcome who.ids (written_outcome types who (whole_view view) command (making [] who.ids)))
       (shown_outcome who.ids (shown types (whole_view view) base command)))) reads
 
   pub read_text : (result : Result (String Global) Refusal) → is_writing command ≡ false

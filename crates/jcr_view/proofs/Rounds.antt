@@ -14,10 +14,10 @@ use Rattle.jr_path.proofs.Maps.{lookup-insert_entry, path_total}
 use Rattle.jr_tree.specs.declared.tree.Node.{Node}
 use Rattle.jr_tree.specs.Trees.{Nodes, dated_children_of, node_at}
 use Rattle.jr_tree.proofs.Pointwise.{same_path}
-use Rattle.jr_part.specs.Parts.{Asks, AsksBelow, ChildNames, IsFirstLacking, Knowledge, is_absent, knows, with_children, with_node}
+use Rattle.jr_part.specs.Parts.{AsksOf, AsksBelow, ChildNames, IsFirstLacking, Knowledge, is_absent, knows, with_children, with_node}
 use Rattle.jr_part.specs.declared.need.Need.{Need}
 use Rattle.jr_part.specs.declared.need.Need.TheVariants as need
-use Rattle.jcr_view.specs.Rounds.{AreLoads, answered, is_of_one_node}
+use Rattle.jcr_view.specs.Rounds.{AreLoads, need_answered, is_of_one_node}
 
 -- ---- what lacks is one node or the children of one
 
@@ -27,7 +27,7 @@ one_below k p (need.Children q) a = refl
 one_below k p (need.Subtree q) a = absurd a
 one_below k p need.All a = absurd a
 
-one_asked : (k : Knowledge) (wanted asked : Need) → Asks k wanted asked → is_of_one_node asked ≡ true
+one_asked : (k : Knowledge) (wanted asked : Need) → AsksOf k wanted asked → is_of_one_node asked ≡ true
 one_asked k (need.Node p) asked a = ap is_of_one_node a
 one_asked k (need.Children p) asked a = ap is_of_one_node a
 one_asked k (need.Subtree p) asked a = one_below k p asked a
@@ -119,13 +119,13 @@ module _ (k : Knowledge) (p : Path) where
 -- ---- rounds one after another
 
 module _ (t : Nodes) where
-  pub answer_known : (k : Knowledge) (load : Need) → is_of_one_node load ≡ true → knows (answered t k load) load ≡ true
+  pub answer_known : (k : Knowledge) (load : Need) → is_of_one_node load ≡ true → knows (need_answered t k load) load ≡ true
   answer_known k (need.Node p) one = node_known k p (node_at t p)
   answer_known k (need.Children p) one = children_known k p (dated_children_of t p)
   answer_known k (need.Subtree p) one = absurd (false≢true one)
   answer_known k need.All one = absurd (false≢true one)
 
-  pub answer_keeps : (k : Knowledge) (load other : Need) → knows k other ≡ true → knows (answered t k load) other ≡ true
+  pub answer_keeps : (k : Knowledge) (load other : Need) → knows k other ≡ true → knows (need_answered t k load) other ≡ true
   answer_keeps k (need.Node p) other h = node_keeps k p (node_at t p) other h
   answer_keeps k (need.Children p) other h = children_keep k p (dated_children_of t p) other h
   answer_keeps k (need.Subtree p) other h = h
@@ -139,12 +139,12 @@ module _ (t : Nodes) where
       let lacked = one_lacks k rounds.0 load rounds.1 in
       All-cons (λ load. known ≢ load) load loads
       (λ same. false≢true (sym lacked.1 ∙ (ap (knows k) (sym same) ∙ h)))
-      (never_again (answered t k load) known loads (answer_keeps k load known h) rounds.2)
+      (never_again (need_answered t k load) known loads (answer_keeps k load known h) rounds.2)
 
   pub loaded_once : (k : Knowledge) (loads : List Need) → AreLoads t k loads → AllPairs (λ a b. a ≢ b) loads
   loaded_once k [] rounds = λ i j d before within. absurd (omega arith)
   loaded_once k (load ∷ loads) rounds =
       let lacked = one_lacks k rounds.0 load rounds.1 in
       AllPairs-cons (λ a b. a ≢ b) load loads
-      (never_again (answered t k load) load loads (answer_known k load lacked.0) rounds.2)
-      (loaded_once (answered t k load) loads rounds.2)
+      (never_again (need_answered t k load) load loads (answer_known k load lacked.0) rounds.2)
+      (loaded_once (need_answered t k load) loads rounds.2)

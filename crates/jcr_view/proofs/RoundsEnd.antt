@@ -16,7 +16,7 @@ use Rattle.jr_tree.proofs.Entries.{first, second}
 use Rattle.jr_tree.proofs.Pointwise.{same_path}
 use Rattle.jr_items.specs.Items.{same_name}
 use Rattle.jr_items.specs.Names.{version_storage, versionable}
-use Rattle.jr_part.specs.Parts.{AgreesWith, Asks, AsksBelow, ChildNames, IsFirstLacking, Knowledge, has_name, known_at, knows, leads_down, list_at}
+use Rattle.jr_part.specs.Parts.{AgreesWith, AsksOf, AsksBelow, ChildNames, IsFirstLacking, Knowledge, has_name, known_at, knows, leads_down, list_at}
 use Rattle.jr_part.specs.declared.need.Need.{Need}
 use Rattle.jr_part.specs.declared.need.Need.TheVariants as need
 use Rattle.jr_part.proofs.Puts.{children_agree, node_agrees}
@@ -30,7 +30,7 @@ use Rattle.jcr_write.specs.Places.{above}
 use Rattle.jcr_mixin.specs.Histories.{due_history}
 use Rattle.jcr_make.specs.Subtrees.{makes_histories}
 use Rattle.jcr_view.specs.Needs.{children_needs, history_needs, listing_needs, needs_of, storage_needs, versionable_needs}
-use Rattle.jcr_view.specs.Rounds.{AreLoadsOf, answered, loadable, nodes_at, one_path, paths_named, unknown_of}
+use Rattle.jcr_view.specs.Rounds.{AreLoadsOf, need_answered, loadable, nodes_at, one_path, paths_named, unknown_of}
 use Rattle.jcr_view.proofs.Rounds.{answer_keeps, answer_known, one_lacks}
 
 -- ---- one of a list
@@ -161,7 +161,7 @@ module _ (t : Nodes) (k : Knowledge) (agrees : AgreesWith t k) where
     IsNamed (need.Subtree p) = In ps p
     IsNamed need.All = In ps []
 
-    pub asked_in : (wanted asked : Need) → IsNamed wanted → Asks k wanted asked → In (loadable ps t) asked
+    pub asked_in : (wanted asked : Need) → IsNamed wanted → AsksOf k wanted asked → In (loadable ps t) asked
     asked_in (need.Node p) asked named a = subst (λ (x : Need). In (loadable ps t) x) (sym a) (named_in ps t p named)
     asked_in (need.Children p) asked named a = subst (λ (x : Need). In (loadable ps t) x) (sym a) (there_in ps t p (known_is p named)).1
     asked_in (need.Subtree p) asked named a = below_in p asked named a
@@ -297,7 +297,7 @@ module _ (who : Who) (t : Nodes) (c : Changed) where
 
 -- ---- rounds one after another
 
-answer_agrees : (t : Nodes) (k : Knowledge) (load : Need) → AgreesWith t k → AgreesWith t (answered t k load)
+answer_agrees : (t : Nodes) (k : Knowledge) (load : Need) → AgreesWith t k → AgreesWith t (need_answered t k load)
 answer_agrees t k (need.Node p) agrees = node_agrees t k p agrees (node_at t p) refl
 answer_agrees t k (need.Children p) agrees = children_agree t k p agrees
 answer_agrees t k (need.Subtree p) agrees = agrees
@@ -311,9 +311,9 @@ module _ (who : Who) (t : Nodes) (c : Changed) (over : AreOver t c) (command : C
       let lacked = one_lacks k rounds.0 load rounds.2 in
       let held = All-contains (IsHeld t k agrees (paths_named who (seen t c) command)) (needs_of who k c command) rounds.0
       (all_held who t c k agrees over command) rounds.1 load rounds.2 in
-      let less = fewer k (answered t k load) (λ x known. answer_keeps t k load x known) (loadable (paths_named who (seen t c) command) t) load held
+      let less = fewer k (need_answered t k load) (λ x known. answer_keeps t k load x known) (loadable (paths_named who (seen t c) command) t) load held
       lacked.1 (answer_known t k load lacked.0) in
-      let rest = each_is_fewer (answered t k load) loads (answer_agrees t k load agrees) rounds.3 in
+      let rest = each_is_fewer (need_answered t k load) loads (answer_agrees t k load agrees) rounds.3 in
       omega arith
 
   pub few_loads : (k : Knowledge) (loads : List Need) → AgreesWith t k → AreLoadsOf (λ known. needs_of who known c command) t k loads

@@ -11,7 +11,7 @@ use Rattle.jr_overlay.specs.Overlays.{View}
 use Rattle.jr_types.specs.declared.TypeDef.{TypeDef}
 use Rattle.jcr_trans.specs.declared.command.Command.{Command}
 use Rattle.jcr_fill.specs.Makings.{making}
-use Rattle.jcr_view.specs.Outcomes.{is_writing, made_outcome, outcome, shown_outcome, written}
+use Rattle.jcr_view.specs.Outcomes.{is_writing, made_outcome, outcome, shown_outcome, written_outcome}
 use Rattle.jcr_read.specs.Reading.{Replies, refused, shown}
 
 pub shown_refused : (types : List TypeDef) (who : Who) (view : View) (base : Nodes) (command : Command)
@@ -20,5 +20,5 @@ pub shown_refused : (types : List TypeDef) (who : Who) (view : View) (base : Nod
     → IfErr result (λ r. ¬ (r ≡ out_of_memory) → (outcome types who view base command).answer ≡ refused r)
 shown_refused types who view base command (Ok text) reads is = tt
 shown_refused types who view base command (Err r) reads is = λ m.
-    ap (λ (b : Bool). (cond b (made_outcome who.ids (written types who view command (making [] who.ids)))
+    ap (λ (b : Bool). (cond b (made_outcome who.ids (written_outcome types who view command (making [] who.ids)))
     (shown_outcome who.ids (shown types view base command))).answer) reads ∙ is m

@@ -14,7 +14,7 @@ use Rattle.jr_tree.specs.Trees.{IsTree, Nodes, node_at}
 use Rattle.jr_tree.proofs.Entries.{both}
 use Rattle.jr_items.specs.Items.{same_name}
 use Rattle.jr_items.specs.Names.{version_storage, versionable}
-use Rattle.jr_part.specs.Parts.{AgreesWith, Asks, ChildNames, IsFirstLacking, IsReached, Knowledge, LacksNothing, has_name, known_at, knows, leads_down, list_at}
+use Rattle.jr_part.specs.Parts.{AgreesWith, AsksOf, ChildNames, IsFirstLacking, IsReached, Knowledge, LacksNothing, has_name, known_at, knows, leads_down, list_at}
 use Rattle.jr_part.specs.declared.need.Need.{Need}
 use Rattle.jr_part.specs.declared.need.Need.TheVariants as need
 use Rattle.jr_part.proofs.Above.{above as node_above}
@@ -66,7 +66,7 @@ module _ (t : Nodes) (tree : IsTree t) (k : Knowledge) (agrees : AgreesWith t k)
   IsHad (need.Subtree p) = ⊤
   IsHad need.All = ⊤
 
-  children_there : (wanted : Need) (p : Path) → IsHad wanted → Asks k wanted (need.Children p) → There k p
+  children_there : (wanted : Need) (p : Path) → IsHad wanted → AsksOf k wanted (need.Children p) → There k p
   children_there (need.Node q) p had a = cc
   children_there (need.Children q) p had a = subst IsHad (sym a) had
   children_there (need.Subtree q) p had a = a.1
@@ -76,7 +76,7 @@ module _ (t : Nodes) (tree : IsTree t) (k : Knowledge) (agrees : AgreesWith t k)
     reached : (p : Path) → is_some (node_at t p) ≡ true → IsReached k [] p
     reached p is = record { names = p; path = refl; down = leads p [] nothing is }
 
-    of_none : (wanted lacking : Need) → IsHad wanted → Asks k wanted lacking → knows k lacking ≡ false → IsOfNone t lacking
+    of_none : (wanted lacking : Need) → IsHad wanted → AsksOf k wanted lacking → knows k lacking ≡ false → IsOfNone t lacking
     of_none wanted (need.Node p) had a unknown = by (node_at t p) refl
       where
         by : (o : Option Node) → node_at t p ≡ o → node_at t p ≡ None

@@ -18,7 +18,7 @@ use Rattle.jcr_make.specs.Subtrees.{tree_made}
 use Rattle.jcr_read.specs.Reading.{refused, shown}
 
 -- what a command answers, what it makes of a view, and the identifiers drawn then
-pub record Outcome : Type 0 where
+pub record CommandOutcome : Type 0 where
   pub answer : Answer
   pub steps : Steps
   pub ids : ℕ
@@ -60,36 +60,36 @@ drawing_none ids (Ok steps) = Ok (making steps ids)
 drawing_none ids (Err r) = Err r
 
 -- what a writing command makes of a view, on what was made before
-abbrev pub written : List TypeDef → Who → View → Command → Making → Result Making Refusal
-written types who view (command.Add p type) m = add_made types who view p type m
-written types who view (command.Tree p nodes) m = tree_made types who view p nodes m
-written types who view (command.Set p n x) m =
+abbrev pub written_outcome : List TypeDef → Who → View → Command → Making → Result Making Refusal
+written_outcome types who view (command.Add p type) m = add_made types who view p type m
+written_outcome types who view (command.Tree p nodes) m = tree_made types who view p nodes m
+written_outcome types who view (command.Set p n x) m =
     drawing_none m.ids (set_made types view m.steps p n x)
-written types who view (command.Unset p n) m =
+written_outcome types who view (command.Unset p n) m =
     drawing_none m.ids (unset_made types view m.steps p n)
-written types who view (command.Remove p) m = drawing_none m.ids (remove_made types view m.steps p)
-written types who view (command.Move p q) m = drawing_none m.ids (move_made view m.steps p q)
-written types who view (command.Mixin p n) m = mixin_made types who view p n m
-written types who view (command.Unmixin p n) m =
+written_outcome types who view (command.Remove p) m = drawing_none m.ids (remove_made types view m.steps p)
+written_outcome types who view (command.Move p q) m = drawing_none m.ids (move_made view m.steps p q)
+written_outcome types who view (command.Mixin p n) m = mixin_made types who view p n m
+written_outcome types who view (command.Unmixin p n) m =
     drawing_none m.ids (unmixin_made types view p n m.steps)
-written types who view (command.SetType p n) m = type_made types who view p n m
-written types who view (command.OrderBefore p before) m =
+written_outcome types who view (command.SetType p n) m = type_made types who view p n m
+written_outcome types who view (command.OrderBefore p before) m =
     drawing_none m.ids (order_made types view m.steps p before)
-written types who view _ m = Ok m
+written_outcome types who view _ m = Ok m
 
 -- what is made counts; of a command that is refused nothing does
-abbrev pub made_outcome : (ids : ℕ) → Result Making Refusal → Outcome
+abbrev pub made_outcome : (ids : ℕ) → Result Making Refusal → CommandOutcome
 made_outcome ids (Ok m) = record { answer = Done; steps = m.steps; ids = m.ids }
 made_outcome ids (Err r) = record { answer = refused r; steps = []; ids = ids }
 
 -- a command that only shows something
-abbrev pub shown_outcome : (ids : ℕ) → Answer → Outcome
+abbrev pub shown_outcome : (ids : ℕ) → Answer → CommandOutcome
 shown_outcome ids a = record { answer = a; steps = []; ids = ids }
 
 -- what a command of a view comes to
-abbrev pub outcome : List TypeDef → Who → View → (base : Nodes) → Command → Outcome
+abbrev pub outcome : List TypeDef → Who → View → (base : Nodes) → Command → CommandOutcome
 outcome types who view base command = cond (is_writing command)
-    (made_outcome who.ids (written types who view command (making [] who.ids)))
+    (made_outcome who.ids (written_outcome types who view command (making [] who.ids)))
     (shown_outcome who.ids (shown types view base command))
 
 -- what a command answers, the view after it, and the identifiers drawn then
@@ -99,7 +99,7 @@ pub record Evaluated : Type 0 where
   pub ids : ℕ
 
 -- an outcome over a view of a tree
-abbrev pub evaluated : (base view : Nodes) → Outcome → Evaluated
+abbrev pub evaluated : (base view : Nodes) → CommandOutcome → Evaluated
 evaluated base view o =
     record { answer = o.answer; view = stepped base view o.steps; ids = o.ids }
 

@@ -13,10 +13,10 @@ ghost use Rattle.jr_tree.specs.Trees.{born_of, dated_children_of, node_at};
 ghost use Rattle.jcr_fill.specs.Makings.{making};
 ghost use Rattle.jcr_trans.specs.Answers.{Done};
 ghost use Rattle.jcr_trans.specs.Texts.{answer_text};
-ghost use Rattle.jcr_view.specs.Outcomes.{eval, is_viewed, is_writing, written};
+ghost use Rattle.jcr_view.specs.Outcomes.{eval, is_viewed, is_writing, written_outcome};
 ghost use Rattle.jcr_read.specs.Reading.{Replies, refused, shown};
 ghost use Rattle.jcr_view.specs.Rebases.{moved_view};
-ghost use Rattle.jcr_view.specs.Whole.{all_known, with_known};
+ghost use Rattle.jcr_view.specs.Whole.{all_known, with_node_known};
 ghost use Rattle.jcr_write.specs.Places.{IsDueRefusal};
 
 use crate::commands::is_writing;
@@ -114,9 +114,9 @@ fn make_of(
     command: &Command,
 ) -> Result<Made, Refusal>
     requires { is_writing command.now ≡ true }
-    ensures ok { IfOk result (λ made. written types.now who.now (whole_view view.now)
+    ensures ok { IfOk result (λ made. written_outcome types.now who.now (whole_view view.now)
         command.now (making [] who.now.ids) ≡ Ok (making made.steps made.ids)) }
-    ensures err { IfErr result (IsDueRefusal (written types.now who.now
+    ensures err { IfErr result (IsDueRefusal (written_outcome types.now who.now
         (whole_view view.now) command.now (making [] who.now.ids))) }
 {
     match all_known(alloc, view) {
@@ -295,7 +295,7 @@ fn put_known(
     path: &Path,
     node: &Node,
 ) -> Result<(), AllocError>
-    ensures { OnOk result (part.new ≡ with_known tree.now part.old (path.now, node.now)) }
+    ensures { OnOk result (part.new ≡ with_node_known tree.now part.old (path.now, node.now)) }
 {
     part.put_node(path, Some(node.copy()?))?;
     match path.parent()? {

@@ -2,7 +2,7 @@
 ghost use Rattle.std.specs.Prelude.{◌≡◌, [], true, Ok, IfErr, IfOk, OnOk};
 ghost use Rattle.jr_overlay.specs.Overlays.{known_view, sighted};
 ghost use Rattle.jcr_fill.specs.Makings.{making};
-ghost use Rattle.jcr_view.specs.Outcomes.{is_writing, written};
+ghost use Rattle.jcr_view.specs.Outcomes.{is_writing, written_outcome};
 ghost use Rattle.jcr_write.specs.Places.{IsDueRefusal};
 ghost use Rattle.jcr_write.specs.Writes.{order_made, set_made};
 
@@ -35,9 +35,9 @@ pub(crate) fn make(
     command: &Command,
 ) -> Result<Made, Refusal>
     requires { is_writing command.now ≡ true }
-    ensures ok { IfOk result (λ made. written types.now who.now (known_view part.now overlay.now)
+    ensures ok { IfOk result (λ made. written_outcome types.now who.now (known_view part.now overlay.now)
         command.now (making [] who.now.ids) ≡ Ok (making made.steps made.ids)) }
-    ensures err { IfErr result (IsDueRefusal (written types.now who.now
+    ensures err { IfErr result (IsDueRefusal (written_outcome types.now who.now
         (known_view part.now overlay.now) command.now (making [] who.now.ids))) }
 {
     let mut ids = who.ids;
@@ -63,9 +63,9 @@ fn write(
 ) -> Result<(), Refusal>
     requires writing { is_writing command.now ≡ true }
     requires first { draft.old.steps ≡ [] }
-    ensures ok { OnOk result (written types.now who.now (sighted draft.old.sight) command.now
+    ensures ok { OnOk result (written_outcome types.now who.now (sighted draft.old.sight) command.now
         (making draft.old.steps ids.old) ≡ Ok (making draft.new.steps ids.new)) }
-    ensures err { IfErr result (IsDueRefusal (written types.now who.now
+    ensures err { IfErr result (IsDueRefusal (written_outcome types.now who.now
         (sighted draft.old.sight) command.now (making draft.old.steps ids.old))) }
 {
     match command {

@@ -13,7 +13,7 @@ use Rattle.jr_items.proofs.FirstRefusal.{first_some-append}
 use Rattle.jr_items.specs.Items.{first_some}
 use Rattle.jr_items.specs.Refusals.{IsOrMemory, IsTheRefusal, out_of_memory, when}
 use Rattle.jr_overlay.specs.Drafts.{Steps, drafted, with_step}
-use Rattle.jcr_write.specs.Places.{IsDueRefusal, at_place, of_node, path_refusal, place_of, putting, unless_refused}
+use Rattle.jcr_write.specs.Places.{IsDueRefusal, at_place, of_node, path_refusal, node_placed, putting, unless_refused}
 
 -- the first of several comes
 pub first_here : (a : Option Refusal) (rest : List (Option Refusal)) (r : Refusal)
@@ -163,26 +163,26 @@ unfound (Some s) n p r then h =
     ap (λ (x : Result Node Refusal). elim x [ Ok y ↦ then y | Err e ↦ Err e ]) h
 
 pub at_place_is : {A : Type 0} (view : View) (steps : Steps) (p : Path) (node : Node)
-    (then : Node → Result A Refusal) → place_of view steps p ≡ Ok node
+    (then : Node → Result A Refusal) → node_placed view steps p ≡ Ok node
     → at_place view steps p then ≡ then node
 at_place_is view steps p node then h = found (path_refusal p) (drafted view steps p) p node then h
 
 pub found_ok : {A : Type 0} (result : Result A Refusal) (view : View) (steps : Steps) (p : Path)
-    (node : Node) (then : Node → Result A Refusal) → place_of view steps p ≡ Ok node
+    (node : Node) (then : Node → Result A Refusal) → node_placed view steps p ≡ Ok node
     → IfOk result (λ x. then node ≡ Ok x) → IfOk result (λ x. at_place view steps p then ≡ Ok x)
 found_ok (Ok x) view steps p node then h is =
     found (path_refusal p) (drafted view steps p) p node then h ∙ is
 found_ok (Err r) view steps p node then h is = is
 
 pub found_err : {A : Type 0} (result : Result A Refusal) (view : View) (steps : Steps) (p : Path)
-    (node : Node) (then : Node → Result A Refusal) → place_of view steps p ≡ Ok node
+    (node : Node) (then : Node → Result A Refusal) → node_placed view steps p ≡ Ok node
     → IfErr result (IsDueRefusal (then node)) → IfErr result (IsDueRefusal (at_place view steps p then))
 found_err (Ok x) view steps p node then h is = is
 found_err (Err r) view steps p node then h is =
     λ m. found (path_refusal p) (drafted view steps p) p node then h ∙ is m
 
 pub place_err : {A : Type 0} (view : View) (steps : Steps) (p : Path) (r : Refusal)
-    (then : Node → Result A Refusal) → IsDueRefusal (place_of view steps p) r
+    (then : Node → Result A Refusal) → IsDueRefusal (node_placed view steps p) r
     → IsDueRefusal (at_place view steps p then) r
 place_err view steps p r then is m =
     unfound (path_refusal p) (drafted view steps p) p r then (is m)

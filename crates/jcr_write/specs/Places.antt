@@ -59,8 +59,8 @@ at_place view steps p then =
     unless_refused (path_refusal p) (of_node p (drafted view steps p) then)
 
 -- the node at a place
-abbrev pub place_of : View → Steps → Path → Result Node Refusal
-place_of view steps p = at_place view steps p Ok
+abbrev pub node_placed : View → Steps → Path → Result Node Refusal
+node_placed view steps p = at_place view steps p Ok
 
 -- the steps with a node put at p, where it was made
 abbrev pub putting : Steps → Path → Result Node Refusal → Result Steps Refusal

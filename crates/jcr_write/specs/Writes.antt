@@ -21,7 +21,7 @@ use Rattle.jr_types.specs.declared.TypeDef.{TypeDef}
 use Rattle.jr_part.specs.Parts.{ChildNames}
 use Rattle.jr_overlay.specs.Drafts.{Steps, drafted}
 use Rattle.jr_overlay.specs.Overlays.{View}
-pub use Rattle.jr_overlay.specs.Views.{all_gone, all_moved, moved_path, with_moved}
+pub use Rattle.jr_overlay.specs.Views.{all_gone, all_moved, moved_path, with_node_moved}
 use Rattle.jr_order.specs.Order.{listing, moved_before, ordered}
 use Rattle.jcr_write.specs.Places.{above, at_place, types_of_node, path_refusal, putting, unless_refused, with_property, without_property}
 

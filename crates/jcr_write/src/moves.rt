@@ -11,7 +11,7 @@ ghost use Rattle.jr_overlay.specs.Drafts.{in_draft};
 ghost use Rattle.jr_overlay.specs.Overlays.{sighted};
 ghost use Rattle.jcr_write.specs.Places.{IsDueRefusal, above, types_of_node};
 ghost use Rattle.jcr_write.specs.Writes.{absent, ends_refusal, is_kept_below, is_root, kept_refusal, move_made, move_refusal, moved_limit, remove_made, remove_refusal, stand_refusal};
-ghost use Rattle.jr_overlay.specs.Views.{all_gone, all_moved, moved_path, with_moved};
+ghost use Rattle.jr_overlay.specs.Views.{all_gone, all_moved, moved_path, with_node_moved};
 
 use crate::places::{above, check_path, or_memory};
 use jr_items::{check_limits, check_not_system, no_item, own_item_rule, own_rule, taken};
@@ -484,7 +484,7 @@ fn put_moved(
 ) -> Result<(), AllocError>
     ensures sight { draft.new.sight ≡ draft.old.sight }
     ensures ok { OnOk result (draft.new.steps
-        ≡ with_moved from.now to.now draft.old.steps (at.now, node.now)) }
+        ≡ with_node_moved from.now to.now draft.old.steps (at.now, node.now)) }
 {
     draft.put(at, None)?;
     let place = moved_path(from, to, at)?;

@@ -4,7 +4,7 @@ ghost use Rattle.std.specs.Option.{option_copied};
 ghost use Rattle.jr_overlay.specs.Drafts.{with_step};
 ghost use Rattle.jr_overlay.specs.Overlays.{sighted};
 ghost use Rattle.jr_items.specs.Refusals.{IsOrMemory, IsTheRefusal, no_item, out_of_memory};
-ghost use Rattle.jcr_write.specs.Places.{IsDueRefusal, above, of_node, path_refusal, place_of, with_property, without_property};
+ghost use Rattle.jcr_write.specs.Places.{IsDueRefusal, above, of_node, path_refusal, node_placed, with_property, without_property};
 
 use jr_items::{check_limits, check_not_system, no_item};
 use jr_overlay::Draft;
@@ -21,10 +21,10 @@ pub fn check_place<'a>(
     draft: &'a Draft<'_>,
     path: &Path,
 ) -> Result<&'a Node, Refusal>
-    ensures ok { IfOk result (λ node. place_of (sighted draft.now.sight) draft.now.steps path.now
+    ensures ok { IfOk result (λ node. node_placed (sighted draft.now.sight) draft.now.steps path.now
         ≡ Ok node.now) }
     ensures err { IfErr result (IsDueRefusal
-        (place_of (sighted draft.now.sight) draft.now.steps path.now)) }
+        (node_placed (sighted draft.now.sight) draft.now.steps path.now)) }
 {
     match check_path(alloc, path) {
         Ok(()) => node_or_refusal(alloc, draft.node(path), path),

@@ -12,7 +12,7 @@ use Rattle.jr_value.specs.declared.value.Value.{Value}
 use Rattle.jr_args.specs.declared.fault.Fault.{Fault}
 use Rattle.jr_args.specs.declared.fault.Fault.TheVariants as fault
 use Rattle.jr_args.specs.Outcomes.{Answers}
-use Rattle.jr_args.specs.Values.{name_of, path_of, property_of, refused, value_of}
+use Rattle.jr_args.specs.Values.{name_of, path_of, property_read, refused, value_of}
 
 pub no_name : (text : List ℕ) (e : PathFault) → RefusesName text e → Answers (name_of text) (Err (refused e))
 no_name text (BadName offset) h = (refl, refl, λ n g. (one_fault IsName).none text offset h g.0)
@@ -29,7 +29,7 @@ no_path text (TooLong bytes) h = absurd h
 no_path text Memory h = tt
 
 -- what is no property is no value
-pub no_value : (d : Data) (e : Fault) (r : Result Value Fault) → IsErrAnd r (λ f. f ≡ e) → Answers (property_of d) (Err e) → Answers (value_of d) r
+pub no_value : (d : Data) (e : Fault) (r : Result Value Fault) → IsErrAnd r (λ f. f ≡ e) → Answers (property_read d) (Err e) → Answers (value_of d) r
 no_value d e (Ok x) h g = absurd h
 no_value d (fault.Bad rule steps) (Err f) h g = rw h (g.0, g.1, λ x i. g.2 (Single x) i)
 no_value d fault.Memory (Err f) h g = rw h tt

@@ -9,10 +9,10 @@ use Rattle.jr_path.specs.Paths.{IsPath}
 use Rattle.jr_path.specs.declared.name.Name.{Name}
 use Rattle.jr_path.specs.declared.path.Path.{Path}
 use Rattle.jr_args.specs.Outcomes.{Outcome, Means, Breaks, HasOneOutcome, Reading, Then, guard, is, judged, onward, under}
-use Rattle.jr_args.specs.Commands.{argument, call_of, called_of, command_of, listed_of, name_at, name_if_any, name_if_any_at, named_of, path_at}
-use Rattle.jr_args.specs.Trees.{below_of, children_of, chosen, entry_of, items_in, list_of, map_of, members_in, mixin_of, mixins_of, node_of, nodes_of, optional_of, props_of, some_name_of, text_in, tree_of, type_of, variables_of}
-use Rattle.jr_args.specs.Values.{name_of, path_of, property_of, value_of}
-use Rattle.jr_args.specs.Words.{fits, kinds_of, word_named}
+use Rattle.jr_args.specs.Commands.{argument, command_named, called_of, command_of, command_listed, name_argument, name_if_any, name_if_any_at, named_of, path_at}
+use Rattle.jr_args.specs.Trees.{below_of, children_of, chosen_reading, entry_of, items_in, list_of, map_of, members_in, mixin_of, mixins_of, node_of, nodes_of, optional_of, properties_read, some_name_of, json_text_in, tree_of, type_of, variables_of}
+use Rattle.jr_args.specs.Values.{name_of, path_of, property_read, value_of}
+use Rattle.jr_args.specs.Words.{fit_kinds, kinds_of, word_named}
 use Rattle.jr_args.specs.declared.fault.Step.{Step}
 use Rattle.jr_args.specs.declared.fault.Step.TheVariants.{Key, Index}
 use Rattle.jr_args.specs.declared.word.Word.{Word}
@@ -69,7 +69,7 @@ one_name text = one_judged _ 6 (λ n m h g. h.1 ∙ sym g.1)
 one_path_of : (text : List ℕ) → HasOneOutcome (path_of text)
 one_path_of text = one_judged (IsPath text) 6 (λ p q h g. one_path p q (names_from_all p h.are_names) (names_from_all q g.are_names) (sym h.spelled ∙ g.spelled))
 
-one_property_of : (d : Data) → HasOneOutcome (property_of d)
+one_property_of : (d : Data) → HasOneOutcome (property_read d)
 one_property_of d = one_judged _ 7 (property_one d)
 
 abbrev single : Value → Property → Value
@@ -100,10 +100,10 @@ one_optional key none M each None = one_is (Means none)
 one_optional key none M each (Some d) = one_under (Key key) (M d) (each d)
 
 one_mixins : (d : Data) → HasOneOutcome (mixins_of d)
-one_mixins d = one_list mixin_of (λ e. one_name (text_in e)) 0 (items_in d)
+one_mixins d = one_list mixin_of (λ e. one_name (json_text_in e)) 0 (items_in d)
 
-one_props : (d : Data) → HasOneOutcome (props_of d)
-one_props d = one_map property_of one_property_of [] (members_in d)
+one_props : (d : Data) → HasOneOutcome (properties_read d)
+one_props d = one_map property_read one_property_of [] (members_in d)
 
 one_variables : (d : Data) → HasOneOutcome (variables_of d)
 one_variables d = one_map value_of one_value_of [] (members_in d)
@@ -112,11 +112,11 @@ one_variables d = one_map value_of one_value_of [] (members_in d)
 
 one_node : (path : Path) (d : Data) → HasOneOutcome (node_of path d)
 one_node path d =
-    one_then _ _ (one_optional (codes "type") None type_of (λ e. one_some_name (text_in e)) (get (codes "type") d)) (λ type.
+    one_then _ _ (one_optional (codes "type") None type_of (λ e. one_some_name (json_text_in e)) (get (codes "type") d)) (λ type.
     one_then _ _ (one_optional (codes "mixins") [] mixins_of one_mixins (get (codes "mixins") d)) (λ mixins.
-    one_then _ _ (one_optional (codes "props") [] props_of one_props (get (codes "props") d)) (λ props. one_is _)))
+    one_then _ _ (one_optional (codes "props") [] properties_read one_props (get (codes "props") d)) (λ props. one_is _)))
 
-one_chosen : {X : Type 0} (b : Bool) (M N : Reading X) → HasOneOutcome M → HasOneOutcome N → HasOneOutcome (chosen b M N)
+one_chosen : {X : Type 0} (b : Bool) (M N : Reading X) → HasOneOutcome M → HasOneOutcome N → HasOneOutcome (chosen_reading b M N)
 one_chosen true M N m n = m
 one_chosen false M N m n = n
 
@@ -152,7 +152,7 @@ mutual
 one_path_at : (i : ℕ) (ds : Items) → HasOneOutcome (path_at i ds)
 one_path_at i ds = one_under (Index (i + 1)) _ (one_path_of _)
 
-one_name_at : (i : ℕ) (ds : Items) → HasOneOutcome (name_at i ds)
+one_name_at : (i : ℕ) (ds : Items) → HasOneOutcome (name_argument i ds)
 one_name_at i ds = one_under (Index (i + 1)) _ (one_name _)
 
 one_if_any : (t : Option (List ℕ)) → HasOneOutcome (name_if_any t)
@@ -162,7 +162,7 @@ one_if_any (Some text) = one_some_name text
 one_if_any_at : (i : ℕ) (ds : Items) → HasOneOutcome (name_if_any_at i ds)
 one_if_any_at i ds = one_under (Index (i + 1)) _ (one_if_any _)
 
-one_call : (w : Word) (ds : Items) → HasOneOutcome (call_of w ds)
+one_call : (w : Word) (ds : Items) → HasOneOutcome (command_named w ds)
 one_call (word.Bare w) ds = one_is _
 one_call (word.OnPath w) ds = one_then _ _ (one_path_at 0 ds) (λ path. one_is _)
 one_call (word.OnText w) ds = one_is _
@@ -182,13 +182,13 @@ one_call word.OrderBefore ds = one_then _ _ (one_path_at 0 ds) (λ path. one_the
 
 one_named : (w : Option Word) (ds : Items) → HasOneOutcome (named_of w ds)
 one_named None ds = one_is (Breaks 5 [])
-one_named (Some w) ds = one_then _ _ (one_guard (fits (kinds_of w) ds) 5) (λ u. one_call w ds)
+one_named (Some w) ds = one_then _ _ (one_guard (fit_kinds (kinds_of w) ds) 5) (λ u. one_call w ds)
 
 one_called : (t : Option (List ℕ)) (ds : Items) → HasOneOutcome (called_of t ds)
 one_called None ds = one_is (Breaks 5 [])
 one_called (Some text) ds = one_named (word_named text) ds
 
-one_listed : (ds : Items) → HasOneOutcome (listed_of ds)
+one_listed : (ds : Items) → HasOneOutcome (command_listed ds)
 one_listed no_items = one_is (Breaks 5 [])
 one_listed (item d ds) = one_called (as_str d) ds
 

@@ -10,9 +10,9 @@ use Rattle.jcr_trans.specs.declared.command.Command.{Command}
 use Rattle.jcr_trans.specs.declared.command.Command.TheVariants as command
 use Rattle.jcr_trans.specs.declared.command.TreeNode.{TreeNode}
 use Rattle.jr_args.specs.Outcomes.{Means, Breaks, Reading, guard, is, Then, under}
-use Rattle.jr_args.specs.Trees.{some_name_of, text_in, tree_of, variables_of}
-use Rattle.jr_args.specs.Values.{name_of, path_of, property_of}
-use Rattle.jr_args.specs.Words.{fits, kinds_of, mask_of, word_named}
+use Rattle.jr_args.specs.Trees.{some_name_of, json_text_in, tree_of, variables_of}
+use Rattle.jr_args.specs.Values.{name_of, path_of, property_read}
+use Rattle.jr_args.specs.Words.{fit_kinds, kinds_of, mask_of, word_named}
 use Rattle.jr_args.specs.declared.fault.Step.TheVariants.{Index}
 use Rattle.jr_args.specs.declared.word.Word.{Word}
 use Rattle.jr_args.specs.declared.word.Word.TheVariants as word
@@ -34,16 +34,16 @@ abbrev pub argument : ℕ → Items → Data
 argument i ds = unwrap_or (get_item i ds) null
 
 -- the text of the argument at an index, empty where that is no text
-abbrev pub text_at : ℕ → Items → List ℕ
-text_at i ds = text_in (argument i ds)
+abbrev pub text_argument : ℕ → Items → List ℕ
+text_argument i ds = json_text_in (argument i ds)
 
 -- the boolean of the argument at an index, false where that is none
 abbrev pub truth_at : ℕ → Items → Bool
 truth_at i ds = unwrap_or (as_bool (argument i ds)) false
 
 -- a whole number from 0 to 2^64 - 1, if it is one
-abbrev pub number_at : ℕ → Items → Option ℕ
-number_at i ds = option_and_then as_u64 (as_number (argument i ds))
+abbrev pub number_argument : ℕ → Items → Option ℕ
+number_argument i ds = option_and_then as_u64 (as_number (argument i ds))
 
 -- the event mask of the argument at an index, 0 where that is none
 abbrev pub mask_at : ℕ → Items → ℕ
@@ -51,15 +51,15 @@ mask_at i ds = unwrap_or (mask_of (argument i ds)) 0
 
 -- the path that the argument at an index means; a broken rule is found at that argument
 abbrev pub path_at : ℕ → Items → Reading Path
-path_at i ds = under (Index (i + 1)) (path_of (text_at i ds))
+path_at i ds = under (Index (i + 1)) (path_of (text_argument i ds))
 
 -- the name that the argument at an index means; a broken rule is found at that argument
-abbrev pub name_at : ℕ → Items → Reading Name
-name_at i ds = under (Index (i + 1)) (name_of (text_at i ds))
+abbrev pub name_argument : ℕ → Items → Reading Name
+name_argument i ds = under (Index (i + 1)) (name_of (text_argument i ds))
 
 -- the property that the argument at an index means; a broken rule is found at that argument
-abbrev pub property_at : ℕ → Items → Reading Property
-property_at i ds = under (Index (i + 1)) (property_of (argument i ds))
+abbrev pub property_argument : ℕ → Items → Reading Property
+property_argument i ds = under (Index (i + 1)) (property_read (argument i ds))
 
 -- of a text, if there is one
 abbrev pub name_if_any : Option (List ℕ) → Reading (Option Name)
@@ -72,8 +72,8 @@ abbrev pub name_if_any_at : ℕ → Items → Reading (Option Name)
 name_if_any_at i ds = under (Index (i + 1)) (name_if_any (as_str (argument i ds)))
 
 -- the nodes of the tree that the argument at an index describes, from its topmost node on
-abbrev pub tree_at : ℕ → Items → Reading (List TreeNode)
-tree_at i ds = under (Index (i + 1)) (tree_of [] (argument i ds))
+abbrev pub tree_argument : ℕ → Items → Reading (List TreeNode)
+tree_argument i ds = under (Index (i + 1)) (tree_of [] (argument i ds))
 
 -- the query's variables, with their values, that the argument at an index gives
 abbrev pub variables_at : ℕ → Items → Reading (List (Name × Value))
@@ -129,29 +129,29 @@ node_command on_node.Stop number = command.Stop number
 node_command on_node.Recover number = command.Recover number
 
 -- the command of this name with arguments that fit; they are read in order
-abbrev pub call_of : Word → Items → Reading Command
-call_of (word.Bare w) ds = is (Means (bare_command w))
-call_of (word.OnPath w) ds = Then (path_at 0 ds) (λ path. is (Means (path_command w path)))
-call_of (word.OnText w) ds = is (Means (text_command w (text_at 0 ds)))
-call_of (word.OnName w) ds = Then (path_at 0 ds) (λ path. Then (name_at 1 ds) (λ name. is (Means (name_command w path name))))
-call_of (word.OnNode w) ds = is (Means (node_command w (number_at 0 ds)))
-call_of word.Add ds = Then (path_at 0 ds) (λ path. Then (name_if_any_at 1 ds) (λ type. is (Means (command.Add path type))))
-call_of word.Tree ds = Then (path_at 0 ds) (λ path. Then (tree_at 1 ds) (λ nodes. is (Means (command.Tree path nodes))))
-call_of word.Set ds = Then (path_at 0 ds) (λ path. Then (name_at 1 ds) (λ name. Then (property_at 2 ds) (λ x. is (Means (command.Set path name x)))))
-call_of word.Move ds = Then (path_at 0 ds) (λ path. Then (path_at 1 ds) (λ target. is (Means (command.Move path target))))
-call_of word.Refresh ds = is (Means (command.Refresh (truth_at 0 ds)))
-call_of word.Lock ds = Then (path_at 0 ds) (λ path. is (Means (command.Lock path (truth_at 1 ds))))
-call_of word.Restore ds = Then (path_at 0 ds) (λ path. is (Means (command.Restore path (text_at 1 ds))))
-call_of word.Label ds = Then (path_at 0 ds) (λ path. Then (name_at 2 ds) (λ label. is (Means (command.Label path (text_at 1 ds) label (truth_at 3 ds)))))
-call_of word.Observe ds = Then (path_at 0 ds) (λ path. is (Means (command.Observe path (truth_at 1 ds) (mask_at 2 ds))))
-call_of word.Query ds = Then (variables_at 1 ds) (λ variables. is (Means (command.Query (text_at 0 ds) variables)))
-call_of word.OrderBefore ds = Then (path_at 0 ds) (λ path. Then (name_if_any_at 1 ds) (λ name. is (Means (command.OrderBefore path name))))
+abbrev pub command_named : Word → Items → Reading Command
+command_named (word.Bare w) ds = is (Means (bare_command w))
+command_named (word.OnPath w) ds = Then (path_at 0 ds) (λ path. is (Means (path_command w path)))
+command_named (word.OnText w) ds = is (Means (text_command w (text_argument 0 ds)))
+command_named (word.OnName w) ds = Then (path_at 0 ds) (λ path. Then (name_argument 1 ds) (λ name. is (Means (name_command w path name))))
+command_named (word.OnNode w) ds = is (Means (node_command w (number_argument 0 ds)))
+command_named word.Add ds = Then (path_at 0 ds) (λ path. Then (name_if_any_at 1 ds) (λ type. is (Means (command.Add path type))))
+command_named word.Tree ds = Then (path_at 0 ds) (λ path. Then (tree_argument 1 ds) (λ nodes. is (Means (command.Tree path nodes))))
+command_named word.Set ds = Then (path_at 0 ds) (λ path. Then (name_argument 1 ds) (λ name. Then (property_argument 2 ds) (λ x. is (Means (command.Set path name x)))))
+command_named word.Move ds = Then (path_at 0 ds) (λ path. Then (path_at 1 ds) (λ target. is (Means (command.Move path target))))
+command_named word.Refresh ds = is (Means (command.Refresh (truth_at 0 ds)))
+command_named word.Lock ds = Then (path_at 0 ds) (λ path. is (Means (command.Lock path (truth_at 1 ds))))
+command_named word.Restore ds = Then (path_at 0 ds) (λ path. is (Means (command.Restore path (text_argument 1 ds))))
+command_named word.Label ds = Then (path_at 0 ds) (λ path. Then (name_argument 2 ds) (λ label. is (Means (command.Label path (text_argument 1 ds) label (truth_at 3 ds)))))
+command_named word.Observe ds = Then (path_at 0 ds) (λ path. is (Means (command.Observe path (truth_at 1 ds) (mask_at 2 ds))))
+command_named word.Query ds = Then (variables_at 1 ds) (λ variables. is (Means (command.Query (text_argument 0 ds) variables)))
+command_named word.OrderBefore ds = Then (path_at 0 ds) (λ path. Then (name_if_any_at 1 ds) (λ name. is (Means (command.OrderBefore path name))))
 
 -- A command is a list that begins with the name of one, with as many arguments as it has, each of its JSON kind; else
 -- rule 5 is broken.
 abbrev pub named_of : Option Word → Items → Reading Command
 named_of None ds = is (Breaks 5 [])
-named_of (Some w) ds = Then (guard (fits (kinds_of w) ds) 5) (λ _. call_of w ds)
+named_of (Some w) ds = Then (guard (fit_kinds (kinds_of w) ds) 5) (λ _. command_named w ds)
 
 -- a command by what its list begins with; where that is no text, rule 5 is broken
 abbrev pub called_of : Option (List ℕ) → Items → Reading Command
@@ -159,11 +159,11 @@ called_of None ds = is (Breaks 5 [])
 called_of (Some text) ds = named_of (word_named text) ds
 
 -- a command as a list of its name and its arguments; an empty list breaks rule 5
-abbrev pub listed_of : Items → Reading Command
-listed_of no_items = is (Breaks 5 [])
-listed_of (item d ds) = called_of (as_str d) ds
+abbrev pub command_listed : Items → Reading Command
+command_listed no_items = is (Breaks 5 [])
+command_listed (item d ds) = called_of (as_str d) ds
 
 -- a command as a JSON value; one that is no list breaks rule 5
 abbrev pub command_of : Data → Reading Command
-command_of (array ds) = listed_of ds
+command_of (array ds) = command_listed ds
 command_of _ = is (Breaks 5 [])

@@ -7,16 +7,16 @@ use Rattle.jr_args.specs.declared.fault.Step.{Step}
 use Rattle.jr_args.specs.declared.fault.Step.TheVariants.{Key, Index}
 
 -- `~` (126) is written `~0`, and `/` (47) `~1`
-abbrev pub escaped : ℕ → List ℕ
-escaped byte = cond (byte == 126) (codes "~0") (cond (byte == 47) (codes "~1") (byte ∷ []))
+abbrev pub escaped_pointer : ℕ → List ℕ
+escaped_pointer byte = cond (byte == 126) (codes "~0") (cond (byte == 47) (codes "~1") (byte ∷ []))
 
 -- the same of a character in UTF-8
-abbrev pub escaped_character : ℕ → List ℕ
-escaped_character c = cond (c == 126) (codes "~0") (cond (c == 47) (codes "~1") (encode_utf8 c))
+abbrev pub pointer_character : ℕ → List ℕ
+pointer_character c = cond (c == 126) (codes "~0") (cond (c == 47) (codes "~1") (encode_utf8 c))
 
 -- a member by its key, and an item by its number in decimal digits
 abbrev pub step_text : Step → List ℕ
-step_text (Key key) = flat_map escaped key
+step_text (Key key) = flat_map escaped_pointer key
 step_text (Index index) = decimal index
 
 -- each step after a `/`

@@ -11,14 +11,14 @@ use Rattle.jr_value.specs.declared.value.Property.{Property}
 use Rattle.jr_value.specs.declared.value.Value.{Value}
 use Rattle.jcr_trans.specs.declared.command.TreeNode.{TreeNode}
 use Rattle.jr_args.specs.Outcomes.{Means, Reading, is, Then, under}
-use Rattle.jr_args.specs.Values.{name_of, property_of, value_of}
+use Rattle.jr_args.specs.Values.{name_of, property_read, value_of}
 use Rattle.jr_args.specs.declared.fault.Step.TheVariants.{Key, Index}
 
 -- ---- the JSON kinds
 
 -- the JSON value is a text
-abbrev pub is_text : Data → Bool
-is_text d = is_some (as_str d)
+abbrev pub is_json_text : Data → Bool
+is_json_text d = is_some (as_str d)
 
 -- the JSON value is an object
 abbrev pub is_object : Data → Bool
@@ -27,7 +27,7 @@ is_object d = is_some (as_object d)
 -- each item of a JSON list is a text
 abbrev pub are_texts : Items → Bool
 are_texts no_items = true
-are_texts (item d ds) = is_text d && are_texts ds
+are_texts (item d ds) = is_json_text d && are_texts ds
 
 -- the JSON value is a list of texts
 abbrev pub is_list_of_texts : Data → Bool
@@ -37,7 +37,7 @@ is_list_of_texts _ = false
 -- A node of a tree is an object with no other keys than these four: `type`, a text; `mixins`, a list of texts; `props`,
 -- an object; and `nodes`, an object of nodes.
 abbrev pub is_field : List ℕ → Data → Bool → Bool
-is_field key d are_nodes = cond (bytes_eq key (codes "type")) (is_text d)
+is_field key d are_nodes = cond (bytes_eq key (codes "type")) (is_json_text d)
     (cond (bytes_eq key (codes "mixins")) (is_list_of_texts d)
     (cond (bytes_eq key (codes "props")) (is_object d)
     (cond (bytes_eq key (codes "nodes")) are_nodes false)))
@@ -74,8 +74,8 @@ abbrev mutual
 -- ---- what they mean
 
 -- the text, the items and the members of a value of this JSON kind
-abbrev pub text_in : Data → List ℕ
-text_in d = unwrap_or (as_str d) []
+abbrev pub json_text_in : Data → List ℕ
+json_text_in d = unwrap_or (as_str d) []
 
 -- the items of a JSON list, none where the value is no list
 abbrev pub items_in : Data → Items
@@ -110,19 +110,19 @@ some_name_of text = Then (name_of text) (λ name. is (Means (Some name)))
 
 -- the primary type that a node of a tree names in its `type`
 abbrev pub type_of : Data → Reading (Option Name)
-type_of d = some_name_of (text_in d)
+type_of d = some_name_of (json_text_in d)
 
 -- one mixin type of a node of a tree, from its text
 abbrev pub mixin_of : Data → Reading Name
-mixin_of d = name_of (text_in d)
+mixin_of d = name_of (json_text_in d)
 
 -- the mixin types of a node of a tree, from the list of their texts
 abbrev pub mixins_of : Data → Reading (List Name)
 mixins_of d = list_of mixin_of 0 (items_in d)
 
 -- the properties of a node of a tree, each at its name, from an object
-abbrev pub props_of : Data → Reading (List (Name × Property))
-props_of d = map_of property_of [] (members_in d)
+abbrev pub properties_read : Data → Reading (List (Name × Property))
+properties_read d = map_of property_read [] (members_in d)
 
 -- the variables of a query, each name with its value, from an object
 abbrev pub variables_of : Data → Reading (List (Name × Value))
@@ -133,13 +133,13 @@ abbrev pub node_of : Path → Data → Reading TreeNode
 node_of path d =
     Then (optional_of (codes "type") None type_of (get (codes "type") d)) (λ type.
     Then (optional_of (codes "mixins") [] mixins_of (get (codes "mixins") d)) (λ mixins.
-    Then (optional_of (codes "props") [] props_of (get (codes "props") d)) (λ props.
+    Then (optional_of (codes "props") [] properties_read (get (codes "props") d)) (λ props.
     is (Means (record { path = path; node_type = type; mixins = mixins; props = props })))))
 
 -- the first reading where the condition holds, else the second
-abbrev pub chosen : {X : Type 0} → Bool → Reading X → Reading X → Reading X
-chosen true M N = M
-chosen false M N = N
+abbrev pub chosen_reading : {X : Type 0} → Bool → Reading X → Reading X → Reading X
+chosen_reading true M N = M
+chosen_reading false M N = N
 
 -- a node and all below: in path order, as its own node comes first and then its children by key, each with all below
 abbrev mutual
@@ -154,7 +154,7 @@ abbrev mutual
   -- all nodes below the node at a path, which its member `nodes` describes; none without one
   pub nodes_of : Path → Members → Reading (List TreeNode)
   nodes_of path no_members = is (Means [])
-  nodes_of path (member key d ms) = chosen (bytes_eq key (codes "nodes")) (under (Key key) (below_of path d)) (nodes_of path ms)
+  nodes_of path (member key d ms) = chosen_reading (bytes_eq key (codes "nodes")) (under (Key key) (below_of path d)) (nodes_of path ms)
 
   -- all nodes below the node at a path, from the value of its member `nodes`
   pub below_of : Path → Data → Reading (List TreeNode)

@@ -31,8 +31,8 @@ refused (path_fault.TooDeep depth) = fault.Bad 6 []
 refused (path_fault.TooLong bytes) = fault.Bad 6 []
 
 -- the value or values of a property, else rule 7
-abbrev pub property_of : Data → Reading Property
-property_of d = judged (IsPropertyJson d) 7
+abbrev pub property_read : Data → Reading Property
+property_read d = judged (IsPropertyJson d) 7
 
 -- one value, else rule 7
 abbrev pub value_of : Data → Reading Value

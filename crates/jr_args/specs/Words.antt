@@ -3,7 +3,7 @@ use Rattle.std.specs.Prelude.{ℕ, Bool, true, false, ◌&&◌, ◌||◌, List, 
 use Rattle.std.specs.Str.{bytes_eq}
 use Rattle.serde_json.specs.Data.{Data, Items, no_items, item}
 use Rattle.serde_json.specs.Find.{as_bool, as_null, as_number, as_u64}
-use Rattle.jr_args.specs.Trees.{is_object, is_text, is_tree}
+use Rattle.jr_args.specs.Trees.{is_object, is_json_text, is_tree}
 use Rattle.jr_args.specs.declared.word.Word.{Word}
 use Rattle.jr_args.specs.declared.word.Word.TheVariants as word
 use Rattle.jr_args.specs.declared.word.Bare.TheVariants as bare
@@ -106,11 +106,11 @@ mask_of d = option_and_then (λ n. if nat_le n 127 then Some n else None) (optio
 
 -- the JSON kind that an argument needs
 abbrev pub has_kind : Kind → Data → Bool
-has_kind kind.Path d = is_text d
-has_kind kind.Name d = is_text d
-has_kind kind.OptionalName d = is_text d
-has_kind kind.NameOrNull d = is_text d || is_some (as_null d)
-has_kind kind.Text d = is_text d
+has_kind kind.Path d = is_json_text d
+has_kind kind.Name d = is_json_text d
+has_kind kind.OptionalName d = is_json_text d
+has_kind kind.NameOrNull d = is_json_text d || is_some (as_null d)
+has_kind kind.Text d = is_json_text d
 has_kind kind.Truth d = is_some (as_bool d)
 has_kind kind.Number d = is_number d
 has_kind kind.Mask d = is_some (mask_of d)
@@ -125,8 +125,8 @@ is_optional kind.OptionalVariables = true
 is_optional k = false
 
 -- as many arguments as there are kinds, each of its kind; optional ones may be left out at the end
-abbrev pub fits : List Kind → Items → Bool
-fits [] no_items = true
-fits [] (item d ds) = false
-fits (k ∷ ks) no_items = is_optional k && fits ks no_items
-fits (k ∷ ks) (item d ds) = has_kind k d && fits ks ds
+abbrev pub fit_kinds : List Kind → Items → Bool
+fit_kinds [] no_items = true
+fit_kinds [] (item d ds) = false
+fit_kinds (k ∷ ks) no_items = is_optional k && fit_kinds ks no_items
+fit_kinds (k ∷ ks) (item d ds) = has_kind k d && fit_kinds ks ds

@@ -4,7 +4,7 @@ ghost use Rattle.std.specs.Option.{option_map_or};
 ghost use Rattle.serde_json.specs.Data.{null};
 ghost use Rattle.serde_json.specs.Find.{as_str};
 ghost use Rattle.serde_json.specs.View.{view, items_view};
-ghost use Rattle.jr_args.specs.Commands.{argument, mask_at, name_at, name_if_any, name_if_any_at, number_at, path_at, property_at, text_at, tree_at, truth_at, variables_at};
+ghost use Rattle.jr_args.specs.Commands.{argument, mask_at, name_argument, name_if_any, name_if_any_at, number_argument, path_at, property_argument, text_argument, tree_argument, truth_at, variables_at};
 ghost use Rattle.jr_args.specs.Outcomes.{Answers};
 
 use crate::fault::Fault;
@@ -23,7 +23,7 @@ fn argument(arguments: &[Json], index: usize) -> Option<&Json>
 }
 
 pub fn text_at(arguments: &[Json], index: usize) -> &str
-    ensures { result.now ≡ text_at index (items_view arguments.now) }
+    ensures { result.now ≡ text_argument index (items_view arguments.now) }
 {
     match argument(arguments, index) {
         Some(json) => tree::text_in(json),
@@ -42,7 +42,7 @@ pub fn truth_at(arguments: &[Json], index: usize) -> bool
 
 // A whole number of 64 bits, if it is one.
 pub fn number_at(arguments: &[Json], index: usize) -> Option<u64>
-    ensures { result ≡ number_at index (items_view arguments.now) }
+    ensures { result ≡ number_argument index (items_view arguments.now) }
 {
     match argument(arguments, index) {
         Some(json) => json.as_u64(),
@@ -71,7 +71,7 @@ pub fn path_at(alloc: Global, arguments: &[Json], index: usize) -> Result<Path, 
 
 pub fn name_at(alloc: Global, arguments: &[Json], index: usize) -> Result<Name, Fault>
     requires { index ≤ 3 }
-    ensures { Answers (name_at index (items_view arguments.now)) result }
+    ensures { Answers (name_argument index (items_view arguments.now)) result }
 {
     match values::name(alloc, text_at(arguments, index)) {
         Ok(name) => Ok(name),
@@ -107,7 +107,7 @@ pub fn name_if_any_at(
 
 pub fn property_at(alloc: Global, arguments: &[Json], index: usize) -> Result<Property, Fault>
     requires { index ≤ 3 }
-    ensures { Answers (property_at index (items_view arguments.now)) result }
+    ensures { Answers (property_argument index (items_view arguments.now)) result }
 {
     let read = match argument(arguments, index) {
         Some(json) => values::property(alloc, json),
@@ -121,7 +121,7 @@ pub fn property_at(alloc: Global, arguments: &[Json], index: usize) -> Result<Pr
 
 pub fn tree_at(alloc: Global, arguments: &[Json], index: usize) -> Result<List<TreeNode>, Fault>
     requires { index ≤ 3 }
-    ensures { Answers (tree_at index (items_view arguments.now)) result }
+    ensures { Answers (tree_argument index (items_view arguments.now)) result }
 {
     let root = Path::root(alloc);
     let mut nodes = List::new(alloc);

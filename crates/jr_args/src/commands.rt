@@ -1,6 +1,6 @@
 // The commands of a script.
 ghost use Rattle.serde_json.specs.View.{view, items_view};
-ghost use Rattle.jr_args.specs.Commands.{call_of, called_of, command_of, listed_of, named_of};
+ghost use Rattle.jr_args.specs.Commands.{command_named, called_of, command_of, command_listed, named_of};
 ghost use Rattle.std.specs.Prelude.{Some};
 ghost use Rattle.serde_json.specs.Find.{as_str};
 ghost use Rattle.jr_args.specs.declared.word.Word.TheVariants as the_word;
@@ -37,7 +37,7 @@ pub fn command(alloc: Global, json: &Json) -> Result<Command, Fault>
 
 // The command that a list is: its name, and then its arguments.
 fn listed(alloc: Global, items: &[Json]) -> Result<Command, Fault>
-    ensures { Answers (listed_of (items_view items.now)) result }
+    ensures { Answers (command_listed (items_view items.now)) result }
 {
     match items {
         [] => Err(Fault::here(alloc, FORM)),
@@ -69,7 +69,7 @@ fn fitting(alloc: Global, word: Word, arguments: &[Json]) -> Result<Command, Fau
 
 // The command of this name with arguments that fit.
 fn call(alloc: Global, word: Word, arguments: &[Json]) -> Result<Command, Fault>
-    ensures { Answers (call_of word (items_view arguments.now)) result }
+    ensures { Answers (command_named word (items_view arguments.now)) result }
 {
     match word {
         Word::Bare(word) => Ok(word.command()),
@@ -95,14 +95,14 @@ fn call(alloc: Global, word: Word, arguments: &[Json]) -> Result<Command, Fault>
 }
 
 fn on_path(alloc: Global, word: OnPath, arguments: &[Json]) -> Result<Command, Fault>
-    ensures { Answers (call_of (the_word.OnPath word) (items_view arguments.now)) result }
+    ensures { Answers (command_named (the_word.OnPath word) (items_view arguments.now)) result }
 {
     let path = path_at(alloc, arguments, 0)?;
     Ok(word.command(path))
 }
 
 fn on_name(alloc: Global, word: OnName, arguments: &[Json]) -> Result<Command, Fault>
-    ensures { Answers (call_of (the_word.OnName word) (items_view arguments.now)) result }
+    ensures { Answers (command_named (the_word.OnName word) (items_view arguments.now)) result }
 {
     let path = path_at(alloc, arguments, 0)?;
     let name = name_at(alloc, arguments, 1)?;
@@ -110,7 +110,7 @@ fn on_name(alloc: Global, word: OnName, arguments: &[Json]) -> Result<Command, F
 }
 
 fn add(alloc: Global, arguments: &[Json]) -> Result<Command, Fault>
-    ensures { Answers (call_of the_word.Add (items_view arguments.now)) result }
+    ensures { Answers (command_named the_word.Add (items_view arguments.now)) result }
 {
     let path = path_at(alloc, arguments, 0)?;
     let node_type = name_if_any_at(alloc, arguments, 1)?;
@@ -118,7 +118,7 @@ fn add(alloc: Global, arguments: &[Json]) -> Result<Command, Fault>
 }
 
 fn tree(alloc: Global, arguments: &[Json]) -> Result<Command, Fault>
-    ensures { Answers (call_of the_word.Tree (items_view arguments.now)) result }
+    ensures { Answers (command_named the_word.Tree (items_view arguments.now)) result }
 {
     let path = path_at(alloc, arguments, 0)?;
     let nodes = tree_at(alloc, arguments, 1)?;
@@ -126,7 +126,7 @@ fn tree(alloc: Global, arguments: &[Json]) -> Result<Command, Fault>
 }
 
 fn set(alloc: Global, arguments: &[Json]) -> Result<Command, Fault>
-    ensures { Answers (call_of the_word.Set (items_view arguments.now)) result }
+    ensures { Answers (command_named the_word.Set (items_view arguments.now)) result }
 {
     let path = path_at(alloc, arguments, 0)?;
     let name = name_at(alloc, arguments, 1)?;
@@ -135,7 +135,7 @@ fn set(alloc: Global, arguments: &[Json]) -> Result<Command, Fault>
 }
 
 fn move_to(alloc: Global, arguments: &[Json]) -> Result<Command, Fault>
-    ensures { Answers (call_of the_word.Move (items_view arguments.now)) result }
+    ensures { Answers (command_named the_word.Move (items_view arguments.now)) result }
 {
     let path = path_at(alloc, arguments, 0)?;
     let target = path_at(alloc, arguments, 1)?;
@@ -143,14 +143,14 @@ fn move_to(alloc: Global, arguments: &[Json]) -> Result<Command, Fault>
 }
 
 fn lock(alloc: Global, arguments: &[Json]) -> Result<Command, Fault>
-    ensures { Answers (call_of the_word.Lock (items_view arguments.now)) result }
+    ensures { Answers (command_named the_word.Lock (items_view arguments.now)) result }
 {
     let path = path_at(alloc, arguments, 0)?;
     Ok(Command::Lock(path, truth_at(arguments, 1)))
 }
 
 fn restore(alloc: Global, arguments: &[Json]) -> Result<Command, Fault>
-    ensures { Answers (call_of the_word.Restore (items_view arguments.now)) result }
+    ensures { Answers (command_named the_word.Restore (items_view arguments.now)) result }
 {
     let path = path_at(alloc, arguments, 0)?;
     let version = Text::copy_of(alloc, text_at(arguments, 1))?;
@@ -158,7 +158,7 @@ fn restore(alloc: Global, arguments: &[Json]) -> Result<Command, Fault>
 }
 
 fn label(alloc: Global, arguments: &[Json]) -> Result<Command, Fault>
-    ensures { Answers (call_of the_word.Label (items_view arguments.now)) result }
+    ensures { Answers (command_named the_word.Label (items_view arguments.now)) result }
 {
     let path = path_at(alloc, arguments, 0)?;
     let label = name_at(alloc, arguments, 2)?;
@@ -167,14 +167,14 @@ fn label(alloc: Global, arguments: &[Json]) -> Result<Command, Fault>
 }
 
 fn observe(alloc: Global, arguments: &[Json]) -> Result<Command, Fault>
-    ensures { Answers (call_of the_word.Observe (items_view arguments.now)) result }
+    ensures { Answers (command_named the_word.Observe (items_view arguments.now)) result }
 {
     let path = path_at(alloc, arguments, 0)?;
     Ok(Command::Observe(path, truth_at(arguments, 1), mask_at(arguments, 2)))
 }
 
 fn query(alloc: Global, arguments: &[Json]) -> Result<Command, Fault>
-    ensures { Answers (call_of the_word.Query (items_view arguments.now)) result }
+    ensures { Answers (command_named the_word.Query (items_view arguments.now)) result }
 {
     let variables = variables_at(alloc, arguments, 1)?;
     let text = Text::copy_of(alloc, text_at(arguments, 0))?;
@@ -182,7 +182,7 @@ fn query(alloc: Global, arguments: &[Json]) -> Result<Command, Fault>
 }
 
 fn order_before(alloc: Global, arguments: &[Json]) -> Result<Command, Fault>
-    ensures { Answers (call_of the_word.OrderBefore (items_view arguments.now)) result }
+    ensures { Answers (command_named the_word.OrderBefore (items_view arguments.now)) result }
 {
     let path = path_at(alloc, arguments, 0)?;
     let name = name_if_any_at(alloc, arguments, 1)?;

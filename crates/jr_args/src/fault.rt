@@ -2,7 +2,7 @@
 ghost use Rattle.std.specs.Prelude.{◌≡◌, ◌++◌, [], IfOk, OnOk, string_bytes};
 ghost use Rattle.std.specs.List.{flat_map};
 ghost use Rattle.jr_args.specs.Outcomes.{IsRaised};
-ghost use Rattle.jr_args.specs.Pointers.{escaped, escaped_character, pointer_text, step_text};
+ghost use Rattle.jr_args.specs.Pointers.{escaped_pointer, pointer_character, pointer_text, step_text};
 ghost use Rattle.jr_args.specs.declared.fault.Fault.TheVariants.{Bad, Memory};
 ghost use Rattle.jr_args.specs.declared.fault.Step.TheVariants.{Key, Index};
 
@@ -109,7 +109,7 @@ fn put_step(alloc: Global, text: &mut String, step: &Step) -> Result<(), AllocEr
 
 // Puts a key with `~` as `~0` and `/` as `~1`.
 fn put_key(text: &mut String, key: &str) -> Result<(), AllocError>
-    ensures { OnOk result (string_bytes text.new ≡ string_bytes text.old ++ flat_map escaped key.now) }
+    ensures { OnOk result (string_bytes text.new ≡ string_bytes text.old ++ flat_map escaped_pointer key.now) }
 {
     for c in key.chars() {
         put_escaped(text, c)?;
@@ -118,7 +118,7 @@ fn put_key(text: &mut String, key: &str) -> Result<(), AllocError>
 }
 
 fn put_escaped(text: &mut String, c: char) -> Result<(), AllocError>
-    ensures { OnOk result (string_bytes text.new ≡ string_bytes text.old ++ escaped_character c) }
+    ensures { OnOk result (string_bytes text.new ≡ string_bytes text.old ++ pointer_character c) }
 {
     if c == '~' {
         text.push_str("~0")?;

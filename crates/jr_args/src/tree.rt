@@ -5,8 +5,8 @@ ghost use Rattle.serde_json.specs.Find.{get};
 ghost use Rattle.std.specs.Prelude.{codes};
 ghost use Rattle.serde_json.specs.View.{view, items_view, members_view};
 ghost use Rattle.jr_args.specs.Outcomes.{Answers, AnswersOnto};
-ghost use Rattle.jr_args.specs.Trees.{are_texts, are_trees, below_of, child_of, is_field, is_list_of_texts, is_tree, entry_of, mixin_of, mixins_of, node_of, optional_of, props_of, members_in, nodes_of, some_name_of, text_in, tree_of, type_of, variables_of};
-ghost use Rattle.jr_args.specs.Values.{property_of, value_of};
+ghost use Rattle.jr_args.specs.Trees.{are_texts, are_trees, below_of, child_of, is_field, is_list_of_texts, is_tree, entry_of, mixin_of, mixins_of, node_of, optional_of, properties_read, members_in, nodes_of, some_name_of, json_text_in, tree_of, type_of, variables_of};
+ghost use Rattle.jr_args.specs.Values.{property_read, value_of};
 
 use crate::fault::Fault;
 use crate::values::{name, property, value};
@@ -95,7 +95,7 @@ fn are_texts(items: &[Json]) -> bool
 
 // The text that the JSON is; empty where it is none.
 pub fn text_in(json: &Json) -> &str
-    ensures { result.now ≡ text_in (view json.now) }
+    ensures { result.now ≡ json_text_in (view json.now) }
 {
     match json {
         Json::String(text) => text.as_str(),
@@ -132,7 +132,7 @@ fn names(alloc: Global, items: &[Json]) -> Result<List<Name>, Fault>
 }
 
 fn props(alloc: Global, json: &Json) -> Result<Keyed<Name, Property>, Fault>
-    ensures { Answers (props_of (view json.now)) result }
+    ensures { Answers (properties_read (view json.now)) result }
 {
     let mut props = Keyed::new(alloc);
     if let Json::Object(members) = json {
@@ -147,7 +147,7 @@ fn props(alloc: Global, json: &Json) -> Result<Keyed<Name, Property>, Fault>
 }
 
 fn prop(alloc: Global, key: &str, member: &Json) -> Result<(Name, Property), Fault>
-    ensures { Answers (entry_of property_of key.now (view member.now)) result }
+    ensures { Answers (entry_of property_read key.now (view member.now)) result }
 {
     let name = name(alloc, key)?;
     let property = property(alloc, member)?;
@@ -216,7 +216,7 @@ fn mixins_in(alloc: Global, json: &Json) -> Result<List<Name>, Fault>
 }
 
 fn props_in(alloc: Global, json: &Json) -> Result<Keyed<Name, Property>, Fault>
-    ensures { Answers (optional_of (codes "props") [] props_of (get (codes "props") (view json.now))) result }
+    ensures { Answers (optional_of (codes "props") [] properties_read (get (codes "props") (view json.now))) result }
 {
     match json.get("props") {
         None => Ok(Keyed::new(alloc)),

@@ -2,7 +2,7 @@
 ghost use Rattle.std.specs.Prelude.{◌≡◌};
 ghost use Rattle.serde_json.specs.View.{view};
 ghost use Rattle.jr_args.specs.Outcomes.{Answers};
-ghost use Rattle.jr_args.specs.Values.{name_of, path_of, property_of, refused, value_of};
+ghost use Rattle.jr_args.specs.Values.{name_of, path_of, property_read, refused, value_of};
 
 use crate::fault::Fault;
 use jr_json::{ValueFault, read_property};
@@ -49,7 +49,7 @@ fn refused(alloc: Global, fault: PathFault) -> Fault
 }
 
 pub fn property(alloc: Global, json: &Json) -> Result<Property, Fault>
-    ensures { Answers (property_of (view json.now)) result }
+    ensures { Answers (property_read (view json.now)) result }
 {
     match read_property(alloc, json) {
         Ok(property) => Ok(property),

@@ -2,7 +2,7 @@
 ghost use Rattle.std.specs.Prelude.{◌≡◌};
 ghost use Rattle.serde_json.specs.View.{view, items_view};
 ghost use Rattle.jr_args.specs.Commands.{bare_command, name_command, node_command, path_command, text_command};
-ghost use Rattle.jr_args.specs.Words.{fits, has_kind, is_optional, kinds_of, mask_of, word_named, word_text};
+ghost use Rattle.jr_args.specs.Words.{fit_kinds, has_kind, is_optional, kinds_of, mask_of, word_named, word_text};
 
 use crate::tree::is_tree;
 use jcr_trans::Command;
@@ -356,7 +356,7 @@ pub fn mask(json: &Json) -> Option<u32>
 
 // Whether there are as many arguments as kinds, each of its kind; optional ones may be left out at the end.
 pub fn fits(kinds: &[Kind], arguments: &[Json]) -> bool
-    ensures { result ≡ fits kinds.now (items_view arguments.now) }
+    ensures { result ≡ fit_kinds kinds.now (items_view arguments.now) }
 {
     match kinds {
         [] => arguments.is_empty(),

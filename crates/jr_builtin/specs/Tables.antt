@@ -24,8 +24,8 @@ prop_of name kind default flags = record {
 }
 
 -- a child of this name, or any other, of this required type
-abbrev pub child_of : Option Name → Name → Option Name → Flags → ChildDef
-child_of name required default flags = record {
+abbrev pub builtin_child : Option Name → Name → Option Name → Flags → ChildDef
+builtin_child name required default flags = record {
   name = name;
   types = required ∷ [];
   default_type = default;

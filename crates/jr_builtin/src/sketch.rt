@@ -5,7 +5,7 @@ ghost use Rattle.jr_path.specs.Grammar.{IsName};
 ghost use Rattle.jr_value.specs.declared.value.Kind.TheVariants as kind;
 ghost use Rattle.jr_value.specs.declared.value.Value.TheVariants.{Boolean};
 ghost use Rattle.jr_builtin.specs.Builtin as table;
-ghost use Rattle.jr_builtin.specs.Tables.{child_of, prop_of};
+ghost use Rattle.jr_builtin.specs.Tables.{builtin_child, prop_of};
 
 use jr_path::{List, Name};
 use jr_types::{ChildDef, OnParentVersion, PropDef, TypeDef};
@@ -168,7 +168,7 @@ impl Sketch {
         requires name { IsName name.now }
         requires required { IsName required.now }
         ensures { IfOk result (λ d. d.definition ≡ record self.definition {
-          children = self.definition.children ++ child_of (Some name.now) required.now None flags ∷ [];
+          children = self.definition.children ++ builtin_child (Some name.now) required.now None flags ∷ [];
         }) }
     {
         match add_child(
@@ -198,7 +198,7 @@ impl Sketch {
         requires default { IfSome (option_copied default) IsName }
         ensures { IfOk result (λ d. d.definition ≡ record self.definition {
           children = self.definition.children
-              ++ child_of None of.now (option_copied default.entry) flags ∷ [];
+              ++ builtin_child None of.now (option_copied default.entry) flags ∷ [];
         }) }
     {
         match add_child(
@@ -278,7 +278,7 @@ fn add_child(
     requires required { IsName required.now }
     requires default { IfSome (option_copied default_type) IsName }
     ensures { OnOk result (children.new ≡ children.old
-        ++ child_of (option_copied name.entry) required.now (option_copied default_type.entry) flags
+        ++ builtin_child (option_copied name.entry) required.now (option_copied default_type.entry) flags
         ∷ []) }
 {
     let mut types = List::new(alloc);

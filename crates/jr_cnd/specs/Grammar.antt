@@ -13,7 +13,7 @@ use Rattle.jr_types.specs.declared.PropDef.{PropDef}
 use Rattle.jr_types.specs.declared.ChildDef.{ChildDef}
 use Rattle.jr_types.specs.declared.TypeDef.{TypeDef}
 use Rattle.jr_cnd.specs.Reading.{◌>>=◌, State, Read, after, bare_first, behind, many, name_at, no_pieces, place, required, sign_at, sign_first, text_at}
-use Rattle.cnd_pieces.specs.Words.{is_prefix, kind_named}
+use Rattle.cnd_pieces.specs.Words.{is_prefix, cnd_kind_named}
 use Rattle.jr_cnd.specs.Words.{item_word, type_word}
 use Rattle.cnd_pieces.specs.declared.piece.Placed.{Placed}
 use Rattle.cnd_pieces.specs.declared.piece.Says.{Says}
@@ -146,7 +146,7 @@ opv_of a = unwrap_or a.opv opv.Copy
 
 -- the kind that a token is, `*` being `undefined`
 abbrev pub kind_in : Says → Option (Option Kind)
-kind_in (says.Name word) = kind_named word
+kind_in (says.Name word) = cnd_kind_named word
 kind_in (says.Sign sign.Star) = Some None
 kind_in _ = None
 
@@ -245,8 +245,8 @@ types_inside s = do
   Ok (n.0, c.1)
 
 -- [(name {, name})]; without it `nt:base`
-abbrev pub types_at : State → Read (List Name)
-types_at s = if sign_first sign.Open s.pieces then types_inside (after s) else Ok (base_type ∷ [], s)
+abbrev pub read_types : State → Read (List Name)
+read_types s = if sign_first sign.Open s.pieces then types_inside (after s) else Ok (base_type ∷ [], s)
 
 -- [= name]
 abbrev pub default_type_at : State → Read (Option Name)
@@ -255,10 +255,10 @@ default_type_at s =
     else Ok (None, s)
 
 -- child = + name [(name {, name})] [= name] {cattr}, behind `+`
-abbrev pub child_at : State → Read ChildDef
-child_at s = do
+abbrev pub read_child : State → Read ChildDef
+read_child s = do
   n ← item_name_at s
-  t ← types_at n.1
+  t ← read_types n.1
   d ← default_type_at t.1
   a ← item_attributes_at false d.1
   Ok (
@@ -293,7 +293,7 @@ prop_more items s = do
 -- a further child
 abbrev pub child_more : Items → State → Read Items
 child_more items s = do
-  c ← child_at (after s)
+  c ← read_child (after s)
   Ok (record { props = items.props; children = items.children ++ c.0 ∷ [] }, c.1)
 
 -- a further property or child
@@ -301,8 +301,8 @@ abbrev pub item_more : Items → State → Read Items
 item_more items s = if sign_first sign.Minus s.pieces then prop_more items s else child_more items s
 
 -- {prop | child}
-abbrev pub items_at : State → Read Items
-items_at s = many item_first item_more s.pieces (record { props = []; children = [] }) s
+abbrev pub read_items : State → Read Items
+read_items s = many item_first item_more s.pieces (record { props = []; children = [] }) s
 
 -- the attribute of a type that a token is
 abbrev pub type_word_in : Says → Option TypeWord
@@ -318,14 +318,14 @@ lacks a type.Orderable = not a.orderable
 lacks a type.PrimaryItem = is_none a.primary_item
 
 -- the attribute, where it is not among those that were read
-abbrev pub lacking : TypeAttributes → Option TypeWord → Option TypeWord
-lacking a None = None
-lacking a (Some w) = if lacks a w then Some w else None
+abbrev pub where_lacking : TypeAttributes → Option TypeWord → Option TypeWord
+where_lacking a None = None
+where_lacking a (Some w) = if lacks a w then Some w else None
 
 -- the attribute that comes next, where it may stand: each stands once
 abbrev pub type_word_first : TypeAttributes → List Placed → Option TypeWord
 type_word_first a [] = None
-type_word_first a (p ∷ ps) = lacking a (type_word_in p.says)
+type_word_first a (p ∷ ps) = where_lacking a (type_word_in p.says)
 
 -- a further attribute of the type comes next
 abbrev pub type_attribute_first : TypeAttributes → List Placed → Bool
@@ -380,7 +380,7 @@ type_at s = do
   n ← type_name_at s
   u ← supertypes_at n.1
   a ← type_attributes_at u.1
-  i ← items_at a.1
+  i ← read_items a.1
   Ok (
     record {
       name = n.0;
@@ -440,9 +440,9 @@ abbrev pub file_more : File → State → Read File
 file_more file s = if sign_first sign.Less s.pieces then prefix_more file s else type_more file s
 
 -- something is left
-abbrev pub goes_on : File → List Placed → Bool
-goes_on _ ps = not (no_pieces ps)
+abbrev pub has_more : File → List Placed → Bool
+has_more _ ps = not (no_pieces ps)
 
 -- file = { <prefix = 'uri'> | type }
 abbrev pub file_at : State → Read File
-file_at s = many goes_on file_more s.pieces (record { prefixes = []; types = [] }) s
+file_at s = many has_more file_more s.pieces (record { prefixes = []; types = [] }) s

@@ -40,8 +40,8 @@ abbrev pub cnd_of : File → Cnd
 cnd_of file = record { prefixes = file.prefixes; definitions = map (λ d. d.definition) file.types }
 
 -- what a file of the grammar means: its definitions keep the rules, over the built-in types; or the first that doesn't
-abbrev pub judged : File → Result Cnd NoCnd
-judged file = elim (first_bad builtin file.types) [
+abbrev pub judged_file : File → Result Cnd NoCnd
+judged_file file = elim (first_bad builtin file.types) [
   | None ↦ Ok (cnd_of file)
   | Some start ↦ Err (no.BadDef start)
 ]
@@ -49,14 +49,14 @@ judged file = elim (first_bad builtin file.types) [
 -- what pieces mean, in a text of a length: faults of the grammar come before those of the definitions
 abbrev pub meaning : List Placed → ℕ → Result Cnd NoCnd
 meaning pieces stop = elim (file_at (record { pieces = pieces; stop = stop })) [
-  | Ok r ↦ judged r.0
+  | Ok r ↦ judged_file r.0
   | Err offset ↦ Err (no.Syntax offset)
 ]
 
 -- the answer is what is meant, unless memory is refused
-abbrev pub Answers : Result Cnd NoCnd → Result Cnd NoCnd → Type 0
-Answers (Err no.Memory) meant = Unit {0}
-Answers result meant = meant ≡ result
+abbrev pub IsAsMeant : Result Cnd NoCnd → Result Cnd NoCnd → Type 0
+IsAsMeant (Err no.Memory) meant = Unit {0}
+IsAsMeant result meant = meant ≡ result
 
 -- what a text means
 abbrev pub IsMeaning : List ℕ → Result Cnd NoCnd → Type 0
@@ -64,6 +64,6 @@ IsMeaning text result =
     (pieces : List Placed) × IsReadAs text pieces × (meaning pieces (length text) ≡ result)
 
 -- what a text is answered: what it means, unless memory is refused
-abbrev pub IsAnswer : List ℕ → Result Cnd NoCnd → Type 0
-IsAnswer text (Err no.Memory) = Unit {0}
-IsAnswer text result = IsMeaning text result
+abbrev pub IsCndAnswer : List ℕ → Result Cnd NoCnd → Type 0
+IsCndAnswer text (Err no.Memory) = Unit {0}
+IsCndAnswer text result = IsMeaning text result

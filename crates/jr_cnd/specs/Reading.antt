@@ -39,13 +39,13 @@ behind [] = []
 behind (p ∷ ps) = ps
 
 -- where the first token begins; where there is none, the offset behind the last
-abbrev pub first_start : List Placed → ℕ → ℕ
-first_start [] stop = stop
-first_start (p ∷ ps) stop = p.start
+abbrev pub next_offset : List Placed → ℕ → ℕ
+next_offset [] stop = stop
+next_offset (p ∷ ps) stop = p.start
 
 -- the offset of what comes next: the first byte of the next token, or the text's end
 abbrev pub place : State → ℕ
-place s = first_start s.pieces s.stop
+place s = next_offset s.pieces s.stop
 
 -- behind the next token
 abbrev pub after : State → State
@@ -81,15 +81,15 @@ sign_first wanted [] = false
 sign_first wanted (p ∷ ps) = is_sign wanted p.says
 
 -- the name that a token is, bare or as a text
-abbrev pub name_in : Says → Option Name
-name_in (says.Name name) = Some name
-name_in (says.Quoted text name value) = name
-name_in _ = None
+abbrev pub cnd_name_in : Says → Option Name
+cnd_name_in (says.Name name) = Some name
+cnd_name_in (says.Quoted text name value) = name
+cnd_name_in _ = None
 
 -- the name that the next token is
 abbrev pub name_first : List Placed → Option Name
 name_first [] = None
-name_first (p ∷ ps) = name_in p.says
+name_first (p ∷ ps) = cnd_name_in p.says
 
 -- the text that a token is
 abbrev pub text_in : Says → Option (List ℕ)

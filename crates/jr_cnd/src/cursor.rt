@@ -1,7 +1,7 @@
 // A place in the pieces of a text, and the reading of one piece.
 ghost use Rattle.std.specs.Prelude.{◌≡◌, IsSome, is_some};
 ghost use Rattle.std.specs.Option.{option_copied, option_map};
-ghost use Rattle.jr_cnd.specs.Reading.{Reads, after, bare_first, bare_in, behind, is_sign, name_at, name_first, name_in, no_pieces, place, same_sign, sign_at, sign_first, text_at, text_first, text_in};
+ghost use Rattle.jr_cnd.specs.Reading.{Reads, after, bare_first, bare_in, behind, is_sign, name_at, name_first, cnd_name_in, no_pieces, place, same_sign, sign_at, sign_first, text_at, text_first, text_in};
 
 use crate::NoCnd;
 use cnd_pieces::{Placed, Says, Sign};
@@ -61,7 +61,7 @@ fn sign_first(wanted: Sign, pieces: &[Placed]) -> bool
 }
 
 fn name_in(says: &Says) -> Option<&Name>
-    ensures { option_copied result ≡ name_in says.now }
+    ensures { option_copied result ≡ cnd_name_in says.now }
 {
     match says {
         Says::Name(name) => Some(name),

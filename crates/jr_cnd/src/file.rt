@@ -2,7 +2,7 @@
 ghost use Rattle.std.specs.Prelude.{◌≡◌, IfOk, map, option_map};
 ghost use Rattle.jr_builtin.specs.Builtin.{builtin};
 ghost use Rattle.jr_cnd.specs.Grammar.{file_at, file_more, prefix_at, prefix_more, prefix_name_at, prefix_token, type_more};
-ghost use Rattle.jr_cnd.specs.Meaning.{Answers, IsAnswer, IsJudged, IsRegistering, first_bad, judged, meaning};
+ghost use Rattle.jr_cnd.specs.Meaning.{IsAsMeant, IsCndAnswer, IsJudged, IsRegistering, first_bad, judged_file, meaning};
 ghost use Rattle.jr_cnd.specs.Reading.{Reads};
 
 use crate::cursor::{Cursor, bare_first};
@@ -157,7 +157,7 @@ fn definitions_of(alloc: Global, types: List<PlacedType>) -> Result<List<TypeDef
 
 // What a file of the grammar means.
 fn judged(alloc: Global, file: File) -> Result<Cnd, NoCnd>
-    ensures { Answers result (judged file) }
+    ensures { IsAsMeant result (judged_file file) }
 {
     keep_rules(alloc, file.types.as_slice())?;
     let definitions = definitions_of(alloc, file.types)?;
@@ -169,7 +169,7 @@ fn judged(alloc: Global, file: File) -> Result<Cnd, NoCnd>
 
 // What pieces mean, in a text of this length.
 fn meaning(alloc: Global, pieces: &[Placed], stop: usize) -> Result<Cnd, NoCnd>
-    ensures { Answers result (meaning pieces.now stop) }
+    ensures { IsAsMeant result (meaning pieces.now stop) }
 {
     let mut cursor = Cursor {
         alloc,
@@ -184,7 +184,7 @@ fn meaning(alloc: Global, pieces: &[Placed], stop: usize) -> Result<Cnd, NoCnd>
 /// as docs/FORMATS.md has the grammar. The definitions keep the rules of `Registry::add`, over the built-in types and those
 /// before them. A fault of the grammar, wherever it stands, comes before those of the definitions.
 pub fn read_cnd(alloc: Global, text: &str) -> Result<Cnd, NoCnd>
-    ensures { IsAnswer text.now result }
+    ensures { IsCndAnswer text.now result }
 {
     let pieces = pieces_of(alloc, text)?;
     meaning(alloc, pieces.as_slice(), text.len())

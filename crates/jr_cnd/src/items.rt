@@ -1,7 +1,7 @@
 // Definitions of properties and of children.
 ghost use Rattle.std.specs.Prelude.{◌≡◌, ◌∷◌, [], IfOk};
 ghost use Rattle.jr_items.specs.Names.{base_type};
-ghost use Rattle.jr_cnd.specs.Grammar.{child_at, constraints_at, constraints_first, default_type_at, defaults_at, item_name_at, kind_at, kind_first, kind_in, kind_inside, prop_at, types_at, types_inside};
+ghost use Rattle.jr_cnd.specs.Grammar.{read_child, constraints_at, constraints_first, default_type_at, defaults_at, item_name_at, kind_at, kind_first, kind_in, kind_inside, prop_at, read_types, types_inside};
 ghost use Rattle.jr_cnd.specs.Reading.{Reads};
 
 use crate::NoCnd;
@@ -140,7 +140,7 @@ impl<'a> Cursor<'a> {
 
     // [(name {, name})]
     fn types(&mut self) -> Result<List<Name>, NoCnd>
-        ensures { Reads result self.new (types_at self.old) }
+        ensures { Reads result self.new (read_types self.old) }
     {
         if self.is_sign(Sign::Open) {
             self.advance();
@@ -164,7 +164,7 @@ impl<'a> Cursor<'a> {
 
     // child = + name [(name {, name})] [= name] {cattr}, behind `+`
     pub(crate) fn child(&mut self) -> Result<ChildDef, NoCnd>
-        ensures { Reads result self.new (child_at self.old) }
+        ensures { Reads result self.new (read_child self.old) }
     {
         let name = self.item_name()?;
         let types = self.types()?;

@@ -3,7 +3,7 @@ ghost use Rattle.std.specs.Prelude.{◌≡◌, ◌∷◌, ◌++◌, [], IfOk, On
 ghost use Rattle.std.specs.List.{filter};
 ghost use Rattle.jr_items.specs.Items.{same_name};
 ghost use Rattle.jr_items.specs.Names.{base_type};
-ghost use Rattle.jr_cnd.specs.Grammar.{begins_item, child_more, item_more, items_at, kept_supertypes, lacking, lacks, primary_item_at, prop_more, supertypes_at, type_at, type_attribute_more, type_attributes_at, type_name_at, type_word_first, type_word_in, with_type_word};
+ghost use Rattle.jr_cnd.specs.Grammar.{begins_item, child_more, item_more, read_items, kept_supertypes, where_lacking, lacks, primary_item_at, prop_more, supertypes_at, type_at, type_attribute_more, type_attributes_at, type_name_at, type_word_first, type_word_in, with_type_word};
 ghost use Rattle.jr_cnd.specs.Reading.{Reads};
 
 use crate::NoCnd;
@@ -44,7 +44,7 @@ fn lacks(attributes: &TypeAttributes, word: TypeWord) -> bool
 }
 
 fn lacking(attributes: &TypeAttributes, word: Option<TypeWord>) -> Option<TypeWord>
-    ensures { result ≡ lacking attributes.now word }
+    ensures { result ≡ where_lacking attributes.now word }
 {
     match word {
         Some(word) => {
@@ -241,7 +241,7 @@ impl<'a> Cursor<'a> {
 
     // {prop | child}
     fn items(&mut self) -> Result<Items, NoCnd>
-        ensures { Reads result self.new (items_at self.old) }
+        ensures { Reads result self.new (read_items self.old) }
     {
         let mut items = Items {
             props: List::new(self.alloc),

@@ -57,14 +57,14 @@ range_in bs =
     (range_between (first == 40) (slice_range bs 1 (length bs - 1)) (last == 41)) None
 
 -- the number stands in the range
-abbrev pub is_within : Range → ℤ → Bool
-is_within r z =
+abbrev pub is_in_range : Range → ℤ → Bool
+is_in_range r z =
     option_map_or (λ a. cond r.low_open (int_lt a z) (int_le a z)) r.low true
     && option_map_or (λ b. cond r.high_open (int_lt z b) (int_le z b)) r.high true
 
 -- the text is a range in which the number stands
 abbrev pub ranges_over : List ℕ → ℤ → Bool
-ranges_over c z = option_map_or (λ r. is_within r z) (range_in c) false
+ranges_over c z = option_map_or (λ r. is_in_range r z) (range_in c) false
 
 -- a value meets a constraint: a range for numbers and for a binary's length, the printed text for
 -- others, and none for references
@@ -81,8 +81,8 @@ meets (value.Reference id) c = false
 meets (value.WeakReference id) c = false
 
 -- a literal text has none of `. * + ? [ ] ( ) { } | ^ $ \`
-abbrev pub is_plain : List ℕ → Bool
-is_plain c = list_all (λ b. not (list_any (λ special. special == b) (codes ".*+?[](){}|^$\\"))) c
+abbrev pub is_literal : List ℕ → Bool
+is_literal c = list_all (λ b. not (list_any (λ special. special == b) (codes ".*+?[](){}|^$\\"))) c
 
 -- a definition of that kind may have the constraint
 abbrev pub is_constraint : Option Kind → List ℕ → Bool
@@ -90,7 +90,7 @@ is_constraint None c = true
 is_constraint (Some kind.Long) c = is_some (range_in c)
 is_constraint (Some kind.Date) c = is_some (range_in c)
 is_constraint (Some kind.Binary) c = is_some (range_in c)
-is_constraint (Some kind.Str) c = is_plain c
+is_constraint (Some kind.Str) c = is_literal c
 is_constraint (Some kind.Reference) c = false
 is_constraint (Some kind.WeakReference) c = false
 is_constraint (Some _) c = true

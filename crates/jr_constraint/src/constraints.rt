@@ -3,7 +3,7 @@ ghost use Rattle.std.specs.Prelude.{◌≡◌, ◌==◌, ◌∷◌, ◌++◌, �
 ghost use Rattle.std.specs.List.{list_any};
 ghost use Rattle.jr_path.specs.Ids.{joined, path_text};
 ghost use Rattle.jr_value.specs.Values.{same_bytes};
-ghost use Rattle.jr_constraint.specs.Constraints.{is_constraint, is_plain, meets};
+ghost use Rattle.jr_constraint.specs.Constraints.{is_constraint, is_literal, meets};
 
 use crate::ranges::{range_in, ranges_over};
 use jr_path::{List, Name, Text};
@@ -100,7 +100,7 @@ pub fn is_constraint(kind: Option<Kind>, constraint: &str) -> bool
 
 // Whether a literal text has none of `. * + ? [ ] ( ) { } | ^ $ \`.
 fn is_plain(text: &str) -> bool
-    ensures { result ≡ is_plain text.now }
+    ensures { result ≡ is_literal text.now }
 {
     text.as_bytes().iter().all(|byte| !is_special(*byte))
 }

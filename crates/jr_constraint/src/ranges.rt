@@ -2,7 +2,7 @@
 ghost use Rattle.std.specs.Prelude.{◌≡◌, ◌==◌, ◌<◌, ◌^◌, ◌-◌, ◌&&◌, nat_le, cond, true, Some, None, IfSome, int_lt, int_le, length, min, option_and_then, option_map, pos, position};
 ghost use Rattle.std.specs.Option.{option_map_or};
 ghost use Rattle.std.specs.Str.Parse.{digits_value};
-ghost use Rattle.jr_constraint.specs.Constraints.{are_digits, bound_in, is_in_64_bits, is_within, number_in, range_between, range_in, ranges_over};
+ghost use Rattle.jr_constraint.specs.Constraints.{are_digits, bound_in, is_in_64_bits, is_in_range, number_in, range_between, range_in, ranges_over};
 
 // A range of whole numbers; an end without a number bounds nothing.
 #[derive(Clone, Copy)]
@@ -19,7 +19,7 @@ const BEYOND: u128 = 1 << 64;
 impl Range {
     // Whether the number stands in the range.
     fn has(self, number: i64) -> bool
-        ensures { result ≡ is_within self number }
+        ensures { result ≡ is_in_range self number }
     {
         self.is_above_low(number) && self.is_below_high(number)
     }

@@ -26,7 +26,7 @@ use Rattle.jr_path.specs.declared.fault.PathFault.TheVariants.{BadName, Memory}
 use Rattle.jr_value.proofs.Texts.{fault_refuses}
 use Rattle.jr_defs.specs.declared.reading.NoType.{NoType}
 use Rattle.jr_defs.specs.declared.reading.NoType.TheVariants as no
-use Rattle.jr_defs.specs.Reading.{AreDefaultsJson, AreRead, IsItemNameJson, IsNameJson, no_values, IsOr, IsSomeNameJson, IsThere, Reads, have_keys, is_object_of, refused}
+use Rattle.jr_defs.specs.Reading.{AreDefaultsJson, AreRead, IsItemNameJson, IsNameJson, unread_values, IsOr, IsSomeNameJson, IsThere, Reads, have_keys, is_object_of, refused}
 
 -- a part can't be read, so the whole can't
 pub exits : {X Y : Type 0} (P : X → Type 0) (Q : Y → Type 0) (f : NoType) (r : Result Y NoType) → IsErrAnd r (λ e. e ≡ f) → Reads P (Err f) → ((y : Y) → Q y → (x : X) × P x) → Reads Q r
@@ -148,7 +148,7 @@ other_read d b (Err no.NoDefinition) e h g = by
 
 -- ---- default values
 
-pub values_fault : (d : Data) (e : ValueFault) → IsValueFault d e → Reads (λ (xs : List Val). (k : Kind) × IsPropertyJson d (Many k xs)) (Err (no_values e))
+pub values_fault : (d : Data) (e : ValueFault) → IsValueFault d e → Reads (λ (xs : List Val). (k : Kind) × IsPropertyJson d (Many k xs)) (Err (unread_values e))
 values_fault d (ValueFormat required found) h = λ xs q. h.0 (Many q.0 xs) q.1
 values_fault d values.Memory h = tt
 

@@ -156,6 +156,6 @@ refused fault.Memory = no.Memory
 refused _ = no.NoDefinition
 
 -- why no type is read where its default values aren't
-abbrev pub no_values : ValueFault → NoType
-no_values values.Memory = no.Memory
-no_values _ = no.NoDefinition
+abbrev pub unread_values : ValueFault → NoType
+unread_values values.Memory = no.Memory
+unread_values _ = no.NoDefinition

@@ -11,7 +11,7 @@ ghost use Rattle.jr_json.specs.Reading.{IsPropertyJson};
 ghost use Rattle.jr_value.specs.declared.value.Kind.{Kind};
 ghost use Rattle.jr_value.specs.declared.value.Property.TheVariants.{Many};
 ghost use Rattle.jr_items.specs.Names.{base_type};
-ghost use Rattle.jr_defs.specs.Reading.{AreDefaultsJson, AreRead, IsChildJson, IsFlagJson, IsItemNameJson, IsKindJson, IsListJson, IsNameJson, IsOpvJson, IsOr, IsPropJson, IsSomeNameJson, IsTextJson, IsThere, IsTypeJson, Reads, have_keys, is_object_of, no_values, refused};
+ghost use Rattle.jr_defs.specs.Reading.{AreDefaultsJson, AreRead, IsChildJson, IsFlagJson, IsItemNameJson, IsKindJson, IsListJson, IsNameJson, IsOpvJson, IsOr, IsPropJson, IsSomeNameJson, IsTextJson, IsThere, IsTypeJson, Reads, have_keys, is_object_of, unread_values, refused};
 ghost use Rattle.jr_types.specs.declared.OnParentVersion.TheVariants.{Copy};
 ghost use Rattle.jr_defs.specs.declared.reading.NoType.TheVariants.{Memory};
 
@@ -382,7 +382,7 @@ fn some_values(alloc: Global, json: &Json) -> Result<List<Value>, NoType>
 }
 
 fn no_values(fault: ValueFault) -> NoType
-    ensures { result ≡ no_values fault }
+    ensures { result ≡ unread_values fault }
 {
     match fault {
         ValueFault::Memory => NoType::Memory,

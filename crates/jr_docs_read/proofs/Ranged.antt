@@ -21,7 +21,7 @@ use Rattle.jr_rev.specs.Digits.{Spells}
 use Rattle.jr_rev.specs.Grammar.{FitsFields, IsRevisionText, IsVectorText}
 use Rattle.jr_rev.specs.Vectors.{Entries, revisions_of}
 use Rattle.jr_rev.specs.declared.revision.Revision.{Revision}
-use Rattle.jr_value.specs.Ranges.{AreReadable, IsReadable, IsReadableProperty}
+use Rattle.jr_value.specs.Ranges.{AreOfKind, IsReadable, IsReadableProperty}
 use Rattle.jr_value.specs.Texts.{IsPathWithin}
 use Rattle.jr_value.specs.Words.{identifier_named, kind_named}
 use Rattle.jr_value.specs.declared.value.Kind.{Kind}
@@ -128,7 +128,7 @@ readable (value.Reference id) formed typed = typed
 readable (value.WeakReference id) formed typed = typed
 readable (value.Uri t) formed typed = tt
 
-values_readable : (ds : Items) (k : Kind) (xs : List Value) → AreValuesJson ds k xs → All IsTyped xs → AreReadable k xs
+values_readable : (ds : Items) (k : Kind) (xs : List Value) → AreValuesJson ds k xs → All IsTyped xs → AreOfKind k xs
 values_readable ds k [] h typed = tt
 values_readable no_items k (x ∷ xs) h typed = absurd h
 values_readable (item d ds) k (x ∷ xs) h typed =

@@ -25,7 +25,7 @@ use Rattle.jr_tree.proofs.Pointwise.{same_path}
 use Rattle.jr_overlay.specs.declared.overlay.Change.{Change}
 use Rattle.jr_overlay.specs.Overlays.{Changed, change_at, view_of}
 use Rattle.jr_overlay.proofs.Views.{node_at-view, sorted-view}
-use Rattle.jr_edited.specs.Edited.{IsCounted, change_between, changed_nodes, changes_between}
+use Rattle.jr_edited.specs.Edited.{IsCounted, change_between, changed_nodes, changed_between}
 
 -- ---- writes of other nodes
 
@@ -147,7 +147,7 @@ written_at t ws p = puts_at (node_at t) [] ws p
 sorted_written : (t : Nodes) (ws : List Write) → InOrder (written_nodes t ws)
 sorted_written t ws = sorted_puts (node_at t) [] ws refl
 
-between_at : (old new : Nodes) (ws : List Write) (p : Path) → change_at (changes_between old new ws) p ≡ cond (is_touched ws p) (Some (change_between old new p)) None
+between_at : (old new : Nodes) (ws : List Write) (p : Path) → change_at (changed_between old new ws) p ≡ cond (is_touched ws p) (Some (change_between old new p)) None
 between_at old new ws p = puts_at (λ q. Some (change_between old new q)) [] ws p
 
 pub sorted_changes : (t : Nodes) (ws : List Write) → is_sorted path_cmp (changed_nodes t ws) ≡ true
@@ -224,7 +224,7 @@ module _ (t : Nodes) (ws : List Write) (s : InOrder t) where
   }
 
 -- what was made step by step
-module _ (t part after : Nodes) (ws vs : List Write) (c d : Changed) (s : InOrder t) (old : part ≡ written_nodes t vs) (same : vs ≡ ws) (new : after ≡ applied None part ws) (between : c ≡ changes_between part after vs) (whole : d ≡ c) where
+module _ (t part after : Nodes) (ws vs : List Write) (c d : Changed) (s : InOrder t) (old : part ≡ written_nodes t vs) (same : vs ≡ ws) (new : after ≡ applied None part ws) (between : c ≡ changed_between part after vs) (whole : d ≡ c) where
   part_is : part ≡ written_nodes t ws
   part_is = old ∙ ap (written_nodes t) same
 
@@ -232,7 +232,7 @@ module _ (t part after : Nodes) (ws vs : List Write) (c d : Changed) (s : InOrde
   after_of = new ∙ ap (λ (u : Nodes). applied None u ws) part_is
 
   changes_are : d ≡ changed_nodes t ws
-  changes_are = whole ∙ (between ∙ (λ i. changes_between (part_is i) (after_of i) (same i)))
+  changes_are = whole ∙ (between ∙ (λ i. changed_between (part_is i) (after_of i) (same i)))
 
   pub made_view : view_of t d ≡ applied None t ws
   made_view = ap (view_of t) changes_are ∙ makes_view t ws s

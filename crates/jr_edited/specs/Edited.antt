@@ -22,13 +22,13 @@ with_change_of old new c p = cond (is_some (change_at c p)) c
     (insert_entry path_cmp c p (change_between old new p))
 
 -- what two trees have at each written path
-abbrev pub changes_between : (old new : Nodes) → List Write → Changed
-changes_between old new ws = fold (λ c w. with_change_of old new c (item_of w).path) [] ws
+abbrev pub changed_between : (old new : Nodes) → List Write → Changed
+changed_between old new ws = fold (λ c w. with_change_of old new c (item_of w).path) [] ws
 
 -- what an edit makes of the nodes that it writes
 abbrev pub changed_nodes : Nodes → List Write → Changed
 changed_nodes t ws =
-    let part = written_nodes t ws in changes_between part (applied None part ws) ws
+    let part = written_nodes t ws in changed_between part (applied None part ws) ws
 
 -- the tree and the changes stand in order, and so many nodes stood at the changed paths before and
 -- stand there now

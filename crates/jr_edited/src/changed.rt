@@ -3,7 +3,7 @@ ghost use Rattle.std.specs.Prelude.{◌≡◌, IfOk, OnOk};
 ghost use Rattle.std.specs.Option.{option_copied};
 ghost use Rattle.jr_tree.specs.Edits.{applied};
 ghost use Rattle.jr_tree.specs.Merging.{with_node_of, written_nodes};
-ghost use Rattle.jr_edited.specs.Edited.{change_between, changes_between, with_change_of};
+ghost use Rattle.jr_edited.specs.Edited.{change_between, changed_between, with_change_of};
 
 use jr_overlay::Change;
 use jr_path::{DeepCopy, Keyed, Path};
@@ -55,7 +55,7 @@ pub(crate) fn changes_between(
     new: &Tree,
     writes: &[Write],
 ) -> Result<Changes, AllocError>
-    ensures { IfOk result (λ changes. changes ≡ changes_between old.now new.now writes.now) }
+    ensures { IfOk result (λ changes. changes ≡ changed_between old.now new.now writes.now) }
 {
     let mut changes = Keyed::new(alloc);
     for write in writes {

@@ -8,7 +8,7 @@ use Rattle.serde_json.specs.declared.value.Value.{Value}
 use Rattle.jr_gen.specs.declared.rounds.Round.{Round}
 use Rattle.jr_gen.specs.Draws.{draw, next}
 use Rattle.jr_gen.specs.Rounds.{round_at, after_round, after_rounds}
-use Rattle.jr_gen.specs.Scripts.{command_of, rounds_data, session_data, sessions_data, turns_data}
+use Rattle.jr_gen.specs.Scripts.{round_command, rounds_data, session_data, sessions_data, turns_data}
 
 -- a value is put that is the first of what is left
 put_next : (olds news : List Value) (v : Value) (d : Data) (left rest all : List Data)
@@ -26,20 +26,20 @@ one_more : (c n : ℕ) → c < n → n - c ≡ suc (n - (c + 1))
 one_more c n less = omega arith
 
 rounds_left : (n s m x y : ℕ) → y ≡ after_round x
-    → rounds_data (suc n) s m x ≡ command_of s (round_at m x) ∷ rounds_data n s m y
+    → rounds_data (suc n) s m x ≡ round_command s (round_at m x) ∷ rounds_data n s m y
 unfolding rounds_data
 rounds_left n s m x y now =
-    ap (λ z. command_of s (round_at m x) ∷ rounds_data n s m z) (sym now)
+    ap (λ z. round_command s (round_at m x) ∷ rounds_data n s m z) (sym now)
 
 -- one round further on
 pub rounds_further : (olds news : List Value) (v : Value) (r : Round) (all : List Data)
     → (c n s m x y : ℕ) → c < n → r ≡ round_at m x → y ≡ after_round x
-    → news ≡ olds ++ v ∷ [] → view v ≡ command_of s r
+    → news ≡ olds ++ v ∷ [] → view v ≡ round_command s r
     → map view olds ++ rounds_data (n - c) s m x ≡ all
     → map view news ++ rounds_data (n - (c + 1)) s m y ≡ all
 rounds_further olds news v r all c n s m x y less round now put is was =
-    put_next olds news v (command_of s (round_at m x)) (rounds_data (n - c) s m x) _ all put
-    (is ∙ ap (command_of s) round)
+    put_next olds news v (round_command s (round_at m x)) (rounds_data (n - c) s m x) _ all put
+    (is ∙ ap (round_command s) round)
     (ap (λ k. rounds_data k s m x) (one_more c n less) ∙ rounds_left (n - (c + 1)) s m x y now) was
 
 after_left : (n x : ℕ) → after_rounds (suc n) x ≡ after_rounds n (after_round x)

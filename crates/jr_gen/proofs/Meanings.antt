@@ -16,8 +16,8 @@ use Rattle.jr_args.specs.Outcomes.{Means}
 use Rattle.jr_args.proofs.Readings.{means}
 use Rattle.jr_gen.specs.declared.rounds.Round.TheVariants as round
 use Rattle.jr_gen.specs.Draws.{draw}
-use Rattle.jr_gen.specs.Rounds.{after_round, kind_at, round_at, round_of}
-use Rattle.jr_gen.specs.Scripts.{beginning, command, command_of, commands_data, ending, node_path, property_name, property_path, rounds_data}
+use Rattle.jr_gen.specs.Rounds.{after_round, round_kind, round_at, round_of}
+use Rattle.jr_gen.specs.Scripts.{session_beginning, command, round_command, commands_data, ending, session_node, property_name, property_path, rounds_data}
 use Rattle.jr_gen.proofs.Lists.{IsGood}
 use Rattle.jr_gen.proofs.Paths.{name_utf8, node_is_path, node_name, node_utf8, number_is_long, property_is_path, property_named, property_utf8}
 use Rattle.jr_gen.proofs.Sizes.{draw_below}
@@ -63,11 +63,11 @@ refreshes =
     said (codes "refresh") (boolean false ∷ []) (made.Refresh false) refl
     (item_back 0 (boolean false) (items_of []) (boolean_back 0 false) nothing) (means _ _ tt _ refl refl)
 
-adds : (s : ℕ) → s < 64 → IsCommand (command (codes "add") (string (node_path s) ∷ []))
+adds : (s : ℕ) → s < 64 → IsCommand (command (codes "add") (string (session_node s) ∷ []))
 adds s less =
     let path : Path = node_name s ∷ [] in
-    said (codes "add") (string (node_path s) ∷ []) (made.Add path None) refl
-    (text_then (node_path s) [] (node_utf8 s less) nothing)
+    said (codes "add") (string (session_node s) ∷ []) (made.Add path None) refl
+    (text_then (session_node s) [] (node_utf8 s less) nothing)
     (means _ _ tt _ refl (means _ _ path _ (node_is_path s less) (means _ _ None _ refl refl)))
 
 gets : (s i : ℕ) → s < 64 → i < 8 → IsCommand (command (codes "get") (string (property_path s i) ∷ []))
@@ -77,15 +77,15 @@ gets s i less few =
     (text_then (property_path s i) [] (property_utf8 s i less few) nothing)
     (means _ _ tt _ refl (means _ _ path _ (property_is_path s i less few) refl))
 
-sets : (s i w : ℕ) → s < 64 → i < 8 → w < 2 ^ 63 → IsCommand (command_of s (round.Set i w))
+sets : (s i w : ℕ) → s < 64 → i < 8 → w < 2 ^ 63 → IsCommand (round_command s (round.Set i w))
 sets s i w less few small =
     let path : Path = node_name s ∷ [] in
     let name : Name = property_name i in
     let named = property_named i few in
     let property : Property = Single (value.Long (pos w)) in
-    said (codes "set") (string (node_path s) ∷ string (property_name i) ∷ number (unsigned w) ∷ [])
+    said (codes "set") (string (session_node s) ∷ string (property_name i) ∷ number (unsigned w) ∷ [])
     (made.Set path name property) refl
-    (text_then (node_path s) (string (property_name i) ∷ number (unsigned w) ∷ []) (node_utf8 s less)
+    (text_then (session_node s) (string (property_name i) ∷ number (unsigned w) ∷ []) (node_utf8 s less)
     (text_then (property_name i) (number (unsigned w) ∷ []) (name_utf8 (property_name i) named)
     (item_back 0 (number (unsigned w)) (items_of []) (number_back 0 w (omega (arith, small))) nothing)))
     (means _ _ tt _ refl
@@ -95,21 +95,21 @@ sets s i w less few small =
 -- ---- rounds
 
 -- a round's command, by its kind
-round_good : (s m x kind : ℕ) → s < 64 → 0 < m → m ≤ 64 → IsCommand (command_of s (round_of kind m x))
+round_good : (s m x kind : ℕ) → s < 64 → 0 < m → m ≤ 64 → IsCommand (round_command s (round_of kind m x))
 round_good s m x kind less some few = by (kind == 0) (kind == 1) (kind == 2)
   where
-    set : IsCommand (command_of s (round.Set (draw 2 8 x) (draw 3 1000 x)))
+    set : IsCommand (round_command s (round.Set (draw 2 8 x) (draw 3 1000 x)))
     set =
         sets s (draw 2 8 x) (draw 3 1000 x) less (draw_below 2 8 x (omega arith))
         (omega (arith, draw_below 3 1000 x (omega arith)))
 
-    got : IsCommand (command_of s (round.Get (draw 2 m x) (draw 3 8 x)))
+    got : IsCommand (round_command s (round.Get (draw 2 m x) (draw 3 8 x)))
     got =
         gets (draw 2 m x) (draw 3 8 x) (omega (arith, few, draw_below 2 m x some))
         (draw_below 3 8 x (omega arith))
 
     by : (a b c : Bool)
-        → IsCommand (command_of s
+        → IsCommand (round_command s
         (if a then round.Set (draw 2 8 x) (draw 3 1000 x)
         else if b then round.Save
         else if c then round.Get (draw 2 m x) (draw 3 8 x)
@@ -123,8 +123,8 @@ rounds_good : (k s m x : ℕ) → s < 64 → 0 < m → m ≤ 64 → All IsComman
 unfolding rounds_data
 rounds_good zero s m x less some few = All-nil IsCommand
 rounds_good (suc k) s m x less some few =
-    All-cons IsCommand (command_of s (round_at m x)) (rounds_data k s m (after_round x))
-    (round_good s m x (kind_at x) less some few) (rounds_good k s m (after_round x) less some few)
+    All-cons IsCommand (round_command s (round_at m x)) (rounds_data k s m (after_round x))
+    (round_good s m x (round_kind x) less some few) (rounds_good k s m (after_round x) less some few)
 
 two_good : (a b : Data) → IsCommand a → IsCommand b → All IsCommand (a ∷ b ∷ [])
 two_good a b first second =
@@ -134,7 +134,7 @@ two_good a b first second =
 pub commands_good : (s m x : ℕ) → s < 64 → 0 < m → m ≤ 64 → All IsCommand (commands_data s m x)
 commands_good s m x less some few =
     let rounds = rounds_good 100 s m x less some few in
-    let add : Data = command (codes "add") (string (node_path s) ∷ []) in
+    let add : Data = command (codes "add") (string (session_node s) ∷ []) in
     let save : Data = command (codes "save") [] in
-    All-append IsCommand (beginning s) (rounds_data 100 s m x ++ ending) (two_good add save (adds s less) saves)
+    All-append IsCommand (session_beginning s) (rounds_data 100 s m x ++ ending) (two_good add save (adds s less) saves)
     (All-append IsCommand (rounds_data 100 s m x) ending rounds (two_good _ _ writes_back reads_back))

@@ -12,7 +12,7 @@ use Rattle.jr_path.proofs.OwnNames.{is_plain_name, plain_name}
 use Rattle.jr_json.specs.Reading.{IsPropertyJson}
 use Rattle.jr_value.specs.declared.value.Property.TheVariants.{Single}
 use Rattle.jr_value.specs.declared.value.Value.TheVariants as value
-use Rattle.jr_gen.specs.Scripts.{node_path, property_name, property_path}
+use Rattle.jr_gen.specs.Scripts.{session_node, property_name, property_path}
 
 -- ---- what a test says of each number below another
 
@@ -60,18 +60,18 @@ name_utf8 text h = (h.characters, (h.scalar, sym h.spelled))
 slash_utf8 : (text : List ℕ) → IsUtf8 text → IsUtf8 (codes "/" ++ text)
 slash_utf8 text h = IsUtf8-append (codes "/") text (IsUtf8-are_ascii (codes "/") refl) h
 
-pub node_utf8 : (s : ℕ) → s < 64 → IsUtf8 (node_path s)
+pub node_utf8 : (s : ℕ) → s < 64 → IsUtf8 (session_node s)
 node_utf8 s less = slash_utf8 (node_name s) (name_utf8 (node_name s) (node_named s less))
 
 pub property_utf8 : (s i : ℕ) → s < 64 → i < 8 → IsUtf8 (property_path s i)
 property_utf8 s i less few =
-    IsUtf8-append (node_path s) (codes "/" ++ property_name i) (node_utf8 s less)
+    IsUtf8-append (session_node s) (codes "/" ++ property_name i) (node_utf8 s less)
     (slash_utf8 (property_name i) (name_utf8 (property_name i) (property_named i few)))
 
-pub node_is_path : (s : ℕ) → s < 64 → IsPath (node_path s) (node_name s ∷ [])
+pub node_is_path : (s : ℕ) → s < 64 → IsPath (session_node s) (node_name s ∷ [])
 node_is_path s less = record {
   are_names = All-cons IsName (node_name s) [] (node_named s less) (All-nil IsName);
-  spelled = sym (append-nil (node_path s));
+  spelled = sym (append-nil (session_node s));
 }
 
 pub property_is_path : (s i : ℕ) → s < 64 → i < 8 → IsPath (property_path s i) (node_name s ∷ property_name i ∷ [])
@@ -79,7 +79,7 @@ property_is_path s i less few = record {
   are_names =
       All-cons IsName (node_name s) (property_name i ∷ []) (node_named s less)
       (All-cons IsName (property_name i) [] (property_named i few) (All-nil IsName));
-  spelled = ap (λ (text : List ℕ). node_path s ++ text) (sym (append-nil (codes "/" ++ property_name i)));
+  spelled = ap (λ (text : List ℕ). session_node s ++ text) (sym (append-nil (codes "/" ++ property_name i)));
 }
 
 -- ---- values

@@ -7,12 +7,12 @@ use Rattle.jr_gen.specs.declared.rounds.Round.{Round}
 use Rattle.jr_gen.specs.declared.rounds.Round.TheVariants as round
 use Rattle.jr_gen.specs.Draws.{next}
 use Rattle.jr_gen.specs.Rounds.{round_at, after_round, after_rounds}
-use Rattle.jr_gen.specs.Scripts.{command_of, rounds_data, session_data, sessions_data, turns_data, script_data}
+use Rattle.jr_gen.specs.Scripts.{round_command, rounds_data, session_data, sessions_data, turns_data, script_data}
 
 none_of : (a b : Bool) → a ≡ false → b ≡ false → (a || b) ≡ false
 none_of a b p q = ap (λ (x : Bool). x || b) p ∙ q
 
-command_plain : (s : ℕ) (r : Round) → has_float (command_of s r) ≡ false
+command_plain : (s : ℕ) (r : Round) → has_float (round_command s r) ≡ false
 command_plain s (round.Set i w) = refl
 command_plain s round.Save = refl
 command_plain s (round.Get j i) = refl

@@ -24,7 +24,7 @@ use Rattle.jr_script.specs.declared.script.Script.{Script}
 use Rattle.jr_script.specs.declared.script.ScriptFault.TheVariants.{Bad}
 use Rattle.jr_script.specs.declared.script.TextFault.{TextFault}
 use Rattle.jr_gen.specs.Rounds.{after_rounds}
-use Rattle.jr_gen.specs.Scripts.{IsTurn, commands_data, listed, script_data, script_text, session_data, sessions_data, turns_data}
+use Rattle.jr_gen.specs.Scripts.{IsTurn, commands_data, json_list, script_data, script_text, session_data, sessions_data, turns_data}
 use Rattle.jr_gen.specs.Sizes.{HasAllCommands, IsOfSize, commands_in}
 use Rattle.jr_gen.proofs.Meanings.{IsAny, commands_good}
 use Rattle.jr_gen.proofs.Lists.{IsGood, are_back, are_meant}
@@ -49,7 +49,7 @@ AreAll P ds xs = (length xs ≡ length ds) × All P xs
 -- a list that isn't too long
 few_good : {X : Type 0} (n most rule : ℕ) (M : Data → Reading X) (P : X → Type 0) (ds : List Data)
     → length ds ≤ most → All (IsGood n M P) ds
-    → IsGood (suc n) (few_of most rule M) (AreAll P ds) (listed ds)
+    → IsGood (suc n) (few_of most rule M) (AreAll P ds) (json_list ds)
 few_good n most rule M P ds few h =
     let meant = are_meant n M P 0 ds h in
     record {
@@ -98,7 +98,7 @@ session_good s m x less few =
     let commands = few_good 1 10000 4 args.command_of IsAny (commands_data s m x) (omega (arith, commands_size s m x)) all in
     let cluster : ℕ = 1 + s % 2 in
     let a : Data = number (unsigned cluster) in
-    let b : Data = listed (commands_data s m x) in
+    let b : Data = json_list (commands_data s m x) in
     let near = cluster_near s m less in
     record {
       back =
@@ -175,8 +175,8 @@ whole_good seed m some few =
     let clusters : ℕ = min m 2 in
     let turns = turns_data (100 * m) m (after_rounds (100 * m) seed) in
     let a : Data = number (unsigned clusters) in
-    let b : Data = listed turns in
-    let c : Data = listed (sessions_data m 0 m seed) in
+    let b : Data = json_list turns in
+    let c : Data = json_list (sessions_data m 0 m seed) in
     let sessions =
     few_good 3 64 4 (session_of clusters) HasAllCommands (sessions_data m 0 m seed)
     (omega (arith, sessions_size m 0 m seed, few)) (sessions_good m 0 m seed (omega arith) few) in

@@ -5,8 +5,8 @@ use Rattle.jr_gen.specs.declared.rounds.Round.TheVariants as round
 use Rattle.jr_gen.specs.Draws.{draw, state_after}
 
 -- the kind of the round that begins at state x: four are equally likely
-abbrev pub kind_at : ℕ → ℕ
-kind_at x = draw 1 4 x
+abbrev pub round_kind : ℕ → ℕ
+round_kind x = draw 1 4 x
 
 -- the round of this kind that begins at state x; the script has m sessions
 abbrev pub round_of : (kind : ℕ) → (m : ℕ) → ℕ → Round
@@ -18,15 +18,15 @@ round_of kind m x =
 
 -- the round that begins at state x
 abbrev pub round_at : (m : ℕ) → ℕ → Round
-round_at m x = round_of (kind_at x) m x
+round_at m x = round_of (round_kind x) m x
 
 -- how many draws a round takes: its kind, and two more to set or to get a property
-abbrev pub draws_of : (kind : ℕ) → ℕ
-draws_of kind = if kind == 0 || kind == 2 then 3 else 1
+abbrev pub draws_taken : (kind : ℕ) → ℕ
+draws_taken kind = if kind == 0 || kind == 2 then 3 else 1
 
 -- the state that the round leaves which begins at state x
 abbrev pub after_round : ℕ → ℕ
-after_round x = state_after (draws_of (kind_at x)) x
+after_round x = state_after (draws_taken (round_kind x)) x
 
 -- the state that k rounds leave
 unfoldable pub after_rounds : (k : ℕ) → ℕ → ℕ

@@ -9,8 +9,8 @@ use Rattle.jr_gen.specs.Draws.{draw, next}
 use Rattle.jr_gen.specs.Rounds.{round_at, after_round, after_rounds}
 
 -- the node of session s
-abbrev pub node_path : ℕ → List ℕ
-node_path s = codes "/g" ++ decimal s
+abbrev pub session_node : ℕ → List ℕ
+session_node s = codes "/g" ++ decimal s
 
 -- the name of property i of a session's node
 abbrev pub property_name : ℕ → List ℕ
@@ -18,32 +18,32 @@ property_name i = codes "p" ++ decimal i
 
 -- the path of property i of the node of session s
 abbrev pub property_path : ℕ → ℕ → List ℕ
-property_path s i = node_path s ++ (codes "/" ++ property_name i)
+property_path s i = session_node s ++ (codes "/" ++ property_name i)
 
 -- a list of JSON values
-abbrev pub listed : List Data → Data
-listed ds = array (items_of ds)
+abbrev pub json_list : List Data → Data
+json_list ds = array (items_of ds)
 
 -- a command: its name, and its arguments
 abbrev pub command : List ℕ → List Data → Data
-command name arguments = listed (string name ∷ arguments)
+command name arguments = json_list (string name ∷ arguments)
 
 -- the command of a round of session s
-abbrev pub command_of : ℕ → Round → Data
-command_of s (round.Set i w) =
-    command (codes "set") (string (node_path s) ∷ string (property_name i) ∷ number (unsigned w) ∷ [])
-command_of s round.Save = command (codes "save") []
-command_of s (round.Get j i) = command (codes "get") (string (property_path j i) ∷ [])
-command_of s round.Refresh = command (codes "refresh") (boolean false ∷ [])
+abbrev pub round_command : ℕ → Round → Data
+round_command s (round.Set i w) =
+    command (codes "set") (string (session_node s) ∷ string (property_name i) ∷ number (unsigned w) ∷ [])
+round_command s round.Save = command (codes "save") []
+round_command s (round.Get j i) = command (codes "get") (string (property_path j i) ∷ [])
+round_command s round.Refresh = command (codes "refresh") (boolean false ∷ [])
 
 -- the commands of k rounds of session s, from state x on
 unfoldable pub rounds_data : (k : ℕ) → (s : ℕ) → (m : ℕ) → ℕ → List Data
 rounds_data zero s m x = []
-rounds_data (suc k) s m x = command_of s (round_at m x) ∷ rounds_data k s m (after_round x)
+rounds_data (suc k) s m x = round_command s (round_at m x) ∷ rounds_data k s m (after_round x)
 
 -- a session begins: it adds its node and saves it
-abbrev pub beginning : ℕ → List Data
-beginning s = command (codes "add") (string (node_path s) ∷ []) ∷ command (codes "save") [] ∷ []
+abbrev pub session_beginning : ℕ → List Data
+session_beginning s = command (codes "add") (string (session_node s) ∷ []) ∷ command (codes "save") [] ∷ []
 
 -- a session ends: the background work of its cluster node
 abbrev pub ending : List Data
@@ -51,13 +51,13 @@ ending = command (codes "backWrite") [] ∷ command (codes "backRead") [] ∷ []
 
 -- the commands of session s: a hundred rounds in between
 abbrev pub commands_data : (s : ℕ) → (m : ℕ) → ℕ → List Data
-commands_data s m x = beginning s ++ rounds_data 100 s m x ++ ending
+commands_data s m x = session_beginning s ++ rounds_data 100 s m x ++ ending
 
 -- session s; the two clusters take turns
 abbrev pub session_data : (s : ℕ) → (m : ℕ) → ℕ → Data
 session_data s m x = object
     (member (codes "cluster") (number (unsigned (1 + s % 2)))
-    (member (codes "commands") (listed (commands_data s m x)) no_members))
+    (member (codes "commands") (json_list (commands_data s m x)) no_members))
 
 -- k sessions from session s on, which begin at state x
 unfoldable pub sessions_data : (k : ℕ) → (s : ℕ) → (m : ℕ) → ℕ → List Data
@@ -77,8 +77,8 @@ IsTurn m d = (s : ℕ) × (s < m) × (d ≡ number (unsigned s))
 abbrev pub script_data : (seed : ℕ) → (m : ℕ) → Data
 script_data seed m = object
     (member (codes "clusters") (number (unsigned (min m 2)))
-    (member (codes "schedule") (listed (turns_data (100 * m) m (after_rounds (100 * m) seed)))
-    (member (codes "sessions") (listed (sessions_data m 0 m seed)) no_members)))
+    (member (codes "schedule") (json_list (turns_data (100 * m) m (after_rounds (100 * m) seed)))
+    (member (codes "sessions") (json_list (sessions_data m 0 m seed)) no_members)))
 
 -- compact JSON and a line end
 abbrev pub script_text : (seed : ℕ) → (m : ℕ) → List ℕ

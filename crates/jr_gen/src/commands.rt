@@ -2,7 +2,7 @@
 ghost use Rattle.std.specs.Prelude.{◌≡◌, ◌++◌, ◌∷◌, [], IfOk, OnOk, codes, map};
 ghost use Rattle.serde_json.specs.Data.{string};
 ghost use Rattle.serde_json.specs.View.{view};
-ghost use Rattle.jr_gen.specs.Scripts.{beginning, command, command_of, ending, property_path};
+ghost use Rattle.jr_gen.specs.Scripts.{session_beginning, command, round_command, ending, property_path};
 ghost use Rattle.jr_gen.specs.declared.rounds.Round.TheVariants.{Set};
 
 use crate::rounds::Round;
@@ -11,7 +11,7 @@ use std::alloc::{AllocError, Global};
 
 // The command of a round of a session.
 pub(crate) fn round_json(alloc: Global, session: u32, round: Round) -> Result<Json, AllocError>
-    ensures { IfOk result (λ json. view json ≡ command_of session round) }
+    ensures { IfOk result (λ json. view json ≡ round_command session round) }
 {
     match round {
         Round::Set(property, value) => set_json(alloc, session, property, value),
@@ -22,7 +22,7 @@ pub(crate) fn round_json(alloc: Global, session: u32, round: Round) -> Result<Js
 }
 
 fn set_json(alloc: Global, session: u32, property: u64, value: u64) -> Result<Json, AllocError>
-    ensures { IfOk result (λ json. view json ≡ command_of session (Set property value)) }
+    ensures { IfOk result (λ json. view json ≡ round_command session (Set property value)) }
 {
     let path = format!(in alloc; "/g{session}")?;
     let name = format!(in alloc; "p{property}")?;
@@ -51,7 +51,7 @@ pub(crate) fn push_beginning(
     session: u32,
 ) -> Result<(), AllocError>
     ensures { OnOk result
-        (map view commands.new.items ≡ map view commands.old.items ++ beginning session) }
+        (map view commands.new.items ≡ map view commands.old.items ++ session_beginning session) }
 {
     let path = format!(in alloc; "/g{session}")?;
     commands.push(json!(in alloc; ["add", path.as_str()])?)?;

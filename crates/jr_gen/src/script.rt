@@ -2,7 +2,7 @@
 ghost use Rattle.std.specs.Prelude.{◌≡◌, ◌<◌, ◌*◌, ◌++◌, IfOk, OnOk, map, string_bytes};
 ghost use Rattle.serde_json.specs.View.{view};
 ghost use Rattle.jr_gen.specs.Rounds.{after_rounds};
-ghost use Rattle.jr_gen.specs.Scripts.{commands_data, listed, rounds_data, script_data, script_text, session_data, sessions_data, turns_data};
+ghost use Rattle.jr_gen.specs.Scripts.{commands_data, json_list, rounds_data, script_data, script_text, session_data, sessions_data, turns_data};
 
 use crate::commands::{push_beginning, push_end, round_json};
 use crate::draws::Draws;
@@ -46,7 +46,7 @@ fn script_json(alloc: Global, seed: u64, sessions: u32) -> Result<Json, AllocErr
 fn sessions_json(alloc: Global, draws: &mut Draws, sessions: u32) -> Result<Json, AllocError>
     requires { 0 < sessions }
     ensures json { IfOk result (λ json.
-        view json ≡ listed (sessions_data sessions 0 sessions draws.old.state)) }
+        view json ≡ json_list (sessions_data sessions 0 sessions draws.old.state)) }
     ensures state { OnOk result (draws.new.state ≡ after_rounds (100 * sessions) draws.old.state) }
 {
     let mut items = Vec::new(alloc);
@@ -78,7 +78,7 @@ fn commands_json(
 ) -> Result<Json, AllocError>
     requires { 0 < sessions }
     ensures json { IfOk result (λ json.
-        view json ≡ listed (commands_data session sessions draws.old.state)) }
+        view json ≡ json_list (commands_data session sessions draws.old.state)) }
     ensures state { OnOk result (draws.new.state ≡ after_rounds 100 draws.old.state) }
 {
     let mut commands = Vec::new(alloc);
@@ -110,7 +110,7 @@ fn push_rounds(
 fn schedule_json(alloc: Global, draws: &mut Draws, sessions: u32) -> Result<Json, AllocError>
     requires { 0 < sessions }
     ensures { IfOk result (λ json.
-        view json ≡ listed (turns_data (100 * sessions) sessions draws.old.state)) }
+        view json ≡ json_list (turns_data (100 * sessions) sessions draws.old.state)) }
 {
     let most = sessions as u64;
     let mut turns = Vec::new(alloc);

@@ -4,7 +4,7 @@ use Rattle.std.specs.declared.alloc.Global.{Global}
 use Rattle.std.specs.declared.io.buffered.BufWriter.{BufWriter}
 
 -- the reader, how many bytes it has given, and how many calls have failed
-pub record Reading (R : Type 0) : Type 0 where
+pub record ReaderState (R : Type 0) : Type 0 where
   pub inner : R
   pub given : ℕ
   pub faults : ℕ

@@ -20,17 +20,17 @@ IsDrained None after = after ≡ None
 IsDrained (Some left) after = after ≡ Some []
 
 -- the first n bytes of the piece were taken, behind those taken before, and nothing else
-abbrev pub Grows : Option (List ℕ) → Option (List ℕ) → List ℕ → ℕ → Type 0
-Grows None after piece n = after ≡ None
-Grows (Some written) after piece n = after ≡ Some (written ++ take n piece)
+abbrev pub TakesFirst : Option (List ℕ) → Option (List ℕ) → List ℕ → ℕ → Type 0
+TakesFirst None after piece n = after ≡ None
+TakesFirst (Some written) after piece n = after ≡ Some (written ++ take n piece)
 
 -- some first bytes of the piece were taken, but not all
 abbrev pub GrowsByPart : Option (List ℕ) → Option (List ℕ) → List ℕ → Type 0
-GrowsByPart before after piece = (n : ℕ) × (n < length piece) × Grows before after piece n
+GrowsByPart before after piece = (n : ℕ) × (n < length piece) × TakesFirst before after piece n
 
 -- some first bytes of the piece were taken, or all
 abbrev pub GrowsWithin : Option (List ℕ) → Option (List ℕ) → List ℕ → Type 0
-GrowsWithin before after piece = (n : ℕ) × (n ≤ length piece) × Grows before after piece n
+GrowsWithin before after piece = (n : ℕ) × (n ≤ length piece) × TakesFirst before after piece n
 
 -- all of the bytes taken were passed on
 abbrev pub IsPassedOn : Option (List ℕ) → Option ℕ → Type 0

@@ -19,7 +19,7 @@ pub struct StdSource<R> {
 }
 
 impl<R> Model for StdSource<R> {
-    ghost use Rattle.jr_io.specs.Standard.{Reading};
+    ghost use Rattle.jr_io.specs.Standard.{ReaderState};
 
     ghost Value = { Reading R };
 

@@ -137,8 +137,8 @@ abbrev pub is_checked_in : Nodes → Path → Bool
 is_checked_in t q = is_versionable t q && is_flag false (property_at t q is_checked_out)
 
 -- those of the writes that change something
-abbrev pub needed : Nodes → List Write → List Write
-needed t ws = filter (is_change t (applied None t ws)) ws
+abbrev pub needed_writes : Nodes → List Write → List Write
+needed_writes t ws = filter (is_change t (applied None t ws)) ws
 
 -- the writes that add nodes with their properties
 abbrev pub adding : Nodes → List Write

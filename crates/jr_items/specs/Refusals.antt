@@ -63,12 +63,12 @@ abbrev pub checked_in : Path → Refusal
 checked_in p = refusal_at 8 p
 
 -- 9: a reference names no node
-abbrev pub dangling : Item → Refusal
-dangling item = refusal 9 (datum.Item item ∷ [])
+abbrev pub dangling_refusal : Item → Refusal
+dangling_refusal item = refusal 9 (datum.Item item ∷ [])
 
 -- 10: another commit, made or under way, clashes in the item
-abbrev pub clash : Item → Revision → Refusal
-clash item other = refusal 10 (datum.Item item ∷ datum.Revision other ∷ [])
+abbrev pub clash_refusal : Item → Revision → Refusal
+clash_refusal item other = refusal 10 (datum.Item item ∷ datum.Revision other ∷ [])
 
 -- 11: the text is no query from that byte on
 abbrev pub no_query : ℕ → Refusal

@@ -2,7 +2,7 @@
 ghost use Rattle.std.specs.Prelude.{◌≡◌, ◌∷◌, [], IfOk, OnErr};
 ghost use Rattle.std.specs.Option.{option_copied, option_map_or};
 ghost use Rattle.jr_tree.specs.declared.shared.Datum.TheVariants as datum;
-ghost use Rattle.jr_items.specs.Refusals.{IsOrMemory, breaks_rule, checked_in, clash, dangling, locked, no_checkpoint, no_identifier, no_item, no_query, no_type, out_of_memory, over_limit, own_item_rule, own_rule, refusal, refusal_at, taken, unsupported, wrong_kind};
+ghost use Rattle.jr_items.specs.Refusals.{IsOrMemory, breaks_rule, checked_in, clash_refusal, dangling_refusal, locked, no_checkpoint, no_identifier, no_item, no_query, no_type, out_of_memory, over_limit, own_item_rule, own_rule, refusal, refusal_at, taken, unsupported, wrong_kind};
 
 use jr_path::{DeepCopy, Item, List, Name, Path, Text};
 use jr_rev::Revision;
@@ -85,14 +85,14 @@ pub fn checked_in(alloc: Global, path: &Path) -> Refusal
 
 /// A reference names no node (JSR 283, 3.8.2 Referential Integrity).
 pub fn dangling(alloc: Global, item: &Item) -> Refusal
-    ensures { IsOrMemory (dangling item.now) result }
+    ensures { IsOrMemory (dangling_refusal item.now) result }
 {
     or_memory(alloc, of_item(alloc, 9, item))
 }
 
 /// Another commit, made or under way, clashes in the item.
 pub fn clash(alloc: Global, item: &Item, other: Revision) -> Refusal
-    ensures { IsOrMemory (clash item.now other) result }
+    ensures { IsOrMemory (clash_refusal item.now other) result }
 {
     or_memory(alloc, of_clash(alloc, item, other))
 }
@@ -178,7 +178,7 @@ fn of_item(alloc: Global, number: u8, item: &Item) -> Result<Refusal, AllocError
 }
 
 fn of_clash(alloc: Global, item: &Item, other: Revision) -> Result<Refusal, AllocError>
-    ensures { IfOk result (λ made. made ≡ clash item.now other) }
+    ensures { IfOk result (λ made. made ≡ clash_refusal item.now other) }
 {
     of_two(alloc, 10, Datum::Item(item.copy()?), Datum::Revision(other))
 }

@@ -5,17 +5,17 @@ use Rattle.std.proofs.lemmas.Int.{ints}
 use Rattle.std.specs.Prelude.{option_map, FitsSigned, if◌then◌else◌}
 use Rattle.std.specs.Int.{w64}
 use Rattle.serde_json.specs.Find.{as_i64}
-use Rattle.jr_value.specs.Ranges.{IsReadable, AreReadable, IsReadableProperty}
+use Rattle.jr_value.specs.Ranges.{IsReadable, AreOfKind, IsReadableProperty}
 use Rattle.jr_value.specs.declared.value.Kind.{Kind}
 use Rattle.jr_value.specs.declared.value.Value.{Value}
 use Rattle.jr_value.specs.declared.value.Value.TheVariants as value
 use Rattle.jr_value.specs.declared.value.Property.{Property}
 use Rattle.jr_value.specs.declared.value.Property.TheVariants.{Single, Many}
 use Rattle.jr_value.proofs.Named.{identifier_back}
-use Rattle.jr_json.specs.Json.{whole, value_data, value_items, property_data}
+use Rattle.jr_json.specs.Json.{whole_number, value_data, value_items, property_data}
 use Rattle.jr_json.specs.Reading.{IsValueJson, AreValuesJson, IsPropertyJson}
 
-whole_back : (n : ℤ) → FitsSigned w64 n → as_i64 (whole n) ≡ Some n
+whole_back : (n : ℤ) → FitsSigned w64 n → as_i64 (whole_number n) ≡ Some n
 whole_back (pos n) fits =
     let small : n < 2 ^ 63 = grind (arith, ints, fits) in
     ap (λ (b : Bool). if b then Some (pos n) else None) (lt-ltb n (2 ^ 63) small)
@@ -33,7 +33,7 @@ value_back (value.Reference id) h = sym (ap (option_map value.Reference) (identi
 value_back (value.WeakReference id) h = sym (ap (option_map value.WeakReference) (identifier_back id h))
 value_back (value.Uri t) h = refl
 
-values_back : (k : Kind) (xs : List Value) → AreReadable k xs → AreValuesJson (value_items xs) k xs
+values_back : (k : Kind) (xs : List Value) → AreOfKind k xs → AreValuesJson (value_items xs) k xs
 values_back k [] h = tt
 values_back k (x ∷ xs) h = (value_back x h.0, h.1, values_back k xs h.2)
 

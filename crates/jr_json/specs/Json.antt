@@ -13,9 +13,9 @@ use Rattle.jr_value.specs.declared.value.Property.{Property}
 use Rattle.jr_value.specs.declared.value.Property.TheVariants.{Single, Many}
 
 -- a whole number
-abbrev pub whole : ℤ → Num
-whole (pos n) = unsigned n
-whole (negsuc n) = negative (negsuc n)
+abbrev pub whole_number : ℤ → Num
+whole_number (pos n) = unsigned n
+whole_number (negsuc n) = negative (negsuc n)
 
 -- an object with one member
 abbrev pub tagged : List ℕ → Data → Data
@@ -25,8 +25,8 @@ tagged name d = object (member name d no_members)
 abbrev pub value_data : Value → Data
 value_data (value.Str t) = string t
 value_data (value.Binary bytes) = tagged (codes "binary") (string (encode_of standard bytes))
-value_data (value.Long n) = number (whole n)
-value_data (value.Date n) = tagged (codes "date") (number (whole n))
+value_data (value.Long n) = number (whole_number n)
+value_data (value.Date n) = tagged (codes "date") (number (whole_number n))
 value_data (value.Boolean b) = boolean b
 value_data (value.Name n) = tagged (codes "name") (string n)
 value_data (value.Path p) = tagged (codes "path") (string (path_text p))

@@ -25,12 +25,12 @@ use Rattle.jr_part.specs.Parts.{ChildNames, has_name}
 use Rattle.jr_order.specs.declared.children.Birth.{Birth}
 
 -- with one child more, in the place of one of its name
-abbrev pub with_name : ChildNames → Name × Option Revision → ChildNames
-with_name names e = insert_entry name_cmp names e.0 e.1
+abbrev pub with_ordered_name : ChildNames → Name × Option Revision → ChildNames
+with_ordered_name names e = insert_entry name_cmp names e.0 e.1
 
 -- children by their names
 abbrev pub by_name : ChildNames → ChildNames
-by_name rest = fold with_name [] rest
+by_name rest = fold with_ordered_name [] rest
 
 -- by the revision that added a child, what is pending last, and of one birth by name
 abbrev pub birth_cmp : Birth → Birth → Ordering

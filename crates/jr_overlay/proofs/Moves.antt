@@ -19,7 +19,7 @@ use Rattle.jr_part.proofs.Above.{above}
 use Rattle.jr_part.proofs.Order.{front}
 use Rattle.jr_overlay.specs.Overlays.{whole_view}
 use Rattle.jr_overlay.specs.Drafts.{Steps, drafted, with_step}
-use Rattle.jr_overlay.specs.Views.{KeepTree, all_moved, moved_path, step_at, with_moved}
+use Rattle.jr_overlay.specs.Views.{KeepTree, all_moved, moved_path, step_at, with_node_moved}
 use Rattle.jr_overlay.proofs.Below.{at_under}
 use Rattle.jr_overlay.proofs.Children.{ends}
 use Rattle.jr_overlay.proofs.KeepingSteps.{at_step, below_parent, under_more}
@@ -65,10 +65,10 @@ module _ (p q : Path) where
   sorted-moved : (steps : Steps) (es : Nodes) → is_sorted path_cmp steps ≡ true → is_sorted path_cmp (all_moved p q steps es) ≡ true
   sorted-moved steps [] s = s
   sorted-moved steps (e ∷ es) s =
-      sorted-moved (with_moved p q steps e) es
+      sorted-moved (with_node_moved p q steps e) es
       (sorted_insert path_cmp path_total (moved_path p q e.0) (Some e.1) (with_step steps e.0 None) (sorted_insert path_cmp path_total e.0 None steps s))
 
-  at_moved : (steps : Steps) (e : Path × Node) (r : Path) → step_at (with_moved p q steps e) r ≡ cond (eq_by_cmp path_cmp r (moved_path p q e.0)) (Some (Some e.1)) (cond (eq_by_cmp path_cmp r e.0) (Some None) (step_at steps r))
+  at_moved : (steps : Steps) (e : Path × Node) (r : Path) → step_at (with_node_moved p q steps e) r ≡ cond (eq_by_cmp path_cmp r (moved_path p q e.0)) (Some (Some e.1)) (cond (eq_by_cmp path_cmp r e.0) (Some None) (step_at steps r))
   at_moved steps e r =
       at_step (with_step steps e.0 None) (moved_path p q e.0) (Some e.1) r
       ∙ ap (λ (o : Option (Option Node)). cond (eq_by_cmp path_cmp r (moved_path p q e.0)) (Some (Some e.1)) o) (at_step steps e.0 None r)
@@ -77,7 +77,7 @@ module _ (p q : Path) where
   step_out : (steps : Steps) (es : Nodes) (r : Path) → is_under r q ≡ false → step_at (all_moved p q steps es) r ≡ cond (is_some (node_at es r)) (Some None) (step_at steps r)
   step_out steps [] r out = refl
   step_out steps (e ∷ es) r out =
-      step_out (with_moved p q steps e) es r out
+      step_out (with_node_moved p q steps e) es r out
       ∙ (ap (λ (o : Option (Option Node)). cond (is_some (node_at es r)) (Some None) o)
       (at_moved steps e r ∙ ap (λ b. cond b (Some (Some e.1)) (cond (eq_by_cmp path_cmp r e.0) (Some None) (step_at steps r))) (elsewhere (eq_by_cmp path_cmp r (moved_path p q e.0)) refl))
       ∙ by (eq_by_cmp path_cmp r e.0) (node_at es r))
@@ -96,7 +96,7 @@ module _ (p q : Path) where
       → step_at (all_moved p q steps es) (q ++ m) ≡ placed (node_at es (p ++ m)) (step_at steps (q ++ m))
   step_in steps [] s under m out = refl
   step_in steps (e ∷ es) s under m out =
-      step_in (with_moved p q steps e) es (second _ _ s) (second _ _ under) m out
+      step_in (with_node_moved p q steps e) es (second _ _ s) (second _ _ under) m out
       ∙ (ap (λ (o : Option (Option Node)). placed (node_at es (p ++ m)) o)
       (at_moved steps e (q ++ m)
       ∙ (ap (λ b. cond b (Some (Some e.1)) (cond (eq_by_cmp path_cmp (q ++ m) e.0) (Some None) (step_at steps (q ++ m)))) same_place

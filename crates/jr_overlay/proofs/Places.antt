@@ -23,7 +23,7 @@ use Rattle.jr_overlay.specs.declared.overlay.Change.{Change}
 use Rattle.jr_overlay.specs.Overlays.{Changed, change_at, dated_as}
 use Rattle.jr_overlay.specs.Drafts.{Steps, with_change, with_steps}
 use Rattle.jr_overlay.proofs.SideBySide.{below_of}
-use Rattle.jr_overlay.specs.Committing.{moved, place_at, untouched, with_new_at, with_places, without_places}
+use Rattle.jr_overlay.specs.Committing.{change_moved, place_at, untouched, with_new_at, with_places, without_places}
 
 path_ties : IsEquivalence (eq_by_cmp path_cmp)
 path_ties = eq_by_cmp_equiv path_total
@@ -170,18 +170,18 @@ moved_new t c ps e none apart =
     places_other t (insert_entry path_cmp c e.0 (place_at t e.0)) ps e.0 apart
     ∙ (lookup-insert_entry path_cmp path_total e.0 e.0 (place_at t e.0) c
     ∙ ap (λ b. cond b (Some (place_at t e.0)) (change_at c e.0)) (path_ties.refl e.0)) in
-    ap (λ (o : Option Change). option_map_or (λ x. set_value (is_at (path_cmp e.0)) (with_places t (insert_entry path_cmp c e.0 (place_at t e.0)) ps) (moved x e.1)) o (with_places t (insert_entry path_cmp c e.0 (place_at t e.0)) ps)) there
-    ∙ (set-places e.0 (moved (place_at t e.0) e.1) t (insert_entry path_cmp c e.0 (place_at t e.0)) ps apart
-    ∙ (ap (λ (d : Changed). with_places t d ps) (set-insert_same e.0 (moved (place_at t e.0) e.1) (place_at t e.0) c)
+    ap (λ (o : Option Change). option_map_or (λ x. set_value (is_at (path_cmp e.0)) (with_places t (insert_entry path_cmp c e.0 (place_at t e.0)) ps) (change_moved x e.1)) o (with_places t (insert_entry path_cmp c e.0 (place_at t e.0)) ps)) there
+    ∙ (set-places e.0 (change_moved (place_at t e.0) e.1) t (insert_entry path_cmp c e.0 (place_at t e.0)) ps apart
+    ∙ (ap (λ (d : Changed). with_places t d ps) (set-insert_same e.0 (change_moved (place_at t e.0) e.1) (place_at t e.0) c)
     ∙ ap (λ (o : Option Change). with_places t (insert_entry path_cmp c e.0 (record { old = option_map_or (λ x. x.old) o (node_at t e.0); new = option_map (dated_as (option_map_or (λ x. x.old) o (node_at t e.0))) e.1 })) ps) (sym none)))
 
 -- a step's node moves into the place of a change that was there
 moved_there : (t : Nodes) (c : Changed) (ps : List Path) (e : Path × Option Node) (z : Change) → InOrder c → change_at c e.0 ≡ Some z → list_any (eq_by_cmp path_cmp e.0) ps ≡ false
     → with_new_at (with_places t c ps) e ≡ with_places t (with_change t c e) ps
 moved_there t c ps e z s some apart =
-    ap (λ (o : Option Change). option_map_or (λ x. set_value (is_at (path_cmp e.0)) (with_places t c ps) (moved x e.1)) o (with_places t c ps)) (places_other t c ps e.0 apart ∙ some)
-    ∙ (set-places e.0 (moved z e.1) t c ps apart
-    ∙ (ap (λ (d : Changed). with_places t d ps) (put_there e.0 (moved z e.1) z c s some)
+    ap (λ (o : Option Change). option_map_or (λ x. set_value (is_at (path_cmp e.0)) (with_places t c ps) (change_moved x e.1)) o (with_places t c ps)) (places_other t c ps e.0 apart ∙ some)
+    ∙ (set-places e.0 (change_moved z e.1) t c ps apart
+    ∙ (ap (λ (d : Changed). with_places t d ps) (put_there e.0 (change_moved z e.1) z c s some)
     ∙ ap (λ (o : Option Change). with_places t (insert_entry path_cmp c e.0 (record { old = option_map_or (λ x. x.old) o (node_at t e.0); new = option_map (dated_as (option_map_or (λ x. x.old) o (node_at t e.0))) e.1 })) ps) (sym some)))
 
 -- a path below all of the steps is none of theirs

@@ -29,10 +29,10 @@ abbrev pub without_places : Changed → List Path → Changed
 without_places c ps = fold (λ c p. remove_entry (is_at (path_cmp p)) c) c ps
 
 -- a change with this node in the view, dated as the one that it keeps
-abbrev pub moved : Change → Option Node → Change
-moved x node = record x { new = option_map (dated_as x.old) node }
+abbrev pub change_moved : Change → Option Node → Change
+change_moved x node = record x { new = option_map (dated_as x.old) node }
 
 -- the changes with a step's node in the place that is there for it
 abbrev pub with_new_at : Changed → Path × Option Node → Changed
 with_new_at c e =
-    option_map_or (λ x. set_value (is_at (path_cmp e.0)) c (moved x e.1)) (change_at c e.0) c
+    option_map_or (λ x. set_value (is_at (path_cmp e.0)) c (change_moved x e.1)) (change_at c e.0) c

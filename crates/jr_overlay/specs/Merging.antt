@@ -34,6 +34,6 @@ abbrev pub with_copy : Nodes → Path → Option Node → Nodes
 with_copy t p node = option_map_or (insert_entry path_cmp t p) node t
 
 -- the children's names with one that is there as this node, or without it where there is none
-abbrev pub with_name : ChildNames → Name → Option Node → ChildNames
-with_name names n node = option_map_or (λ x. insert_entry name_cmp names n x.born) node
+abbrev pub with_child_name : ChildNames → Name → Option Node → ChildNames
+with_child_name names n node = option_map_or (λ x. insert_entry name_cmp names n x.born) node
     (remove_entry (is_at (name_cmp n)) names)

@@ -47,10 +47,10 @@ abbrev pub moved_path : Path → Path → Path → Path
 moved_path p q r = q ++ drop (length p) r
 
 -- steps that take a node from its place and put it at its new one, as it was
-abbrev pub with_moved : Path → Path → Steps → Path × Node → Steps
-with_moved p q steps e =
+abbrev pub with_node_moved : Path → Path → Steps → Path × Node → Steps
+with_node_moved p q steps e =
     with_step (with_step steps e.0 None) (moved_path p q e.0) (Some e.1)
 
 -- steps that move each of these nodes so
 abbrev pub all_moved : Path → Path → Steps → Nodes → Steps
-all_moved p q steps nodes = fold (with_moved p q) steps nodes
+all_moved p q steps nodes = fold (with_node_moved p q) steps nodes

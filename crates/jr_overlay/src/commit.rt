@@ -5,7 +5,7 @@ ghost use Rattle.std.specs.Map.Iter.{deref};
 ghost use Rattle.std.specs.Option.{option_map};
 ghost use Rattle.jr_tree.specs.Trees.{born_of, node_at};
 ghost use Rattle.jr_overlay.specs.Overlays.{dated_as};
-ghost use Rattle.jr_overlay.specs.Committing.{moved, place_at, untouched, with_new_at, with_places, without_places};
+ghost use Rattle.jr_overlay.specs.Committing.{change_moved, place_at, untouched, with_new_at, with_places, without_places};
 
 use crate::Change;
 use jr_part::Part;
@@ -115,7 +115,7 @@ pub(crate) fn move_in(changes: &mut Keyed<Path, Change>, steps: Steps)
 impl Change {
     // Takes a node for the view, dated as what stood at the base.
     fn take(&mut self, node: Option<Node>)
-        ensures { self.exit.now ≡ moved self.entry.now node }
+        ensures { self.exit.now ≡ change_moved self.entry.now node }
     {
         self.new = dated(node, &self.old);
     }

@@ -5,7 +5,7 @@ ghost use Rattle.std.specs.Option.{option_copied, unwrap_or};
 ghost use Rattle.std.specs.Map.Iter.{deref_pair};
 ghost use Rattle.jr_path.specs.Names.{name_cmp};
 ghost use Rattle.jr_part.specs.Parts.{list_at};
-ghost use Rattle.jr_overlay.specs.Merging.{with_name};
+ghost use Rattle.jr_overlay.specs.Merging.{with_child_name};
 ghost use Rattle.jr_overlay.specs.Overlays.{sighted, with_child};
 
 use crate::{Change, Overlay};
@@ -114,7 +114,7 @@ fn put_child(names: &mut Names, path: &Path, at: &Path, change: &Change) -> Resu
 }
 
 fn put_name(names: &mut Names, name: &Name, node: &Option<Node>) -> Result<(), AllocError>
-    ensures { OnOk result (names.new ≡ with_name names.old name.now node.now) }
+    ensures { OnOk result (names.new ≡ with_child_name names.old name.now node.now) }
 {
     match node {
         Some(node) => names.put(name.copy()?, node.born),

@@ -19,7 +19,7 @@ use Rattle.jr_path.proofs.Maps.{name_exact}
 use Rattle.jr_rev.specs.declared.revision.Revision.{Revision}
 use Rattle.jr_tree.proofs.Entries.{first, second}
 use Rattle.jr_part.specs.Parts.{ChildNames}
-use Rattle.jr_part.specs.Follows.{IsGapOf, IsPlaceOf}
+use Rattle.jr_part.specs.Follows.{IsNameGap, IsNamePlace}
 
 turned : (a b : Name) (o : Ordering) → name_cmp a b ≡ o → name_cmp b a ≡ ordering_reverse o
 turned a b o h = nat_list_cmp_total.antisymm b a ∙ ap ordering_reverse h
@@ -43,7 +43,7 @@ rises_at (e ∷ es) h (suc i) (suc j) d less within = rises_at es (second _ _ h)
 in_order : (es : ChildNames) → is_sorted name_cmp es ≡ true → IsSortedBy (λ a b. is_lt (name_cmp a.0 b.0)) es
 in_order es h j d low high = ap is_lt (turned (get_or es j d).0 (get_or es (j + 1) d).0 Less (rises_at es h j (j + 1) d (omega arith) high))
 
-pub place_is : (es : ChildNames) (n : Name) (r : Result ℕ ℕ) → is_sorted name_cmp es ≡ true → IsSearchInRange r (length es) → IsBinarySearchResult (λ y. name_cmp y.0 n) es r → MatchResult r (IsPlaceOf es n) (IsGapOf es n)
+pub place_is : (es : ChildNames) (n : Name) (r : Result ℕ ℕ) → is_sorted name_cmp es ≡ true → IsSearchInRange r (length es) → IsBinarySearchResult (λ y. name_cmp y.0 n) es r → MatchResult r (IsNamePlace es n) (IsNameGap es n)
 place_is es n (Ok i) sorted bound h = record { within = bound; there = λ d. name_exact (get_or es i d).0 n (h d) }
 place_is es n (Err i) sorted bound h =
     let parts = h (searchable_from_sorted nat_list_cmp_total (λ (e : Name × Option Revision). e.0) es n (in_order es sorted)) in
@@ -59,7 +59,7 @@ place_is es n (Err i) sorted bound h =
 abbrev IsFront : Name → ChildNames → ℕ → Type 0
 IsFront n es i = AllWithin (λ e. name_cmp e.0 n ≡ Less) es 0 i
 
-front_of : (n : Name) (es : ChildNames) (i : ℕ) → is_sorted name_cmp es ≡ true → IsPlaceOf es n i → IsFront n es i
+front_of : (n : Name) (es : ChildNames) (i : ℕ) → is_sorted name_cmp es ≡ true → IsNamePlace es n i → IsFront n es i
 front_of n es i sorted place j d low high = ap (name_cmp (get_or es j d).0) (sym (place.there d)) ∙ rises_at es sorted j i d high place.within
 
 module _ (n : Name) where
@@ -79,10 +79,10 @@ module _ (n : Name) where
       ap (λ (fs : ChildNames). e ∷ fs) (remove_at es i (omega arith) (λ j d low high. front (suc j) d (omega arith) (omega arith)) there)
       ∙ sym (ap (λ o. cond (is_eq o) es (e ∷ remove_entry (is_at (name_cmp n)) es)) (turned e.0 n Less (front 0 e (omega arith) (omega arith))))
 
-  pub set_found : (v : Option Revision) (es : ChildNames) (i : ℕ) → is_sorted name_cmp es ≡ true → IsPlaceOf es n i → set es i (n, v) ≡ insert_entry name_cmp es n v
+  pub set_found : (v : Option Revision) (es : ChildNames) (i : ℕ) → is_sorted name_cmp es ≡ true → IsNamePlace es n i → set es i (n, v) ≡ insert_entry name_cmp es n v
   set_found v es i sorted place = set_at v es i place.within (front_of n es i sorted place) place.there
 
-  pub remove_found : (es : ChildNames) (i : ℕ) → is_sorted name_cmp es ≡ true → IsPlaceOf es n i → remove es i ≡ remove_entry (is_at (name_cmp n)) es
+  pub remove_found : (es : ChildNames) (i : ℕ) → is_sorted name_cmp es ≡ true → IsNamePlace es n i → remove es i ≡ remove_entry (is_at (name_cmp n)) es
   remove_found es i sorted place = remove_at es i place.within (front_of n es i sorted place) place.there
 
   -- ---- where it would go
@@ -99,7 +99,7 @@ module _ (n : Name) where
       ap (λ (fs : ChildNames). e ∷ fs) (insert_at v es i (omega arith) (λ j d low high. front (suc j) d (omega arith) (omega arith)) (λ j d low high. back (suc j) d (omega arith) (omega arith)))
       ∙ sym (ap (λ o. match_ordering o ((n, v) ∷ e ∷ es) ((e.0, v) ∷ es) (e ∷ insert_entry name_cmp es n v)) (turned e.0 n Less (front 0 e (omega arith) (omega arith))))
 
-  pub insert_gap : (v : Option Revision) (es : ChildNames) (i : ℕ) → IsGapOf es n i → insert es i (n, v) ≡ insert_entry name_cmp es n v
+  pub insert_gap : (v : Option Revision) (es : ChildNames) (i : ℕ) → IsNameGap es n i → insert es i (n, v) ≡ insert_entry name_cmp es n v
   insert_gap v es i gap = insert_at v es i gap.within gap.front gap.back
 
   stays_out : (es : ChildNames) (i : ℕ) → i ≤ length es → IsFront n es i → IsBack es i → remove_entry (is_at (name_cmp n)) es ≡ es
@@ -111,5 +111,5 @@ module _ (n : Name) where
       ap (λ o. cond (is_eq o) es (e ∷ remove_entry (is_at (name_cmp n)) es)) (turned e.0 n Less (front 0 e (omega arith) (omega arith)))
       ∙ ap (λ (fs : ChildNames). e ∷ fs) (stays_out es i (omega arith) (λ j d low high. front (suc j) d (omega arith) (omega arith)) (λ j d low high. back (suc j) d (omega arith) (omega arith)))
 
-  pub remove_gap : (es : ChildNames) (i : ℕ) → IsGapOf es n i → remove_entry (is_at (name_cmp n)) es ≡ es
+  pub remove_gap : (es : ChildNames) (i : ℕ) → IsNameGap es n i → remove_entry (is_at (name_cmp n)) es ≡ es
   remove_gap es i gap = stays_out es i gap.within gap.front gap.back

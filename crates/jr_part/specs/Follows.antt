@@ -71,12 +71,12 @@ followed by k ws = record {
 }
 
 -- the name stands at place i
-pub record IsPlaceOf (names : ChildNames) (name : Name) (i : ℕ) : Type 0 where
+pub record IsNamePlace (names : ChildNames) (name : Name) (i : ℕ) : Type 0 where
   pub within : i < length names
   pub there : HoldsAt (λ e. e.0 ≡ name) names i
 
 -- the name is none of these, and would go to place i
-pub record IsGapOf (names : ChildNames) (name : Name) (i : ℕ) : Type 0 where
+pub record IsNameGap (names : ChildNames) (name : Name) (i : ℕ) : Type 0 where
   pub within : i ≤ length names
   pub front : AllWithin (λ e. name_cmp e.0 name ≡ Less) names 0 i
   pub back : AllWithin (λ e. name_cmp e.0 name ≡ Greater) names i (length names)

@@ -72,11 +72,11 @@ AsksBelow k p (need.Subtree q) = ⊥
 AsksBelow k p need.All = ⊥
 
 -- what a need asks of a tree of which so much is known: nodes, and children of nodes
-abbrev pub Asks : Knowledge → Need → Need → Type 0
-Asks k (need.Node p) asked = asked ≡ need.Node p
-Asks k (need.Children p) asked = asked ≡ need.Children p
-Asks k (need.Subtree p) asked = AsksBelow k p asked
-Asks k need.All asked = AsksBelow k [] asked
+abbrev pub AsksOf : Knowledge → Need → Need → Type 0
+AsksOf k (need.Node p) asked = asked ≡ need.Node p
+AsksOf k (need.Children p) asked = asked ≡ need.Children p
+AsksOf k (need.Subtree p) asked = AsksBelow k p asked
+AsksOf k need.All asked = AsksBelow k [] asked
 
 -- the answer to what is asked is known
 abbrev pub knows : Knowledge → Need → Bool
@@ -105,13 +105,13 @@ need_cmp = then_cmp (on need_path path_cmp) (on need_rank nat_cmp)
 
 -- nothing lacks: each answer that a need asks for is known
 abbrev pub LacksNothing : Knowledge → Need → Type 0
-LacksNothing k wanted = (asked : Need) → Asks k wanted asked → IsTrue (knows k asked)
+LacksNothing k wanted = (asked : Need) → AsksOf k wanted asked → IsTrue (knows k asked)
 
 -- the first answer that a need asks for and that isn't known
 pub record IsFirstLacking (k : Knowledge) (wanted lacking : Need) : Type 0 where
-  pub asked : Asks k wanted lacking
+  pub asked : AsksOf k wanted lacking
   pub unknown : IsFalse (knows k lacking)
-  pub first : (other : Need) → Asks k wanted other → IsFalse (knows k other)
+  pub first : (other : Need) → AsksOf k wanted other → IsFalse (knows k other)
       → IsTrue (is_le (need_cmp lacking other))
 
 -- what lacks first of all that a need asks for, or None where nothing lacks

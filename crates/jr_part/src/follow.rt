@@ -8,7 +8,7 @@ ghost use Rattle.jr_path.specs.Names.{name_cmp};
 ghost use Rattle.jr_tree.specs.declared.edit.Write.TheVariants as write;
 ghost use Rattle.jr_tree.specs.Edits.{applied};
 ghost use Rattle.jr_part.specs.Parts.{HaveRisingNames};
-ghost use Rattle.jr_part.specs.Follows.{IsGapOf, IsPlaceOf, absent_after, lists_after, with_begun, with_change_above, with_changed, with_listed, with_name, without_name};
+ghost use Rattle.jr_part.specs.Follows.{IsNameGap, IsNamePlace, absent_after, lists_after, with_begun, with_change_above, with_changed, with_listed, with_name, without_name};
 
 use jr_path::{DeepCopy, Keyed, List, Name, Path};
 use jr_rev::Revision;
@@ -158,7 +158,7 @@ fn remove_name(names: &mut Vec<(Name, Option<Revision>)>, name: &Name)
 // Where a name stands, or where it would go.
 fn place_of(names: &[(Name, Option<Revision>)], name: &Name) -> Result<usize, usize>
     requires { IsTrue (is_sorted name_cmp names.now) }
-    ensures { MatchResult result (IsPlaceOf names.now name.now) (IsGapOf names.now name.now) }
+    ensures { MatchResult result (IsNamePlace names.now name.now) (IsNameGap names.now name.now) }
 {
     names.binary_search_by(|entry| name_order(entry, name))
 }

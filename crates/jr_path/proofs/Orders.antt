@@ -10,7 +10,7 @@ use Rattle.std.specs.Cmp.Lexicographic.{options_total}
 use Rattle.std.specs.FinMap.{IsAntisymmetric, nat_cmp-IsAntisymmetric}
 use Rattle.std.proofs.lemmas.Cmp.{nat_list_cmp_total, tied_itself}
 use Rattle.jr_path.specs.Ids.{id_cmp, depth_of, names_of, number_of, rank_of, text_of}
-use Rattle.jr_path.specs.Names.{item_cmp, name_cmp, path_cmp}
+use Rattle.jr_path.specs.Names.{path_item_cmp, name_cmp, path_cmp}
 use Rattle.jr_path.specs.declared.path.DocId.{DocId}
 use Rattle.jr_path.specs.declared.path.DocId.TheVariants.{Node, Prev, Settings}
 use Rattle.jr_path.proofs.Maps.{name_exact, path_exact, path_total}
@@ -38,10 +38,10 @@ options_exact exact None (Some y) e = cc
 options_exact exact (Some x) None e = cc
 options_exact exact (Some x) (Some y) e = ap (λ z. Some z) (exact x y e)
 
-pub item_total : IsTotalOrder item_cmp
+pub item_total : IsTotalOrder path_item_cmp
 item_total = then_total (on_total (λ i. i.path) path_total) (on_total (λ i. i.name) (options_total nat_list_cmp_total))
 
-pub item_exact : IsAntisymmetric item_cmp
+pub item_exact : IsAntisymmetric path_item_cmp
 item_exact a b e =
     let ties = both_tie (path_cmp a.path b.path) (option_cmp name_cmp a.name b.name) e in
     let path : a.path ≡ b.path = path_exact a.path b.path ties.0 in

@@ -4,7 +4,7 @@ ghost use Rattle.std.specs.Cmp.{IsTotalOrder};
 ghost use Rattle.std.specs.Ordering.{is_eq};
 ghost use Rattle.jr_path.specs.Grammar.{HasOneFault, IsName};
 ghost use Rattle.jr_path.specs.Ids.{id_cmp, id_text, names_of, number_of, path_text};
-ghost use Rattle.jr_path.specs.Names.{is_under, item_cmp, last_name, name_cmp, parent_of, path_cmp};
+ghost use Rattle.jr_path.specs.Names.{is_under, path_item_cmp, last_name, name_cmp, parent_of, path_cmp};
 ghost use Rattle.jr_path.specs.Paths.{IsPathText, NamesReadBack, PathsReadBack};
 
 use crate::{DocId, Item, Name, Path};
@@ -26,9 +26,9 @@ pub fn order_of_paths()
 /// Items have one total order, by path, a node before its properties and these by name, in which only
 /// equal items tie.
 pub fn order_of_items()
-    ensures is { (a b : _) → ⟦<Item as Ord>⟧.cmp a b ≡ item_cmp a b }
-    ensures total { IsTotalOrder item_cmp }
-    ensures exact { (a b : _) → IsTrue (is_eq (item_cmp a b)) ↔ (a ≡ b) }
+    ensures is { (a b : _) → ⟦<Item as Ord>⟧.cmp a b ≡ path_item_cmp a b }
+    ensures total { IsTotalOrder path_item_cmp }
+    ensures exact { (a b : _) → IsTrue (is_eq (path_item_cmp a b)) ↔ (a ≡ b) }
 {}
 
 /// Ids of documents have one total order, the store's, in which only equal ids tie.

@@ -2,8 +2,8 @@
 use Rattle.std.proofs.Common.{◌≡◌, ◌≢◌, ℕ, ◌+◌, ◌-◌, ◌<◌, ◌≤◌, ◌⊎◌, List, [], ◌∷◌, ◌++◌, length, take, drop, get_or, suc, arith, refl, inl, inr, sym, ap, ◌∙◌, append_assoc, length-drop, add-zero}
 use Rattle.std.proofs.lemmas.List.{get_or-drop}
 use Rattle.std.specs.Str.Parse.{digits_value}
-use Rattle.jr_rev.specs.Grammar.{IsFirstFault}
-use Rattle.jr_rev.specs.Listed.{IsBehind, IsListed, MissesList, TakesCluster, MissesCluster}
+use Rattle.jr_rev.specs.Grammar.{IsTextFault}
+use Rattle.jr_rev.specs.Listed.{IsBehind, AreListedRevisions, MissesList, TakesCluster, MissesCluster}
 use Rattle.jr_rev.specs.Scan.{TakesMoment, MissesMoment}
 use Rattle.jr_rev.specs.declared.revision.Revision.{Revision}
 use Rattle.jr_rev.proofs.Faults.{ByteThen, same_faults, byte_stops, byte_then, front_of, add-zero'}
@@ -21,14 +21,14 @@ pub record ClusterThen (k : ℕ) (K : ℕ → List ℕ → Type 0) (text : List 
 
 -- the end, or a comma and revisions of cluster nodes from k on
 abbrev pub Rest : ℕ → List ℕ → Type 0
-Rest k text = (text ≡ []) ⊎ ByteThen 44 (IsListed k) text
+Rest k text = (text ≡ []) ⊎ ByteThen 44 (AreListedRevisions k) text
 
 -- ---- the digit
 
 cluster_some : (k : ℕ) → k ≤ 8 → ClusterThen k Rest ((48 + k) ∷ [])
 cluster_some k high = record { cluster = k; low = omega arith; high = high; rest = []; split = refl; then' = inl refl }
 
-cluster_stops : (k : ℕ) (text : List ℕ) → k ≤ 8 → (0 < length text → (c : ℕ) → k ≤ c → c ≤ 8 → get_or text 0 0 ≢ 48 + c) → IsFirstFault (ClusterThen k Rest) text 0
+cluster_stops : (k : ℕ) (text : List ℕ) → k ≤ 8 → (0 < length text → (c : ℕ) → k ≤ c → c ≤ 8 → get_or text 0 0 ≢ 48 + c) → IsTextFault (ClusterThen k Rest) text 0
 cluster_stops k [] high other = record {
   within = omega arith;
   before = ((48 + k) ∷ [], cluster_some k high);
@@ -51,7 +51,7 @@ behind_digit k c text t =
     let same : c + 1 ≡ t.cluster + 1 = omega arith in
     rw (same, rest) t.then'
 
-cluster_then : (k c : ℕ) (rest : List ℕ) (j : ℕ) → k ≤ c → c ≤ 8 → IsFirstFault (Rest (c + 1)) rest j → IsFirstFault (ClusterThen k Rest) ((48 + c) ∷ rest) (suc j)
+cluster_then : (k c : ℕ) (rest : List ℕ) (j : ℕ) → k ≤ c → c ≤ 8 → IsTextFault (Rest (c + 1)) rest j → IsTextFault (ClusterThen k Rest) ((48 + c) ∷ rest) (suc j)
 cluster_then k c rest j low high s = record {
   within = omega (arith, s.within);
   before = (s.before.0, record { cluster = c; low = low; high = high; rest = take j rest ++ s.before.0; split = refl; then' = s.before.1 });
@@ -61,7 +61,7 @@ cluster_then k c rest j low high s = record {
 
 -- ---- what is behind it
 
-rest_stops : (k : ℕ) (text : List ℕ) → 0 < length text → (get_or text 0 0 ≡ 44 → 8 < k) → IsFirstFault (Rest k) text 0
+rest_stops : (k : ℕ) (text : List ℕ) → 0 < length text → (get_or text 0 0 ≡ 44 → 8 < k) → IsTextFault (Rest k) text 0
 rest_stops k [] some past = absurd (omega (arith, some))
 rest_stops k (b ∷ bs) some past = record {
   within = omega arith;
@@ -82,9 +82,9 @@ rest_stops k (b ∷ bs) some past = record {
 some_byte : (more : List ℕ) → 44 ∷ more ≡ [] → ⊥
 some_byte more e = cc
 
-rest_then : (k : ℕ) (rest : List ℕ) (j : ℕ) → IsFirstFault (IsListed k) rest j → IsFirstFault (Rest k) (44 ∷ rest) (suc j)
+rest_then : (k : ℕ) (rest : List ℕ) (j : ℕ) → IsTextFault (AreListedRevisions k) rest j → IsTextFault (Rest k) (44 ∷ rest) (suc j)
 rest_then k rest j s =
-    let c = byte_then (IsListed k) 44 rest j s in
+    let c = byte_then (AreListedRevisions k) 44 rest j s in
     record {
       within = c.within;
       before = (c.before.0, inr c.before.1);
@@ -105,7 +105,7 @@ split_parts : (text piece rest time counter cluster : List ℕ) (digit : ℕ) �
 split_parts text piece rest time counter cluster digit e f g =
     rw (e, f, g) (ap (λ xs. 114 ∷ xs) (append_assoc time (45 ∷ (counter ++ (45 ∷ digit ∷ []))) rest ∙ ap (λ xs. time ++ (45 ∷ xs)) (append_assoc counter (45 ∷ digit ∷ []) rest)))
 
-list_parts : (k : ℕ) (text : List ℕ) → IsListed k text → Moment (ClusterThen k Rest) text
+list_parts : (k : ℕ) (text : List ℕ) → AreListedRevisions k text → Moment (ClusterThen k Rest) text
 list_parts k text t =
     let r = t.0 in
     let l = t.2 in
@@ -137,7 +137,7 @@ list_parts k text t =
       };
     }
 
-parts_list : (k : ℕ) (text : List ℕ) → Moment (ClusterThen k Rest) text → IsListed k text
+parts_list : (k : ℕ) (text : List ℕ) → Moment (ClusterThen k Rest) text → AreListedRevisions k text
 parts_list k text w =
     let a = w.then' in
     let b = a.then'.then' in
@@ -164,13 +164,13 @@ parts_list k text w =
       },
     )
 
-list_fault : (k : ℕ) (text : List ℕ) (offset : ℕ) → IsFirstFault (Moment (ClusterThen k Rest)) text offset → IsFirstFault (IsListed k) text offset
-list_fault k text offset s = same_faults (Moment (ClusterThen k Rest)) (IsListed k) text offset (parts_list k) (list_parts k) s
+list_fault : (k : ℕ) (text : List ℕ) (offset : ℕ) → IsTextFault (Moment (ClusterThen k Rest)) text offset → IsTextFault (AreListedRevisions k) text offset
+list_fault k text offset s = same_faults (Moment (ClusterThen k Rest)) (AreListedRevisions k) text offset (parts_list k) (list_parts k) s
 
 -- ---- from the place at which the list begins
 
 -- the time and the counter are there, and what is behind them stops
-behind_moment : (k : ℕ) (text : List ℕ) (at time counter dash j : ℕ) → TakesMoment text at time counter dash → IsFirstFault (ByteThen 45 (ClusterThen k Rest)) (drop dash text) j → IsFirstFault (IsListed k) (drop at text) (dash - at + j)
+behind_moment : (k : ℕ) (text : List ℕ) (at time counter dash j : ℕ) → TakesMoment text at time counter dash → IsTextFault (ByteThen 45 (ClusterThen k Rest)) (drop dash text) j → IsTextFault (AreListedRevisions k) (drop at text) (dash - at + j)
 behind_moment k text at time counter dash j taken s = list_fault k (drop at text) (dash - at + j) (moment_then (ClusterThen k Rest) text at time counter dash j taken s)
 
 dash_after : (text : List ℕ) (at time counter dash : ℕ) → TakesMoment text at time counter dash → at ≤ dash
@@ -182,7 +182,7 @@ no_moment k text at offset high within missed = (
   list_fault k (drop at text) (offset - at) (moment_missed (ClusterThen k Rest) _ text at offset (cluster_some k high) within missed),
 )
 
-cluster_missed : (k : ℕ) (text : List ℕ) (dash offset : ℕ) → k ≤ 8 → dash ≤ length text → MissesCluster k text dash offset → IsFirstFault (ByteThen 45 (ClusterThen k Rest)) (drop dash text) (offset - dash)
+cluster_missed : (k : ℕ) (text : List ℕ) (dash offset : ℕ) → k ≤ 8 → dash ≤ length text → MissesCluster k text dash offset → IsTextFault (ByteThen 45 (ClusterThen k Rest)) (drop dash text) (offset - dash)
 cluster_missed k text dash offset high within missed =
     let size : length (drop dash text) ≡ length text - dash = length-drop dash text in
     let size' : length (drop (dash + 1) text) ≡ length text - (dash + 1) = length-drop (dash + 1) text in
@@ -214,7 +214,7 @@ digit_front k text dash cluster taken =
     front_of 45 dash text (omega arith) taken.dash ∙ ap (λ more. 45 ∷ more) (front_of (48 + cluster) (dash + 1) text within taken.digit ∙ ap (λ n. (48 + cluster) ∷ drop n text) next)
 
 -- the cluster node is there too, and what is behind it stops
-behind_cluster : (k : ℕ) (text : List ℕ) (at time counter dash cluster j : ℕ) → TakesMoment text at time counter dash → TakesCluster k text dash cluster → IsFirstFault (Rest (cluster + 1)) (drop (dash + 2) text) j → IsFirstFault (IsListed k) (drop at text) (dash + 2 + j - at)
+behind_cluster : (k : ℕ) (text : List ℕ) (at time counter dash cluster j : ℕ) → TakesMoment text at time counter dash → TakesCluster k text dash cluster → IsTextFault (Rest (cluster + 1)) (drop (dash + 2) text) j → IsTextFault (AreListedRevisions k) (drop at text) (dash + 2 + j - at)
 behind_cluster k text at time counter dash cluster j moment taken s =
     let after = dash_after text at time counter dash moment in
     let place : dash - at + suc (suc j) ≡ dash + 2 + j - at = omega arith in

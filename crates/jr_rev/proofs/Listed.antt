@@ -4,8 +4,8 @@ use Rattle.std.specs.Prelude.{◌==◌, slice_set}
 use Rattle.std.specs.List.{AllZip, join_with_byte}
 use Rattle.std.proofs.lemmas.List.{drop_all, length-append, length-take}
 use Rattle.std.proofs.lemmas.Bool.Decides.{nat_tests}
-use Rattle.jr_rev.specs.Grammar.{IsRevisionText, IsVectorText, IsSomeVectorText, IsFirstFault}
-use Rattle.jr_rev.specs.Listed.{Listed, IsBehind, IsListed, IsClear, Reads, TakesCluster, MissesList}
+use Rattle.jr_rev.specs.Grammar.{IsRevisionText, IsVectorText, IsSomeVectorText, IsTextFault}
+use Rattle.jr_rev.specs.Listed.{Listed, IsBehind, AreListedRevisions, IsClear, Reads, TakesCluster, MissesList}
 use Rattle.jr_rev.specs.Scan.{TakesMoment}
 use Rattle.jr_rev.specs.Vectors.{Entries, IsVector, stands_from, with_entry, no_entries, revisions_of}
 use Rattle.jr_rev.specs.declared.revision.Revision.{Revision}
@@ -146,7 +146,7 @@ vector_behind k (r ∷ rs) text positive b =
     let rest = vector_behind (r.cluster + 1) rs l.rest (omega arith) l.behind in
     (with_entry rest.0 r, reads_more k text b.0 (with_entry rest.0 r) b.1 (reads_one k b.0 l.rest r rest.0 positive rest.1 (record { low = l.low; high = l.high; piece = l.piece; rest = l.rest; is = l.is; split = l.split; behind = rest.1.behind })))
 
-list_vector : (text : List ℕ) → IsListed 1 text → IsSomeVectorText text
+list_vector : (text : List ℕ) → AreListedRevisions 1 text → IsSomeVectorText text
 list_vector text t =
     let r = t.0 in
     let l = t.2 in
@@ -177,7 +177,7 @@ behind_entries k j (Some r ∷ es) (t ∷ ts) le fits stands each =
       },
     )
 
-list_of_behind : (rs : List Revision) (text : List ℕ) (texts : List (List ℕ)) → text ≡ join_with_byte 44 texts → IsBehind 1 rs (behind_texts texts) → (text ≡ []) ⊎ IsListed 1 text
+list_of_behind : (rs : List Revision) (text : List ℕ) (texts : List (List ℕ)) → text ≡ join_with_byte 44 texts → IsBehind 1 rs (behind_texts texts) → (text ≡ []) ⊎ AreListedRevisions 1 text
 list_of_behind rs text [] e b = inl e
 list_of_behind [] text (t ∷ ts) e b = let none : 44 ∷ (t ++ behind_texts ts) ≡ [] = b in cc
 list_of_behind (r ∷ rs) text (t ∷ ts) e b =
@@ -185,15 +185,15 @@ list_of_behind (r ∷ rs) text (t ∷ ts) e b =
     let same : text ≡ b.0 = e ∙ joined_texts t ts ∙ cc in
     inr (r, rs, rw same b.2)
 
-vector_list : (text : List ℕ) (v : Entries) → IsVectorText text v → (text ≡ []) ⊎ IsListed 1 text
+vector_list : (text : List ℕ) (v : Entries) → IsVectorText text v → (text ≡ []) ⊎ AreListedRevisions 1 text
 vector_list text v t = list_of_behind (revisions_of v) text t.texts t.joined (behind_entries 1 1 v t.texts (omega arith) (omega (arith, t.vector.eight)) t.vector.stands t.each)
 
 -- ---- the whole text
 
-pub no_list : (text : List ℕ) (offset : ℕ) → 0 < length text → MissesList 1 text 0 offset → IsFirstFault IsSomeVectorText text offset
+pub no_list : (text : List ℕ) (offset : ℕ) → 0 < length text → MissesList 1 text 0 offset → IsTextFault IsSomeVectorText text offset
 no_list text offset some missed =
     let place : offset - 0 ≡ offset = omega arith in
-    let s : IsFirstFault (IsListed 1) text offset = rw place at missed.1 in
+    let s : IsTextFault (AreListedRevisions 1) text offset = rw place at missed.1 in
     record {
       within = s.within;
       before = (s.before.0, list_vector _ s.before.1);

@@ -35,7 +35,7 @@ abbrev pub Begins : (List ℕ → Type 0) → List ℕ → Type 0
 Begins IsText front = (more : List ℕ) × IsText (front ++ more)
 
 -- the first byte, or the end, that no text of this kind has there
-pub record IsFirstFault (IsText : List ℕ → Type 0) (text : List ℕ) (offset : ℕ) : Type 0 where
+pub record IsTextFault (IsText : List ℕ → Type 0) (text : List ℕ) (offset : ℕ) : Type 0 where
   pub within : offset ≤ length text
   pub before : Begins IsText (take offset text)
   pub there : offset < length text → Begins IsText (take (offset + 1) text) → ⊥

@@ -1,6 +1,6 @@
 -- The revisions of a vector's text, read from a place on.
 use Rattle.std.specs.Prelude.{◌≡◌, ◌≢◌, ℕ, ◌+◌, ◌-◌, ◌<◌, ◌≤◌, ◌⊎◌, List, [], ◌∷◌, ◌++◌, None, length, drop, slice_index, slice_index_or}
-use Rattle.jr_rev.specs.Grammar.{IsRevisionText, IsFirstFault}
+use Rattle.jr_rev.specs.Grammar.{IsRevisionText, IsTextFault}
 use Rattle.jr_rev.specs.Vectors.{Entries, IsVector, revisions_of}
 use Rattle.jr_rev.specs.declared.revision.Revision.{Revision}
 
@@ -20,8 +20,8 @@ IsBehind k [] text = text ≡ []
 IsBehind k (r ∷ rs) text = (more : List ℕ) × (text ≡ 44 ∷ more) × Listed k r (IsBehind (r.cluster + 1) rs) more
 
 -- one revision or more, with rising cluster nodes from k on
-abbrev pub IsListed : ℕ → List ℕ → Type 0
-IsListed k text = (r : Revision) × (rs : List Revision) × Listed k r (IsBehind (r.cluster + 1) rs) text
+abbrev pub AreListedRevisions : ℕ → List ℕ → Type 0
+AreListedRevisions k text = (r : Revision) × (rs : List Revision) × Listed k r (IsBehind (r.cluster + 1) rs) text
 
 -- no entry below that of node k
 abbrev pub IsClear : ℕ → Entries → Type 0
@@ -38,7 +38,7 @@ pub record Reads (k : ℕ) (text : List ℕ) (v : Entries) : Type 0 where
 
 -- where the list of revisions that begins at a place first goes wrong
 abbrev pub MissesList : ℕ → List ℕ → ℕ → ℕ → Type 0
-MissesList k text at offset = (at ≤ offset) × IsFirstFault (IsListed k) (drop at text) (offset - at)
+MissesList k text at offset = (at ≤ offset) × IsTextFault (AreListedRevisions k) (drop at text) (offset - at)
 
 -- a dash stands at a place, and behind it the digit of a cluster node from k to 8
 pub record TakesCluster (k : ℕ) (text : List ℕ) (at cluster : ℕ) : Type 0 where

@@ -20,7 +20,7 @@ use Rattle.jr_types.specs.declared.TypeDef.{TypeDef}
 use Rattle.jr_rules.specs.declared.broken.Break.{Break}
 use Rattle.jr_rules.specs.declared.checking.TypesOut.{TypesOut}
 use Rattle.jr_rules.specs.declared.checking.TypesOut.TheVariants as out
-use Rattle.jr_rules.specs.Violations.{Violation, is_one_of}
+use Rattle.jr_rules.specs.Violations.{Violation, is_among_names}
 use Rattle.jr_rules.specs.Checking.{IsFirstBreak, IsFirstOf, IsViolation, child_rule, child_rule_among, earlier, first_break, property_rule}
 use Rattle.jr_types.specs.Said.{types_said}
 use Rattle.jr_types.specs.Registered.{IsAlike}
@@ -83,7 +83,7 @@ first_child types t p defs names broken alike is are = subst (IsFirstBreak (chil
 
 -- of children that are asked for, no rule fails beside their names
 pub first_among : (types : List TypeDef) (t : Nodes) (p : Path) (names : List Name) (broken : Option Break)
-    → broken ≡ first_break (child_rule types t p) names → IsFirstBreak (child_rule_among (is_one_of names) types t p) broken
+    → broken ≡ first_break (child_rule types t p) names → IsFirstBreak (child_rule_among (is_among_names names) types t p) broken
 first_among types t p names broken is =
     subst (IsFirstBreak asked) (sym (is ∙ agree names None (λ n h. h))) (first_everywhere asked names (λ n h. ap (λ b. first_of (cond b (faults n) [])) h))
   where
@@ -91,7 +91,7 @@ first_among types t p names broken is =
     faults n = child_faults types (node_types t p) n (child_at t p n)
 
     asked : Name → Option ℕ
-    asked = child_rule_among (is_one_of names) types t p
+    asked = child_rule_among (is_among_names names) types t p
 
     -- at these names it is all the same whether they are asked for
     agree : (ns : List Name) (o : Option Break) → ((n : Name) → list_any (same_name n) ns ≡ true → list_any (same_name n) names ≡ true)

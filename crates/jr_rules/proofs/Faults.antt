@@ -18,7 +18,7 @@ use Rattle.jr_types.specs.declared.TypeDef.{TypeDef}
 use Rattle.jr_rules.specs.Checking.{child_rule, definition_rule, property_rule}
 use Rattle.jr_types.specs.Said.{counting_children, counting_props, types_said}
 use Rattle.jr_types.specs.Registered.{IsAlike}
-use Rattle.jr_types.specs.Rules.{Child, are_distinct, are_mixins, child_at, child_faults, failing, is_misfit, is_missing, is_of_no_type, is_outside, is_primary_type, is_stray, is_undefined, mandatory_children, mandatory_props, node_types}
+use Rattle.jr_types.specs.Rules.{PresentChild, are_distinct, are_mixins, child_at, child_faults, failing, is_misfit, is_missing, is_of_no_type, is_outside, is_primary_type, is_stray, is_undefined, mandatory_children, mandatory_props, node_types}
 use Rattle.jr_types.specs.Types.{admits, child_defs, fits, fits_child, is_named, prop_defs, props_of, types_of}
 use Rattle.jr_types.proofs.Alike.{any-alike, any_seen, empty-alike, filter-alike}
 use Rattle.jr_types.proofs.Chosen.{children-alike, props-alike}
@@ -179,7 +179,7 @@ module _ (types : List TypeDef) (t : Nodes) (p : Path) (n : Name) where
   abbrev primary : Option Property
   primary = property_at t (child_path p n) primary_type
 
-  of_child : (o : Option Child) → first_of (child_faults types (node_types t p) n o) ≡ cond (is_stray its n o) (Some 7) (cond (is_of_no_type types its n o) (Some 8) (cond (is_missing (mandatory_children its) n o) (Some 9) None))
+  of_child : (o : Option PresentChild) → first_of (child_faults types (node_types t p) n o) ≡ cond (is_stray its n o) (Some 7) (cond (is_of_no_type types its n o) (Some 8) (cond (is_missing (mandatory_children its) n o) (Some 9) None))
   of_child o = first_three (is_stray its n o) (is_of_no_type types its n o) (is_missing (mandatory_children its) n o)
 
   there : (b : Bool) → is_some (node_at t (child_path p n)) ≡ b → child_at t p n ≡ cond b (Some primary) None

@@ -59,8 +59,8 @@ abbrev pub violations_at : List TypeDef → Nodes → Path → List Violation
 violations_at = violations_among (λ n. true)
 
 -- the name is one of these
-abbrev pub is_one_of : List Name → Name → Bool
-is_one_of ns n = list_any (same_name n) ns
+abbrev pub is_among_names : List Name → Name → Bool
+is_among_names ns n = list_any (same_name n) ns
 
 -- what fails in a tree, in path order, then by rule, then by item
 abbrev pub violations : List TypeDef → Nodes → List Violation

@@ -2,7 +2,7 @@
 ghost use Rattle.std.specs.Prelude.{◌≡◌, [], IfErr, IsTrue, OnOk, is_some};
 ghost use Rattle.jr_tree.specs.Trees.{node_at};
 ghost use Rattle.jr_rules.specs.Checking.{IsFirstOf, IsViolation};
-ghost use Rattle.jr_rules.specs.Violations.{is_one_of, violations_among, violations_at};
+ghost use Rattle.jr_rules.specs.Violations.{is_among_names, violations_among, violations_at};
 ghost use Rattle.jr_rules.specs.declared.checking.TypesOut.TheVariants.{Memory};
 
 use crate::broken::Break;
@@ -79,9 +79,9 @@ pub fn check_among(
 ) -> Result<(), TypesOut>
     requires { IsTrue (is_some (node_at tree.now path.now)) }
     ensures ok { OnOk result
-        (violations_among (is_one_of names.now) types.now tree.now path.now ≡ []) }
+        (violations_among (is_among_names names.now) types.now tree.now path.now ≡ []) }
     ensures err { IfErr result
-        (IsFirstOf (violations_among (is_one_of names.now) types.now tree.now path.now)) }
+        (IsFirstOf (violations_among (is_among_names names.now) types.now tree.now path.now)) }
 {
     let Some(node) = tree.get(path) else {
         unreachable!()

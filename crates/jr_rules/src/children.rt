@@ -7,7 +7,7 @@ ghost use Rattle.jr_types.specs.Registered.{IsAlike};
 ghost use Rattle.jr_types.specs.Rules.{node_types};
 ghost use Rattle.jr_types.specs.Types.{fits_child, is_named, types_of};
 ghost use Rattle.jr_rules.specs.Checking.{IsFirstBreak, child_rule, child_rule_among, first_break};
-ghost use Rattle.jr_rules.specs.Violations.{is_one_of};
+ghost use Rattle.jr_rules.specs.Violations.{is_among_names};
 
 use crate::broken::{Break, earlier, wanted};
 use jr_edited::Edited;
@@ -44,7 +44,7 @@ pub(crate) fn child_break_among(
     requires { IsAlike (map (λ d. d.now) its.now)
         (types_of types.now (node_types tree.now path.now)) }
     ensures { IfOk result (IsFirstBreak
-        (child_rule_among (is_one_of names.now) types.now tree.now path.now)) }
+        (child_rule_among (is_among_names names.now) types.now tree.now path.now)) }
 {
     let defs = children_of(types.alloc(), its)?;
     let names = lent(types.alloc(), names)?;

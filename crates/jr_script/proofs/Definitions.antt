@@ -20,7 +20,7 @@ use Rattle.jr_defs.specs.Reading.{AreDefaultsJson, AreRead, IsChildJson, IsFlagJ
 use Rattle.jr_types.specs.Attributes.{opv_text}
 use Rattle.jr_types.specs.declared.OnParentVersion.{OnParentVersion}
 use Rattle.jr_types.specs.declared.OnParentVersion.TheVariants as opv
-use Rattle.jr_args.specs.Trees.{text_in}
+use Rattle.jr_args.specs.Trees.{json_text_in}
 use mathlib.Core.Bool.{false≢true}
 
 -- at most one thing is read from JSON
@@ -45,7 +45,7 @@ one_flag : IsOne IsFlagJson
 one_flag d x y h g = ap flag_in (sym h ∙ g)
 
 one_name : IsOne IsNameJson
-one_name d x y h g = ap text_in (sym h.0 ∙ g.0)
+one_name d x y h g = ap json_text_in (sym h.0 ∙ g.0)
 
 star_is_none : IsName (codes "*") → ⊥
 unfolding is_name
@@ -59,7 +59,7 @@ star_is_none h =
     ascii (suc i) = omega arith
 
 star_or_name : {A : Type 0} (d : Data) (n : Name) → d ≡ string (codes "*") → IsNameJson d n → A
-star_or_name d n h g = absurd (star_is_none (rw (ap text_in (sym h ∙ g.0)) g.1))
+star_or_name d n h g = absurd (star_is_none (rw (ap json_text_in (sym h ∙ g.0)) g.1))
 
 one_item_name : IsOne IsItemNameJson
 one_item_name d None None h g = refl
@@ -73,13 +73,13 @@ one_some_name d (Some n) None h g = absurd g
 one_some_name d (Some n) (Some m) h g = ap Some (one_name d n m h g)
 
 one_text : IsOne IsTextJson
-one_text d x y h g = ap text_in (sym h ∙ g)
+one_text d x y h g = ap json_text_in (sym h ∙ g)
 
-kind_back : (d : Data) (k : Option Kind) → IsKindJson d k → kind_named all_kinds (text_in d) ≡ k
-kind_back d None h = ap (λ d. kind_named all_kinds (text_in d)) h
-kind_back d (Some k) h = ap (λ d. kind_named all_kinds (text_in d)) h ∙ named k
+kind_back : (d : Data) (k : Option Kind) → IsKindJson d k → kind_named all_kinds (json_text_in d) ≡ k
+kind_back d None h = ap (λ d. kind_named all_kinds (json_text_in d)) h
+kind_back d (Some k) h = ap (λ d. kind_named all_kinds (json_text_in d)) h ∙ named k
   where
-    named : (k : Kind) → kind_named all_kinds (text_in (string (Rattle.jr_value.specs.Words.kind_text k))) ≡ Some k
+    named : (k : Kind) → kind_named all_kinds (json_text_in (string (Rattle.jr_value.specs.Words.kind_text k))) ≡ Some k
     named kind.Str = refl
     named kind.Binary = refl
     named kind.Long = refl
@@ -110,7 +110,7 @@ opv_back opv.Ignore = refl
 opv_back opv.Abort = refl
 
 one_opv : IsOne IsOpvJson
-one_opv d x y h g = sym (opv_back x) ∙ ap (λ d. opv_named (text_in d)) (sym h ∙ g) ∙ opv_back y
+one_opv d x y h g = sym (opv_back x) ∙ ap (λ d. opv_named (json_text_in d)) (sym h ∙ g) ∙ opv_back y
 
 -- ---- lists
 

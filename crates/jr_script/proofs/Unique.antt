@@ -6,12 +6,12 @@ use Rattle.jr_args.specs.declared.fault.Step.TheVariants.{Index, Key}
 use Rattle.jr_args.specs.Commands.{command_of}
 use Rattle.jr_args.specs.Outcomes.{Outcome, Means, Breaks, HasOneOutcome, Reading, judged}
 use Rattle.jr_args.proofs.Unique.{one_command, one_guard, one_is, one_judged, one_list, one_optional, one_then, one_under}
-use Rattle.jr_script.specs.Numbers.{IsWhole}
+use Rattle.jr_script.specs.Numbers.{IsNumberJson}
 use Rattle.jr_script.specs.Schedules.{IsEntry, entry_of}
-use Rattle.jr_script.specs.Scripts.{cluster_of, clusters_of, commands_of, few_of, member_of, schedule_of, script_in, script_of, session_in, session_of, sessions_of, turns_in, script_over, where_read}
+use Rattle.jr_script.specs.Scripts.{cluster_of, clusters_of, read_commands, few_of, member_of, schedule_of, script_in, script_of, session_in, session_of, sessions_of, turns_in, script_over, where_read}
 use Rattle.jr_script.specs.declared.script.Script.{Script}
 use Rattle.jr_script.specs.declared.script.TextFault.{TextFault}
-use Rattle.jr_script.specs.Types.{FailsAt, IsWith, Types, added, listed_of, types_of, with_type, written_of}
+use Rattle.jr_script.specs.Types.{FailsAt, IsWith, Types, added, listed_of, types_read, with_type, written_of}
 use Rattle.jr_builtin.specs.Builtin.{builtin}
 use Rattle.jr_types.specs.declared.TypeDef.{TypeDef}
 use Rattle.jr_cnd.specs.Meaning.{IsMeaning}
@@ -34,8 +34,8 @@ one_few most rule M each (string t) = one_is (Breaks rule [])
 one_few most rule M each (array ds) = one_then _ _ (one_guard _ rule) (λ u. one_list M each 0 ds)
 one_few most rule M each (object ms) = one_is (Breaks rule [])
 
-one_whole : (low most rule : ℕ) (d : Data) → HasOneOutcome (judged (IsWhole low most d) rule)
-one_whole low most rule d = one_judged (IsWhole low most d) rule (λ n m h g. ap number_in (sym h.0 ∙ g.0))
+one_whole : (low most rule : ℕ) (d : Data) → HasOneOutcome (judged (IsNumberJson low most d) rule)
+one_whole low most rule d = one_judged (IsNumberJson low most d) rule (λ n m h g. ap number_in (sym h.0 ∙ g.0))
 
 one_entry_of : (sessions : ℕ) (d : Data) → HasOneOutcome (entry_of sessions d)
 one_entry_of sessions d = one_judged (IsEntry sessions d) 8 (one_entry sessions d)
@@ -43,7 +43,7 @@ one_entry_of sessions d = one_judged (IsEntry sessions d) 8 (one_entry sessions 
 one_session_in : (clusters : ℕ) (d : Data) → HasOneOutcome (session_in clusters d)
 one_session_in clusters d =
     one_then _ _ (one_optional (codes "cluster") 1 (cluster_of clusters) (one_whole 1 clusters 4) (get (codes "cluster") d)) (λ cluster.
-    one_then _ _ (one_member (codes "commands") 4 commands_of (one_few 10000 4 command_of one_command) (get (codes "commands") d)) (λ commands. one_is _))
+    one_then _ _ (one_member (codes "commands") 4 read_commands (one_few 10000 4 command_of one_command) (get (codes "commands") d)) (λ commands. one_is _))
 
 one_session_of : (clusters : ℕ) (d : Data) → HasOneOutcome (session_of clusters d)
 one_session_of clusters null = one_is (Breaks 4 [])
@@ -102,7 +102,7 @@ module _ (one : IsOneMeaning) where
   one_written text (Means x) (Breaks rule steps) h g = absurd g
   one_written text (Breaks rule steps) p h g = absurd h
 
-  one_types : (d : Data) → HasOneOutcome (types_of d)
+  one_types : (d : Data) → HasOneOutcome (types_read d)
   one_types null = one_is (Breaks 9 [])
   one_types (boolean b) = one_is (Breaks 9 [])
   one_types (number n) = one_is (Breaks 9 [])
@@ -124,7 +124,7 @@ module _ (one : IsOneMeaning) where
   one_script_in : (d : Data) → HasOneOutcome (script_in d)
   one_script_in d =
       one_then _ _ (one_optional (codes "clusters") 1 clusters_of (one_whole 1 8 3) (get (codes "clusters") d)) (λ clusters.
-      one_then _ _ (one_optional (codes "types") (Ok builtin) types_of one_types (get (codes "types") d)) (λ types. one_over d clusters types))
+      one_then _ _ (one_optional (codes "types") (Ok builtin) types_read one_types (get (codes "types") d)) (λ types. one_over d clusters types))
 
   pub one_outcome : (d : Data) (o p : Outcome (Result Script TextFault)) → script_of d o → script_of d p → o ≡ p
   one_outcome null = one_is (Breaks 2 [])

@@ -12,8 +12,8 @@ use Rattle.jr_args.specs.Outcomes.{Outcome, Means, Breaks, Reading, Then, guard,
 use Rattle.jr_args.specs.Trees.{list_of, optional_of}
 use Rattle.jr_script.specs.Bounds.{IsSessionWithin, IsWithin}
 use Rattle.jr_script.specs.Schedules.{IsEntryWithin, entry_of}
-use Rattle.jr_script.specs.Scripts.{IsScript, are_keys, cluster_of, clusters_of, commands_of, counted_of, few_of, member_of, schedule_of, script_in, session_in, session_of, sessions_of, turns_in, script_over, where_read}
-use Rattle.jr_script.specs.Types.{AreTypes, Types, added, listed_of, types_of, with_type, written_of}
+use Rattle.jr_script.specs.Scripts.{IsScript, are_keys, cluster_of, clusters_of, read_commands, counted_of, few_of, member_of, schedule_of, script_in, session_in, session_of, sessions_of, turns_in, script_over, where_read}
+use Rattle.jr_script.specs.Types.{AreTypes, Types, added, listed_of, types_read, with_type, written_of}
 use Rattle.jr_script.specs.declared.reading.Turns.{Turns}
 use Rattle.jr_script.specs.declared.script.Script.{Script}
 use Rattle.jr_script.specs.declared.script.TextFault.{TextFault}
@@ -119,9 +119,9 @@ IsAny x = Unit {0}
 session_inside : (clusters : ℕ) (d : Data) (s : SessionScript) → 1 ≤ clusters → session_in clusters d (Means s) → IsSessionWithin clusters s
 session_inside clusters d s some h =
     let a = first_means (optional_of (codes "cluster") 1 (cluster_of clusters) (get (codes "cluster") d)) _ s h in
-    let b = first_means (member_of (codes "commands") 4 commands_of (get (codes "commands") d)) _ s a.2 in
+    let b = first_means (member_of (codes "commands") 4 read_commands (get (codes "commands") d)) _ s a.2 in
     let at = optional_holds (IsUpTo clusters) (codes "cluster") 1 (cluster_of clusters) (omega arith, some) (λ e n g. (g.1, g.2)) (get (codes "cluster") d) a.0 a.1 in
-    let short = member_holds (IsShort 10000 IsAny) (codes "commands") 4 commands_of (few_short IsAny 10000 4 command_of (λ e x g. tt)) (get (codes "commands") d) b.0 b.1 in
+    let short = member_holds (IsShort 10000 IsAny) (codes "commands") 4 read_commands (few_short IsAny 10000 4 command_of (λ e x g. tt)) (get (codes "commands") d) b.0 b.1 in
     subst (IsSessionWithin clusters) (sym (same _ _ b.2)) (record { placed = at.0; near = at.1; few = short.0 })
 
 session_within : (clusters : ℕ) → 1 ≤ clusters → (d : Data) (s : SessionScript) → session_of clusters d (Means s) → IsSessionWithin clusters s
@@ -209,7 +209,7 @@ module _ (keep : AddedKeepTheRules) (first : TypesOk builtin initial_tree) (prin
       let b = listed_begins builtin a.0 0 ds a.1 in
       subst AreTypesIf (sym (same _ _ a.2)) (are_types b.more a.0 b.begin b.rules)
 
-  types_within : (d : Data) (types : Types) → types_of d (Means types) → AreTypesIf types
+  types_within : (d : Data) (types : Types) → types_read d (Means types) → AreTypesIf types
   types_within null types h = never types 9 [] h
   types_within (boolean b) types h = never types 9 [] h
   types_within (number n) types h = never types 9 [] h
@@ -250,9 +250,9 @@ module _ (keep : AddedKeepTheRules) (first : TypesOk builtin initial_tree) (prin
   script_inside : (d : Data) (s : Script) → script_in d (Means (Ok s)) → IsWithin s
   script_inside d s h =
       let a = first_means (optional_of (codes "clusters") 1 clusters_of (get (codes "clusters") d)) _ (Ok s) h in
-      let b = first_means (optional_of (codes "types") (Ok builtin) types_of (get (codes "types") d)) (where_read (script_over d a.0)) (Ok s) a.2 in
+      let b = first_means (optional_of (codes "types") (Ok builtin) types_read (get (codes "types") d)) (where_read (script_over d a.0)) (Ok s) a.2 in
       let nodes = optional_holds (IsUpTo 8) (codes "clusters") 1 clusters_of (omega arith, omega arith) (λ e n g. (g.1, g.2)) (get (codes "clusters") d) a.0 a.1 in
-      let types = optional_holds AreTypesIf (codes "types") (Ok builtin) types_of no_more_types types_within (get (codes "types") d) b.0 b.1 in
+      let types = optional_holds AreTypesIf (codes "types") (Ok builtin) types_read no_more_types types_within (get (codes "types") d) b.0 b.1 in
       over_inside d a.0 b.0 s nodes types b.2
 
   pub script_within : (d : Data) (s : Script) → IsScript d s → IsWithin s

@@ -22,17 +22,17 @@ count_of (entry.Write s n) = n
 count_of e = 1
 
 -- a list of a session's number, a word, and what stands behind
-abbrev pub listed : ℕ → List ℕ → Items → Data
-listed s word more = array (item (whole s) (item (string word) more))
+abbrev pub entry_list : ℕ → List ℕ → Items → Data
+entry_list s word more = array (item (whole s) (item (string word) more))
 
 -- the JSON of an entry
 abbrev pub json_of : Entry → Data
 json_of (entry.Turn s) = whole s
-json_of (entry.Say s n) = listed s (codes "say") (item (whole n) no_items)
-json_of (entry.Draw s) = listed s (codes "draw") no_items
-json_of (entry.Write s n) = listed s (codes "write") (item (whole n) no_items)
-json_of (entry.Last s) = listed s (codes "last") no_items
-json_of (entry.Read s) = listed s (codes "read") no_items
+json_of (entry.Say s n) = entry_list s (codes "say") (item (whole n) no_items)
+json_of (entry.Draw s) = entry_list s (codes "draw") no_items
+json_of (entry.Write s n) = entry_list s (codes "write") (item (whole n) no_items)
+json_of (entry.Last s) = entry_list s (codes "last") no_items
+json_of (entry.Read s) = entry_list s (codes "read") no_items
 
 -- an entry for one of so many sessions, with a count from 1 to 1,000,000
 pub record IsEntryWithin (sessions : ℕ) (e : Entry) : Type 0 where

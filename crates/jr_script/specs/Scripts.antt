@@ -14,9 +14,9 @@ use Rattle.jr_args.specs.Pointers.{pointer_text}
 use Rattle.jr_args.specs.Trees.{list_of, optional_of}
 use Rattle.jr_builtin.specs.Builtin.{builtin}
 use Rattle.jr_types.specs.declared.TypeDef.{TypeDef}
-use Rattle.jr_script.specs.Numbers.{IsWhole}
+use Rattle.jr_script.specs.Numbers.{IsNumberJson}
 use Rattle.jr_script.specs.Schedules.{entry_of}
-use Rattle.jr_script.specs.Types.{Types, types_of}
+use Rattle.jr_script.specs.Types.{Types, types_read}
 use Rattle.jr_script.specs.declared.reading.Turns.{Turns}
 use Rattle.jr_script.specs.declared.script.Entry.{Entry}
 use Rattle.jr_script.specs.declared.script.TextFault.{TextFault}
@@ -52,23 +52,23 @@ few_of most rule M _ = is (Breaks rule [])
 
 -- one to eight
 abbrev pub clusters_of : Data → Reading ℕ
-clusters_of d = judged (IsWhole 1 8 d) 3
+clusters_of d = judged (IsNumberJson 1 8 d) 3
 
 -- ---- sessions: rule 4
 
 -- one of the cluster nodes
 abbrev pub cluster_of : ℕ → Data → Reading ℕ
-cluster_of clusters d = judged (IsWhole 1 clusters d) 4
+cluster_of clusters d = judged (IsNumberJson 1 clusters d) 4
 
 -- the commands of a session, at most 10000; more of them, or no list, breaks rule 4
-abbrev pub commands_of : Data → Reading (List Command)
-commands_of d = few_of 10000 4 command_of d
+abbrev pub read_commands : Data → Reading (List Command)
+read_commands d = few_of 10000 4 command_of d
 
 -- the cluster node, which is the first where none is named, and the commands
 abbrev pub session_in : ℕ → Data → Reading SessionScript
 session_in clusters d =
     Then (optional_of (codes "cluster") 1 (cluster_of clusters) (get (codes "cluster") d)) (λ cluster.
-    Then (member_of (codes "commands") 4 commands_of (get (codes "commands") d)) (λ commands.
+    Then (member_of (codes "commands") 4 read_commands (get (codes "commands") d)) (λ commands.
     is (Means (record { cluster = cluster; commands = commands }))))
 
 -- an object with no other keys than `cluster` and `commands`
@@ -117,7 +117,7 @@ where_read M (Err fault) = is (Means (Err fault))
 abbrev pub script_in : Data → Reading (Result Script TextFault)
 script_in d =
     Then (optional_of (codes "clusters") 1 clusters_of (get (codes "clusters") d)) (λ clusters.
-    Then (optional_of (codes "types") (Ok builtin) types_of (get (codes "types") d)) (λ types.
+    Then (optional_of (codes "types") (Ok builtin) types_read (get (codes "types") d)) (λ types.
     where_read (script_over d clusters) types))
 
 -- an object with no other keys than these, of which `sessions` is there

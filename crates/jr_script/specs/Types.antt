@@ -51,16 +51,16 @@ written_of text (Means (Err fault)) = FailsAt text fault.offset
 written_of text (Breaks rule steps) = ⊥
 
 -- a list of definitions, or a text, else rule 9
-abbrev pub types_of : Data → Reading Types
-types_of (array ds) = listed_of ds
-types_of (string text) = written_of text
-types_of _ = is (Breaks 9 [])
+abbrev pub types_read : Data → Reading Types
+types_read (array ds) = listed_of ds
+types_read (string text) = written_of text
+types_read _ = is (Breaks 9 [])
 
 -- the types are what the reading means, or the result is the rule that it breaks; or memory was
 -- refused
-abbrev pub Adds : Reading (List TypeDef) → List TypeDef → Result ⊤ Fault → Type 0
-Adds M types (Ok u) = M (Means types)
-Adds M types (Err fault) = Answers M (Err fault)
+abbrev pub GivesTypes : Reading (List TypeDef) → List TypeDef → Result ⊤ Fault → Type 0
+GivesTypes M types (Ok u) = M (Means types)
+GivesTypes M types (Err fault) = Answers M (Err fault)
 
 -- the built-in types and more, of which each may be added to those before it; the initial tree
 -- meets their rules

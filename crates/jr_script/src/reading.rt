@@ -9,8 +9,8 @@ ghost use Rattle.jr_args.specs.Outcomes.{Answers};
 ghost use Rattle.jr_args.specs.Trees.{list_of, optional_of};
 ghost use Rattle.jr_builtin.specs.Builtin.{builtin};
 ghost use Rattle.jr_script.specs.declared.script.ScriptFault.TheVariants.{Bad};
-ghost use Rattle.jr_script.specs.Types.{types_of};
-ghost use Rattle.jr_script.specs.Scripts.{are_keys, cluster_of, clusters_of, commands_of, counted_of, member_of, schedule_of, script_in, script_of, script_over, turns_in, session_in, session_of, sessions_of, IsFault, IsJson, IsScript};
+ghost use Rattle.jr_script.specs.Types.{types_read};
+ghost use Rattle.jr_script.specs.Scripts.{are_keys, cluster_of, clusters_of, read_commands, counted_of, member_of, schedule_of, script_in, script_of, script_over, turns_in, session_in, session_of, sessions_of, IsFault, IsJson, IsScript};
 
 use crate::numbers::whole;
 use crate::schedule::schedule;
@@ -193,7 +193,7 @@ fn clusters(alloc: Global, json: &Json) -> Result<u32, Fault>
 }
 
 fn types_in(alloc: Global, json: &Json) -> Result<Types, Fault>
-    ensures { Answers (optional_of (codes "types") (Ok builtin) types_of
+    ensures { Answers (optional_of (codes "types") (Ok builtin) types_read
         (get (codes "types") (view json.now))) result }
 {
     match json.get("types") {
@@ -332,7 +332,7 @@ fn cluster(alloc: Global, json: &Json, clusters: u32) -> Result<u32, Fault>
 }
 
 fn commands_in(alloc: Global, json: &Json) -> Result<List<Command>, Fault>
-    ensures { Answers (member_of (codes "commands") 4 commands_of (get (codes "commands") (view json.now))) result }
+    ensures { Answers (member_of (codes "commands") 4 read_commands (get (codes "commands") (view json.now))) result }
 {
     match json.get("commands") {
         None => Err(Fault::here(alloc, SESSIONS)),
@@ -344,7 +344,7 @@ fn commands_in(alloc: Global, json: &Json) -> Result<List<Command>, Fault>
 }
 
 fn commands(alloc: Global, json: &Json) -> Result<List<Command>, Fault>
-    ensures { Answers (commands_of (view json.now)) result }
+    ensures { Answers (read_commands (view json.now)) result }
 {
     match json {
         Json::Array(items) => counted_commands(alloc, items),

@@ -4,8 +4,8 @@ ghost use Rattle.serde_json.specs.Data.{array, item, no_items};
 ghost use Rattle.serde_json.specs.View.{view, items_view};
 ghost use Rattle.jr_args.specs.Outcomes.{Answers};
 ghost use Rattle.jr_args.specs.Trees.{list_of};
-ghost use Rattle.jr_script.specs.Numbers.{IsFound, whole};
-ghost use Rattle.jr_script.specs.Schedules.{IsEntry, entry_of, json_of, listed};
+ghost use Rattle.jr_script.specs.Numbers.{IsFoundOrNone, whole};
+ghost use Rattle.jr_script.specs.Schedules.{IsEntry, entry_of, json_of, entry_list};
 ghost use Rattle.jr_script.specs.Scripts.{counted_of, schedule_of};
 
 use crate::numbers::{session_number, whole};
@@ -71,7 +71,7 @@ fn entry(alloc: Global, json: &Json, sessions: usize) -> Result<Entry, Fault>
 // The entry that the JSON is: a session's number, or a list.
 fn entry_in(json: &Json, sessions: usize) -> Option<Entry>
     requires { sessions ≤ 64 }
-    ensures { IsFound (IsEntry sessions (view json.now)) result }
+    ensures { IsFoundOrNone (IsEntry sessions (view json.now)) result }
 {
     match json {
         Json::Array(items) => entry_of_list(items, sessions),
@@ -82,7 +82,7 @@ fn entry_in(json: &Json, sessions: usize) -> Option<Entry>
 // The entry that a list is: a session's number, a word, and for some words a count.
 fn entry_of_list(items: &[Json], sessions: usize) -> Option<Entry>
     requires { sessions ≤ 64 }
-    ensures { IsFound (IsEntry sessions (array (items_view items.now))) result }
+    ensures { IsFoundOrNone (IsEntry sessions (array (items_view items.now))) result }
 {
     let [session, word, more @ ..] = items else {
         return None;
@@ -101,7 +101,7 @@ fn entry_of_list(items: &[Json], sessions: usize) -> Option<Entry>
 
 // The entry of this word without a count.
 fn plain(session: u32, word: &str) -> Option<Entry>
-    ensures { IsFound (λ e. listed session word.now no_items ≡ json_of e) result }
+    ensures { IsFoundOrNone (λ e. entry_list session word.now no_items ≡ json_of e) result }
 {
     match word {
         "draw" => Some(Entry::Draw(session)),
@@ -113,7 +113,7 @@ fn plain(session: u32, word: &str) -> Option<Entry>
 
 // The entry of this word with a count.
 fn repeated(session: u32, word: &str, count: u32) -> Option<Entry>
-    ensures { IsFound (λ e. listed session word.now (item (whole count) no_items) ≡ json_of e) result }
+    ensures { IsFoundOrNone (λ e. entry_list session word.now (item (whole count) no_items) ≡ json_of e) result }
 {
     match word {
         "say" => Some(Entry::Say(session, count)),

@@ -6,7 +6,7 @@ ghost use Rattle.jr_defs.specs.Reading.{IsTypeJson};
 ghost use Rattle.jr_types.specs.Rules.{type_fault};
 ghost use Rattle.cnd_print.specs.Printable.{KeepRules};
 ghost use Rattle.jr_args.specs.Outcomes.{Answers, Means, is, judged};
-ghost use Rattle.jr_script.specs.Types.{Adds, added, listed_of, types_of, with_type, written_of};
+ghost use Rattle.jr_script.specs.Types.{GivesTypes, added, listed_of, types_read, with_type, written_of};
 
 use crate::script::TextFault;
 use cnd_print::meanings_can_be_printed;
@@ -26,7 +26,7 @@ const TYPES: u8 = 9;
 pub type Types = Result<Registry, TextFault>;
 
 pub fn types(alloc: Global, json: &Json) -> Result<Types, Fault>
-    ensures { Answers (types_of (view json.now)) result }
+    ensures { Answers (types_read (view json.now)) result }
 {
     match json {
         Json::Array(items) => listed(alloc, items),
@@ -52,7 +52,7 @@ fn listed(alloc: Global, items: &[Json]) -> Result<Types, Fault>
 }
 
 fn add_listed(alloc: Global, registry: &mut Registry, items: &[Json]) -> Result<(), Fault>
-    ensures { Adds (added registry.old 0 (items_view items.now)) registry.new result }
+    ensures { GivesTypes (added registry.old 0 (items_view items.now)) registry.new result }
 {
     for (index, item) in items.iter().enumerate() {
         match add_json(alloc, registry, item) {
@@ -64,7 +64,7 @@ fn add_listed(alloc: Global, registry: &mut Registry, items: &[Json]) -> Result<
 }
 
 fn add_json(alloc: Global, registry: &mut Registry, json: &Json) -> Result<(), Fault>
-    ensures { Adds (with_type registry.old (view json.now)) registry.new result }
+    ensures { GivesTypes (with_type registry.old (view json.now)) registry.new result }
 {
     let definition = definition(alloc, json)?;
     match registry.add(definition) {

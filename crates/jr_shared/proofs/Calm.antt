@@ -16,7 +16,7 @@ use Rattle.oak_step.specs.declared.work.Work.{Work}
 use Rattle.oak_step.specs.declared.work.Work.TheVariants as work
 use Rattle.oak_step.specs.declared.upkeep.Upkeep.{Upkeep}
 use Rattle.oak_step.specs.declared.upkeep.Upkeep.TheVariants as upkeep
-use Rattle.oak_world.specs.Steps.{BeginsBackWrite, Makes, MakesBackRead, MakesBackWrite, MakesCommit, MakesUpdate, MakesUpkeep}
+use Rattle.oak_world.specs.Steps.{BeginsBackWrite, MakesState, MakesBackRead, MakesBackWrite, MakesCommit, MakesUpdate, MakesUpkeep}
 use Rattle.jr_shared.proofs.Lists.{never_longer, never_two_longer}
 
 module _ (s : ℕ) (w u : State) (same : u.past ≡ w.past) where
@@ -91,7 +91,7 @@ module _ (s : ℕ) (w u : State) (same : u.past ≡ w.past) where
   calm_upkeep upkeep.Observe v answers.Memory m = still m.0
   calm_upkeep upkeep.Observe v _ m = absurd m
 
-  pub calm : (x v : Work) (o : StepOut) → Makes s w x u v o → IsCalm
+  pub calm : (x v : Work) (o : StepOut) → MakesState s w x u v o → IsCalm
   calm work.Login v (answers.Ready (ends.Pinned pin)) m = never _ (ap (λ (x : State). x.past) m.0)
   calm work.Login v answers.Memory m = still m.0
   calm work.Login v _ m = absurd m

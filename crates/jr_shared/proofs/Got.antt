@@ -18,12 +18,12 @@ use Rattle.oak_port.specs.declared.task.Task.{Task}
 use Rattle.oak_port.specs.declared.task.Task.TheVariants as task
 use Rattle.oak_port.specs.Ports.{IsAskedOf, MayBegin}
 use Rattle.oak_step.specs.declared.work.Work.{Work}
-use Rattle.oak_world.specs.Left.{left_in, left_of}
+use Rattle.oak_world.specs.Left.{left_in, steps_left}
 use Rattle.oak_world.specs.Worlds.{ActorState, WorldOf, actor_in, idle, live, state_of, work_in}
 use Rattle.oak_world.proofs.Staying.{login_left, stay_left}
 use Rattle.jr_shared.specs.declared.locked.WorldFrame.{WorldFrame}
 use Rattle.jr_shared.specs.Meanings.{Owned, frame_of, journal_of, own_events, owned_of}
-use Rattle.jr_shared.specs.Holds.{HasLaw, IsGot, IsTold, Known, actor_by, has_seat, owned_by, seat_by}
+use Rattle.jr_shared.specs.Holds.{HasLaw, IsGot, IsTold, PassKnown, actor_by, has_seat, owned_by, seat_by}
 use Rattle.jr_shared.specs.Seen.{clusters_by, history_by, law_by, left_by, sessions_by, state_by, the}
 use Rattle.oak_world.proofs.Others.{attached_left, cursor_stays}
 use Rattle.jr_shared.proofs.Events.{are_others, run_before}
@@ -37,7 +37,7 @@ pub the_is : {A : Type 0} (o : Option A) (x : A) → o ≡ Some x → (there : i
 the_is None x e there = absurd (false≢true there)
 the_is (Some y) x e there = cc
 
-pub law_has : {L : Type 0} (v : Known L) (framed : is_some v.frame ≡ true) (l : L) → HasLaw v l → law_by v framed ≡ l
+pub law_has : {L : Type 0} (v : PassKnown L) (framed : is_some v.frame ≡ true) (l : L) → HasLaw v l → law_by v framed ≡ l
 law_has {L} v framed l has = ap (λ (f : WorldFrame L). f.law) (the_is v.frame has.0 has.1 framed) ∙ has.2
 
 pub some_part : (o : Option Owned) → is_some (option_and_then (λ p. p.seat) o) ≡ true → (q : Owned) × (o ≡ Some q)
@@ -51,7 +51,7 @@ within_some xs s (Some x) e h = slice_get_within xs s x e
 pub some_within : {X : Type 0} (xs : List X) (s : ℕ) (d : X) → s < length xs → is_some (slice_get xs s) ≡ true
 some_within xs s d less = ap is_some (slice_get-get_or xs s d less)
 
-module _ {L : Type 0} (law : Ghosts L) (old : Known L) (got : WorldOf L) (g : IsGot law old got) where
+module _ {L : Type 0} (law : Ghosts L) (old : PassKnown L) (got : WorldOf L) (g : IsGot law old got) where
   -- ---- the frame
 
   pub clusters_old : clusters_by old ≡ got.history.clusters
@@ -127,8 +127,8 @@ module _ {L : Type 0} (law : Ghosts L) (old : Known L) (got : WorldOf L) (g : Is
         ∙ (ap (λ (xs : List ℕ). record (state_by old) { clusters = got.history.clusters; sessions = xs }) sessions_old
         ∙ (ap (λ (xs : Past). record (state_by old) { clusters = got.history.clusters; sessions = got.history.sessions; past = xs }) (sym past)
         ∙ ap (λ (o : Option (WorldOf L)). record (blank (state_of got)) { table = option_map_or (λ w. w.table) o (state_by (record old { steady = None })).table; memories = option_map_or (λ w. w.memories) o [] }) steady)) in
-        ap (λ (x : State). left_of s x.table (memory_of x s) (actor_by old s).work) same
-        ∙ ap (λ (v : Work). left_of s got.table (memory_of (state_of got) s) v) work_got
+        ap (λ (x : State). steps_left s x.table (memory_of x s) (actor_by old s).work) same
+        ∙ ap (λ (v : Work). steps_left s got.table (memory_of (state_of got) s) v) work_got
 
     module _ (told : IsTold old) where
       same_events : own_events got.history.past s ≡ own_events (reverse old.seen) s

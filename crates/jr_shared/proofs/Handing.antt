@@ -12,7 +12,7 @@ use Rattle.oak_machine.specs.History.{Past}
 use Rattle.oak_world.specs.Worlds.{WorldOf, idle}
 use Rattle.core_world.proofs.Flights.{number_itself, same_number}
 use Rattle.jr_shared.specs.Meanings.{Owned, own_events, owned_of}
-use Rattle.jr_shared.specs.Holds.{IsTold, Known, first_known, has_seat, owned_by}
+use Rattle.jr_shared.specs.Holds.{IsTold, PassKnown, first_known, has_seat, owned_by}
 use Rattle.jr_shared.proofs.Got.{some_within}
 
 -- found in a list that is filtered by the authors
@@ -85,7 +85,7 @@ module _ {L : Type 0} where
       by (Some q) is = ap (λ (p : Owned). p.events) (found_of (owned_of w) (range_with_len 0 (length w.history.sessions)) s q is) ∙ ap (λ (xs : Past). own_events xs s) (sym (reverse-reverse w.history.past))
 
   -- a pass of fewer sessions that has seen as much is told too
-  pub told_among : (v w : Known L) (p : ℕ → Bool) → w.seen ≡ v.seen → w.parts ≡ filter (λ z. p z.0) v.parts → IsTold v → IsTold w
+  pub told_among : (v w : PassKnown L) (p : ℕ → Bool) → w.seen ≡ v.seen → w.parts ≡ filter (λ z. p z.0) v.parts → IsTold v → IsTold w
   told_among v w p seen parts told s = by (p s) refl
     where
       found : owned_by w s ≡ cond (p s) (owned_by v s) None

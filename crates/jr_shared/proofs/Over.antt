@@ -7,7 +7,7 @@ use Rattle.oak_step.specs.declared.upkeep.Upkeep.{Upkeep}
 use Rattle.oak_step.specs.declared.upkeep.Upkeep.TheVariants as upkeep
 use Rattle.oak_step.specs.declared.work.Work.{Work}
 use Rattle.oak_step.specs.declared.work.Work.TheVariants as work
-use Rattle.oak_world.specs.Left.{commit_left, left_of, upkeep_left}
+use Rattle.oak_world.specs.Left.{commit_left, steps_left, upkeep_left}
 
 -- a commit always has a step left
 going : (w : State) (c : Committing) (o : Option CommitEnd) → commit_left w.table c o ≡ 0 → ⊥
@@ -15,7 +15,7 @@ going w c None h = omega (arith, h)
 going w c (Some e) h = omega (arith, h)
 
 -- where a session has no step left at one state, none is left at another
-pub none_left : (s : ℕ) (w u : State) (v : Work) → left_of s w.table (memory_of w s) v ≡ 0 → left_of s u.table (memory_of u s) v ≡ 0
+pub none_left : (s : ℕ) (w u : State) (v : Work) → steps_left s w.table (memory_of w s) v ≡ 0 → steps_left s u.table (memory_of u s) v ≡ 0
 none_left s w u work.Rest h = refl
 none_left s w u work.Login h = absurd (omega (arith, h))
 none_left s w u work.End h = absurd (omega (arith, h))

@@ -21,7 +21,7 @@ use Rattle.oak_port.specs.declared.task.Task.{Task}
 use Rattle.oak_port.specs.Ports.{ActedAlone, AreOfStep, Answers, Grows, Idle, IsWait, Makes, OthersAlone, Starting, StaysSo, Steps, Work as Shows, is_by_due}
 use Rattle.oak_step.specs.declared.work.Work.{Work}
 use Rattle.oak_step.specs.declared.work.Work.TheVariants as work
-use Rattle.oak_world.specs.Left.{left_in, left_of}
+use Rattle.oak_world.specs.Left.{left_in, steps_left}
 use Rattle.oak_world.specs.Seen.{shown_at, shown_work}
 use Rattle.oak_step.specs.Works.{Begins, kind_due}
 use Rattle.oak_world.specs.Worlds.{ActorState, WorldOf, actor_in, idle, live, said_in, state_of, with_reply, with_work, work_in}
@@ -31,7 +31,7 @@ use Rattle.oak_world.proofs.States.{actor_set}
 use Rattle.seat_lock.specs.declared.rule.Round.TheVariants as round
 use Rattle.jr_shared.specs.declared.locked.WorldFrame.{WorldFrame}
 use Rattle.jr_shared.specs.Meanings.{Owned, frame_of, own_events, owned_of, steady_of}
-use Rattle.jr_shared.specs.Holds.{DueIs, IsTold, Known, OneHold, PinIs, Reserved, Stepped, actor_by, has_seat, owned_by, seat_by}
+use Rattle.jr_shared.specs.Holds.{DueIs, IsTold, PassKnown, OneHold, PinIs, Reserved, Stepped, actor_by, has_seat, owned_by, seat_by}
 use Rattle.jr_shared.specs.Seen.{history_by, law_by, left_by, shown_through, state_by}
 use Rattle.jr_shared.proofs.Acts.{step_grows}
 use Rattle.jr_shared.proofs.Got
@@ -51,7 +51,7 @@ cancel (x ∷ xs) (y ∷ ys) zs h =
     let same = cancel xs ys zs rest in
     λ i. first i ∷ same i
 
-module _ {L : Type 0} (law : Ghosts L) (old new : Known L) (s : ℕ) (made : WorldOf L → WorldOf L → Type 0) (h : OneHold law old new s made) where
+module _ {L : Type 0} (law : Ghosts L) (old new : PassKnown L) (s : ℕ) (made : WorldOf L → WorldOf L → Type 0) (h : OneHold law old new s made) where
   abbrev got : WorldOf L
   got = h.got
 
@@ -64,7 +64,7 @@ module _ {L : Type 0} (law : Ghosts L) (old new : Known L) (s : ℕ) (made : Wor
   -- ---- the frame
 
   frame_new : new.frame ≡ Some (frame_of left)
-  frame_new = ap (λ (v : Known L). v.frame) h.known ∙ (h.got_is.frame_is ∙ ap Some (sym h.alone.frame_is))
+  frame_new = ap (λ (v : PassKnown L). v.frame) h.known ∙ (h.got_is.frame_is ∙ ap Some (sym h.alone.frame_is))
 
   pub framed_new : is_some new.frame ≡ true
   framed_new = ap is_some frame_new
@@ -80,7 +80,7 @@ module _ {L : Type 0} (law : Ghosts L) (old new : Known L) (s : ℕ) (made : Wor
   history_new : history_by new ≡ live left.history
   history_new =
       ap (λ (o : Option (WorldFrame L)). record { clusters = option_map_or (λ f. f.clusters) o 0; sessions = option_map_or (λ f. f.sessions) o []; begin = None; past = reverse new.seen }) frame_new
-      ∙ ap (λ (xs : Past). record (live left.history) { past = xs }) (ap (λ (v : Known L). reverse v.seen) h.known ∙ reverse-reverse left.history.past)
+      ∙ ap (λ (xs : Past). record (live left.history) { past = xs }) (ap (λ (v : PassKnown L). reverse v.seen) h.known ∙ reverse-reverse left.history.past)
 
   run_new : IsRun (law.may_start got.law) (law.may_say got.law) (live left.history)
   run_new = subst (λ (l : L). IsRun (law.may_start l) (law.may_say l) (live left.history)) law_left h.left_whole.kept.sessions.run
@@ -88,7 +88,7 @@ module _ {L : Type 0} (law : Ghosts L) (old new : Known L) (s : ℕ) (made : Wor
   -- ---- what is owned
 
   owned_new : (q : ℕ) → owned_by new q ≡ option_map (λ p. owned_of left q) (owned_by old q)
-  owned_new q = ap (λ (v : Known L). lookup (λ a. a == q) v.parts) h.known ∙ found_retold (owned_of left) old.parts q
+  owned_new q = ap (λ (v : PassKnown L). lookup (λ a. a == q) v.parts) h.known ∙ found_retold (owned_of left) old.parts q
 
   -- the pass knows of each of its sessions just the events that it has seen
   pub told_new : IsTold new
@@ -96,7 +96,7 @@ module _ {L : Type 0} (law : Ghosts L) (old new : Known L) (s : ℕ) (made : Wor
     where
       by : (o : Option Owned) → IfSome (option_map (λ p. owned_of left q) o) (λ part. part.events ≡ own_events (reverse new.seen) q)
       by None = tt
-      by (Some p) = ap (λ (xs : Past). own_events xs q) (sym (ap (λ (v : Known L). reverse v.seen) h.known ∙ reverse-reverse left.history.past))
+      by (Some p) = ap (λ (xs : Past). own_events xs q) (sym (ap (λ (v : PassKnown L). reverse v.seen) h.known ∙ reverse-reverse left.history.past))
 
   -- what the pass's other sessions own stays
   pub others_new : (q : ℕ) → q ≢ s → owned_by new q ≡ owned_by old q
@@ -107,10 +107,10 @@ module _ {L : Type 0} (law : Ghosts L) (old new : Known L) (s : ℕ) (made : Wor
       by (Some p) is = ap Some (h.alone.others q apart ∙ h.got_is.parts q p (found_part old.parts q p is))
 
   pub weight_new : new.weight ≡ old.weight
-  weight_new = ap (λ (v : Known L). v.weight) h.known
+  weight_new = ap (λ (v : PassKnown L). v.weight) h.known
 
   pub rest_new : new.round ≡ round.Idle
-  rest_new = ap (λ (v : Known L). v.round) h.known
+  rest_new = ap (λ (v : PassKnown L). v.round) h.known
 
   module _ (seat : has_seat old s ≡ true) where
     actor_got : actor_by old s ≡ actor_in got.actors s
@@ -135,12 +135,12 @@ module _ {L : Type 0} (law : Ghosts L) (old new : Known L) (s : ℕ) (made : Wor
 
     pub left_new : left_by new s ≡ left_in left s
     left_new =
-        let steady : new.steady ≡ Some (steady_of left) = ap (λ (v : Known L). v.steady) h.known in
+        let steady : new.steady ≡ Some (steady_of left) = ap (λ (v : PassKnown L). v.steady) h.known in
         let same : state_by new ≡ blank (state_of left) =
         ap (λ (x : History). record (state_by new) { clusters = x.clusters; sessions = x.sessions; past = x.past }) history_new
         ∙ ap (λ (o : Option (WorldOf L)). record (blank (state_of left)) { table = option_map_or (λ w. w.table) o (state_by (record new { steady = None })).table; memories = option_map_or (λ w. w.memories) o [] }) steady in
-        ap (λ (x : State). left_of s x.table (memory_of x s) (actor_by new s).work) same
-        ∙ ap (λ (a : ActorState). left_of s left.table (memory_of (state_of left) s) a.work) actor_new
+        ap (λ (x : State). steps_left s x.table (memory_of x s) (actor_by new s).work) same
+        ∙ ap (λ (a : ActorState). steps_left s left.table (memory_of (state_of left) s) a.work) actor_new
 
     -- ---- what is due
 
@@ -154,7 +154,7 @@ module _ {L : Type 0} (law : Ghosts L) (old new : Known L) (s : ℕ) (made : Wor
     pub over_is : (r : Option StepKind) → DueIs got s r left → left_by old s ≡ 0 → shown_work (actor_by old s).work ≡ Idle
     over_is r d none =
         let left_got : left_in got s ≡ 0 =
-        subst (λ (v : Work). left_of s got.table (memory_of (state_of got) s) v ≡ 0) (ap (λ (a : ActorState). a.work) actor_got)
+        subst (λ (v : Work). steps_left s got.table (memory_of (state_of got) s) v ≡ 0) (ap (λ (a : ActorState). a.work) actor_got)
         (none_left s (state_by old) (state_of got) (actor_by old s).work none) in
         ap (λ (a : ActorState). shown_work a.work) actor_got ∙ ap shown_work (d.over left_got)
 

@@ -32,28 +32,28 @@ use Rattle.jr_shared.specs.declared.locked.WorldFrame.{WorldFrame}
 use Rattle.jr_shared.specs.Meanings.{Owned, frame_of, journal_of, own_events, owned_of, steady_of}
 
 -- what a pass of a shared world knows
-abbrev pub Known : Type 0 → Type 0
-Known L = View (LockedWorld L) Event Owned (WorldFrame L) (WorldOf L)
+abbrev pub PassKnown : Type 0 → Type 0
+PassKnown L = View (LockedWorld L) Event Owned (WorldFrame L) (WorldOf L)
 
 module _ {L : Type 0} where
   -- what a session of the pass owns, as the pass last left it
-  abbrev pub owned_by : Known L → ℕ → Option Owned
+  abbrev pub owned_by : PassKnown L → ℕ → Option Owned
   owned_by v s = lookup (λ a. a == s) v.parts
 
   -- what it does, and what is kept for it, where it is one of the world's
-  abbrev pub seat_by : Known L → ℕ → Option ActorState
+  abbrev pub seat_by : PassKnown L → ℕ → Option ActorState
   seat_by v s = option_and_then (λ part. part.seat) (owned_by v s)
 
   -- the same; for one that the pass doesn't know, what a session has that does nothing
-  abbrev pub actor_by : Known L → ℕ → ActorState
+  abbrev pub actor_by : PassKnown L → ℕ → ActorState
   actor_by v s = unwrap_or (seat_by v s) idle
 
   -- the pass has that session, which is one of the world's
-  abbrev pub has_seat : Known L → ℕ → Bool
+  abbrev pub has_seat : PassKnown L → ℕ → Bool
   has_seat v s = is_some (seat_by v s)
 
   -- what the first pass of a world knows: it has each session and all the weight, and has seen the whole journal
-  abbrev pub first_known : WorldOf L → Known L
+  abbrev pub first_known : WorldOf L → PassKnown L
   first_known w = record {
     round = round.Idle;
     weight = 1024;
@@ -67,7 +67,7 @@ module _ {L : Type 0} where
 
   -- what a pass knows that got one world and gave back another: it has seen all of its journal, has the places of the events that were added meanwhile,
   -- and has for each of its sessions what that owns of the world
-  abbrev pub known_after : WorldOf L → WorldOf L → Known L → Known L
+  abbrev pub known_after : WorldOf L → WorldOf L → PassKnown L → PassKnown L
   known_after got left v = record v {
     round = round.Idle;
     steady = Some (steady_of left);
@@ -92,12 +92,12 @@ module _ {L : Type 0} where
     pub asked : AreAsked (law.asks w.law) (live w.history)
 
   -- of each of its sessions the pass knows just the events that it has seen of it
-  abbrev pub IsTold : Known L → Type 0
+  abbrev pub IsTold : PassKnown L → Type 0
   IsTold v = (s : ℕ) → IfSome (owned_by v s) (λ part. part.events ≡ own_events (reverse v.seen) s)
 
   -- a pass that knew this got this world: it is whole, it goes on from what the pass had seen, and the pass's sessions own what they did when the pass last had it; and the documents
   -- and the memories are as they were then, if no event was added since
-  pub record IsGot (law : Ghosts L) (old : Known L) (got : WorldOf L) : Type 0 where
+  pub record IsGot (law : Ghosts L) (old : PassKnown L) (got : WorldOf L) : Type 0 where
     pub whole : IsWhole law got
     pub frame_is : old.frame ≡ Some (frame_of got)
     pub seen : IsPrefix old.seen (journal_of got)
@@ -105,7 +105,7 @@ module _ {L : Type 0} where
     pub steady_is : old.seen ≡ journal_of got → old.steady ≡ Some (steady_of got)
 
   -- under one hold of the lock one call of the world was made for session s
-  pub record OneHold (law : Ghosts L) (old new : Known L) (s : ℕ) (made : WorldOf L → WorldOf L → Type 0) : Type 0 where
+  pub record OneHold (law : Ghosts L) (old new : PassKnown L) (s : ℕ) (made : WorldOf L → WorldOf L → Type 0) : Type 0 where
     -- the world that was got, and the world that was given back, which is whole
     pub got : WorldOf L
     pub left : WorldOf L
@@ -150,5 +150,5 @@ module _ {L : Type 0} where
     pub err : OnErr r (u ≡ w)
 
   -- each world of the pass has this law
-  abbrev pub HasLaw : Known L → L → Type 0
+  abbrev pub HasLaw : PassKnown L → L → Type 0
   HasLaw v law = (f : WorldFrame L) × (v.frame ≡ Some f) × (f.law ≡ law)

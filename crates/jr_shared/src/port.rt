@@ -20,11 +20,11 @@ use std::sync::Wait;
 /// them, so that what the port leaves of the pass can be told by them.
 pub trait Taken<L: Law> {
     ghost use Rattle.atomic_table.specs.Seated.{TableId};
-    ghost use Rattle.jr_shared.specs.Holds.{Known};
+    ghost use Rattle.jr_shared.specs.Holds.{PassKnown};
 
     ghost table: { TableId };
 
-    ghost view: { Known L };
+    ghost view: { PassKnown L };
 }
 
 impl<L: Law> Taken<L> for Brand {

@@ -24,7 +24,7 @@ use Rattle.jr_stage.specs.declared.stage.Stage.{Stage}
 use Rattle.jr_stage.specs.Flights.{IsFlight}
 use Rattle.jr_stage.specs.Places.{history_at}
 use Rattle.jr_stage.specs.Seats.{AreNew, IsNewSeat}
-use Rattle.jr_stage.specs.Stages.{IsBegun, IsSeated, law_of}
+use Rattle.jr_stage.specs.Stages.{IsFirstStage, IsSeated, law_of}
 use Rattle.jr_stage.proofs.Flying.{none_is_some, some_is_some}
 use Rattle.jr_stage.proofs.Turning.{commands_at}
 use Rattle.jr_stage.proofs.Within.{session_within, within_nodes}
@@ -123,7 +123,7 @@ module _ (script : Script) (within : IsWithin script) where
               seen = λ r theirs unseen. absurd (false≢true theirs);
             }
 
-    pub begun : (stage : Stage) → stage.script.value ≡ script → stage.schedule ≡ script.schedule → stage.world ≡ start → stage.seats.items ≡ seats → IsBegun script stage
+    pub begun : (stage : Stage) → stage.script.value ≡ script → stage.schedule ≡ script.schedule → stage.world ≡ start → stage.seats.items ≡ seats → IsFirstStage script stage
     begun stage script_is schedule_is world_is seats_are = record {
       script_is = script_is;
       stage_is = record {
@@ -141,7 +141,7 @@ module _ (script : Script) (within : IsWithin script) where
 
   -- the same, by what the product's law says of every run
   pub begun_by : (stage : Stage) → ((l : JcrLaw) (clusters : ℕ) (sessions : List ℕ) → AreNodes clusters sessions → SeesTrees l clusters sessions None)
-      → ((l : JcrLaw) (clusters : ℕ) (sessions : List ℕ) → AreNodes clusters sessions → TypesOk l.types initial_tree → SeesTyped l clusters sessions None) → AreNew script.types script.sessions (length script.sessions) stage.seats.items → stage.world ≡ start → stage.script.value ≡ script → stage.schedule ≡ script.schedule → IsBegun script stage
+      → ((l : JcrLaw) (clusters : ℕ) (sessions : List ℕ) → AreNodes clusters sessions → TypesOk l.types initial_tree → SeesTyped l clusters sessions None) → AreNew script.types script.sessions (length script.sessions) stage.seats.items → stage.world ≡ start → stage.script.value ≡ script → stage.schedule ≡ script.schedule → IsFirstStage script stage
   begun_by stage trees typed new world_is script_is schedule_is =
       begun stage.seats.items new
       (trees (law_of script) script.clusters (map (λ s. s.cluster) script.sessions) (within_nodes script within))

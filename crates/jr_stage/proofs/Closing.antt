@@ -12,7 +12,7 @@ use Rattle.jr_script.specs.declared.script.Script.{Script}
 use Rattle.jr_script.specs.declared.script.Entry.TheVariants as entry
 use Rattle.jr_stage.specs.declared.stage.Stage.{Stage}
 use Rattle.jr_stage.specs.Places.{history_at, is_at_last, is_over, is_resting, is_waiting}
-use Rattle.jr_stage.specs.Parts.{Rule, by_entry, events_of, is_done, is_part, is_turn, session_of}
+use Rattle.jr_stage.specs.Parts.{Rule, by_entry, events_of, is_part_over, is_part, is_turn, part_session}
 use Rattle.jr_stage.specs.SoFar.{IsCutSoFar, IsDouble, IsQuiet, IsSingle, IsStepAt, IsUnderWay, is_last_due}
 use Rattle.jr_stage.specs.Stages.{Closes, Comes, HasCome, IsStage, IsUnder, due_at, past_of}
 use Rattle.jr_stage.proofs.SoFar.{cut_closes, cut_due, cut_steps, part_turns, way_begins, way_steps}
@@ -85,7 +85,7 @@ module _ (first stage new : Stage) (rule : Rule) (part : Past) (s : ℕ) (answer
     pub awake_part : is_resting first.script.value (part ++ past_of first) s ≡ false
     awake_part = step_part.awake
 
-    pub under_steps : session_of rule ≡ s → is_done first.script.value rule (past_of first) part ≡ false
+    pub under_steps : part_session rule ≡ s → is_part_over first.script.value rule (past_of first) part ≡ false
         → ((t : ℕ) → rule ≡ by_entry (entry.Last t) → is_last_due (due_at stage.world s) ≡ true → is_at_last (part ++ past_of first) t ≡ false)
         → IsUnder first new rule (come.own ++ part)
     under_steps same done late = record {

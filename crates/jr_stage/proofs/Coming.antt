@@ -20,7 +20,7 @@ use Rattle.oak_machine.specs.Heads.{head_of}
 use Rattle.oak_machine.specs.Laws.{after, is_event_of, is_revision_of}
 use Rattle.oak_machine.specs.Runs.{AreNodes, IsRun, IsRunOf}
 use Rattle.oak_machine.specs.Sessions.{has_left, is_drawing, is_end_of_session, is_reply_of, is_stopped, next_index}
-use Rattle.oak_machine.specs.Steps.{is_appended_by, is_kind, is_moving, is_on, is_one_step, kind_number, kinds_for, leaves_went}
+use Rattle.oak_machine.specs.Steps.{is_appended_by, is_kind, moves_head, is_on, is_one_step, step_number, kinds_for, leaves_went}
 use Rattle.oak_machine.proofs.Stays.{any_later}
 use Rattle.core_heads.proofs.Passing.{next_stays}
 use Rattle.oak_port.specs.Ports.{Awaiting, Beside, Deciding, Idle, Seat as PortSeat, Shown, Starting, Undoing, Work, Writing, is_by_due, Publishing, Learning, Detaching}
@@ -100,7 +100,7 @@ made_of script past s k (event.Refresh t v) a step idle = inl (where_true k (t =
 made_of script past s k (event.Draw d) a step idle = inl (where_true k (d.session == s) _ a)
 made_of script past s k (event.Commit r) a step idle = inl (where_true k (is_revision_of past s r) _ a)
 made_of script past s k (event.Refuse r item o) a step idle = inl (where_true k (is_revision_of past s r) _ a)
-made_of script past s k (event.End r) a step idle = inl (halves (is_revision_of past s r) _ (where_true k (is_revision_of past s r && not (is_moving (history_at script past) r)) _ a)).0
+made_of script past s k (event.End r) a step idle = inl (halves (is_revision_of past s r) _ (where_true k (is_revision_of past s r && not (moves_head (history_at script past) r)) _ a)).0
 made_of script past s k (event.Went t j) a step idle = inl (halves (t == s) _ (where_true k (t == s && leaves_went j) _ a)).0
 made_of script past s k (event.Attach t id) a step idle = inl (where_true k (t == s) _ a)
 made_of script past s k (event.Detach t) a step idle = inl (where_true k (t == s) _ a)
@@ -134,8 +134,8 @@ apart_marks : {A : Type 0} (n : ℕ) → (5 == n) ≡ true → (6 == n) ≡ true
 apart_marks n h k = absurd (grind (arith, nat_tests))
 
 not_written : (due : Option StepKind) (e : Event) → is_by_due due (e ∷ []) ≡ true → is_last_due due ≡ true → is_write_or_mark e ≡ false
-not_written (Some k) (event.Went t kind.Write) by last = apart_kinds (kind_number k) by last
-not_written (Some k) (event.Went t kind.Mark) by last = apart_marks (kind_number k) by last
+not_written (Some k) (event.Went t kind.Write) by last = apart_kinds (step_number k) by last
+not_written (Some k) (event.Went t kind.Mark) by last = apart_marks (step_number k) by last
 not_written None (event.Went t kind.Write) by last = absurd (false≢true last)
 not_written None (event.Went t kind.Mark) by last = absurd (false≢true last)
 not_written due (event.Went t k) by last = refl
@@ -252,21 +252,21 @@ module _ (script : Script) (n : GName) (s : ℕ) (old new : WorldOf JcrLaw) (sea
 
     -- the end of a revision, and the head that it moved
     module _ (k : StepKind) (c : ℕ) (v : RevVec) (r : Revision) (is : own ≡ event.Head c v ∷ event.End r ∷ []) (appended : is_appended_by (history_at script past) s k (reverse own) ≡ true) where
-      kinds : (is_revision_of past s r && is_moving (history_at script past) r && r.cluster == c) ≡ true
-      kinds = where_true k (is_revision_of past s r && is_moving (history_at script past) r && r.cluster == c) (kind.Finish ∷ [])
+      kinds : (is_revision_of past s r && moves_head (history_at script past) r && r.cluster == c) ≡ true
+      kinds = where_true k (is_revision_of past s r && moves_head (history_at script past) r && r.cluster == c) (kind.Finish ∷ [])
           (sym (appended_one (history_at script past) s k (event.End r) (event.Head c v ∷ [])) ∙ subst (λ (o : Past). is_appended_by (history_at script past) s k (reverse o) ≡ true) is appended)
 
-      first_two : (is_revision_of past s r && is_moving (history_at script past) r) ≡ true
-      first_two = (halves (is_revision_of past s r && is_moving (history_at script past) r) (r.cluster == c) kinds).0
+      first_two : (is_revision_of past s r && moves_head (history_at script past) r) ≡ true
+      first_two = (halves (is_revision_of past s r && moves_head (history_at script past) r) (r.cluster == c) kinds).0
 
       theirs : is_revision_of past s r ≡ true
-      theirs = (halves (is_revision_of past s r) (is_moving (history_at script past) r) first_two).0
+      theirs = (halves (is_revision_of past s r) (moves_head (history_at script past) r) first_two).0
 
-      moves : is_moving (history_at script past) r ≡ true
-      moves = (halves (is_revision_of past s r) (is_moving (history_at script past) r) first_two).1
+      moves : moves_head (history_at script past) r ≡ true
+      moves = (halves (is_revision_of past s r) (moves_head (history_at script past) r) first_two).1
 
       near_cluster : (r.cluster == c) ≡ true
-      near_cluster = (halves (is_revision_of past s r && is_moving (history_at script past) r) (r.cluster == c) kinds).1
+      near_cluster = (halves (is_revision_of past s r && moves_head (history_at script past) r) (r.cluster == c) kinds).1
 
       run_mid : IsRunOf (starts_of old.law) (says_of old.law) script.clusters (map (λ x. x.cluster) script.sessions) None (event.End r ∷ past)
       run_mid = (subst (λ (o : Past). IsRunOf (starts_of old.law) (says_of old.law) script.clusters (map (λ x. x.cluster) script.sessions) None (o ++ past)) is run_new).1

@@ -14,7 +14,7 @@ use Rattle.jr_script.specs.declared.script.Script.{Script}
 use Rattle.jr_script.specs.declared.script.Entry.TheVariants as entry
 use Rattle.jr_stage.specs.declared.stage.Stage.{Stage}
 use Rattle.jr_stage.specs.Places.{is_over, is_resting, is_waiting}
-use Rattle.jr_stage.specs.Parts.{Rule, by_entry, has_just_said, is_done, to_end, to_reply}
+use Rattle.jr_stage.specs.Parts.{Rule, by_entry, has_just_said, is_part_over, to_end, to_reply}
 use Rattle.jr_stage.specs.SoFar.{IsDouble, IsSingle, IsStepAt}
 use Rattle.jr_stage.specs.Stages.{Closes, HasCome, IsStage, IsUnder, due_at, past_of}
 use Rattle.jr_stage.proofs.SoFar.{part_closes, part_replies, part_says}
@@ -83,7 +83,7 @@ module _ (first stage : Stage) (s n said : ℕ) where
       (part_says first.script.value (past_of first) s n has.part has.under.way (or_true (nat_le n (count_by (is_reply_of s) has.part)) _ (at_least n (count_by (is_reply_of s) has.part) (sym all ∙ has.count)))) tt
 
   module _ (has : HasSaid first stage s n said) (short : said < n) (new : Stage) where
-    not_done : is_resting first.script.value (has.part ++ past_of first) s ≡ false → is_done first.script.value (by_entry (entry.Say s n)) (past_of first) has.part ≡ false
+    not_done : is_resting first.script.value (has.part ++ past_of first) s ≡ false → is_part_over first.script.value (by_entry (entry.Say s n)) (past_of first) has.part ≡ false
     not_done awake = ap (λ b. b || is_resting first.script.value (has.part ++ past_of first) s) (subst (λ (c : ℕ). nat_le n c ≡ false) has.count (short_of n said short)) ∙ awake
 
     pub say_steps : (k : StepKind) → HasCome stage new s (turn.Stepped k) → HasSaid first new s n said

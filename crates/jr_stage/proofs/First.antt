@@ -17,7 +17,7 @@ use Rattle.oak_machine.specs.Runs.{AreNodes, IsRunOf}
 use Rattle.oak_machine.specs.Sessions.{is_drawing, is_drawing_among}
 use Rattle.oak_port.specs.Ports.{HoldsBack}
 use Rattle.jr_script.specs.declared.script.Script.{Script}
-use Rattle.jr_stage.specs.Awaited.{DrawsNone, IsAlone, IsNextToReply, IsStill, KeepsWaiting, LeavesOthers}
+use Rattle.jr_stage.specs.Awaited.{DrawsNone, IsAlone, IsNextToReply, IsStill, KeepsWaiting, LeavesOtherSessions}
 use Rattle.jr_stage.specs.Places.{is_own}
 use Rattle.jr_stage.specs.SoFar.{IsDouble, IsSingle}
 use Rattle.jr_stage.proofs.Flying.{flight_other, flying_by, halves, same_itself}
@@ -74,21 +74,21 @@ pub record HasFlying (now past : Past) (s : ℕ) : Type 0 where
 
 -- ---- what turns leave
 
-pub leaves_same : (past : Past) (s : ℕ) → LeavesOthers past past s
+pub leaves_same : (past : Past) (s : ℕ) → LeavesOtherSessions past past s
 leaves_same past s = record { drawing = λ t apart. refl; drawn = λ t r apart h. h; flying = λ t r apart own h. h }
 
-pub leaves_on : (old mid new : Past) (s : ℕ) → LeavesOthers old mid s → LeavesOthers mid new s → LeavesOthers old new s
+pub leaves_on : (old mid new : Past) (s : ℕ) → LeavesOtherSessions old mid s → LeavesOtherSessions mid new s → LeavesOtherSessions old new s
 leaves_on old mid new s before later = record {
   drawing = λ t apart. later.drawing t apart ∙ before.drawing t apart;
   drawn = λ t r apart h. before.drawn t r apart (later.drawn t r apart h);
   flying = λ t r apart own h. before.flying t r apart (later.drawn t r apart own) (later.flying t r apart own h);
 }
 
-pub alone_stays : (old new : Past) (s : ℕ) → LeavesOthers old new s → IsAlone old s → IsAlone new s
+pub alone_stays : (old new : Past) (s : ℕ) → LeavesOtherSessions old new s → IsAlone old s → IsAlone new s
 alone_stays old new s leaves alone t apart = leaves.drawing t apart ∙ alone t apart
 
 -- the revisions of two sessions are those that they had, and the first one's commit was in flight
-still_waiting : (old new : Past) (s t u : ℕ) → LeavesOthers old new s → (t == s) ≡ false → ((r : Revision) → is_revision_of new u r ≡ true → is_revision_of old u r ≡ true) → KeepsWaiting new t u → KeepsWaiting old t u
+still_waiting : (old new : Past) (s t u : ℕ) → LeavesOtherSessions old new s → (t == s) ≡ false → ((r : Revision) → is_revision_of new u r ≡ true → is_revision_of old u r ≡ true) → KeepsWaiting new t u → KeepsWaiting old t u
 still_waiting old new s t u leaves apart drawn waits = record {
   holding = waits.holding;
   held = waits.held;
@@ -101,11 +101,11 @@ still_waiting old new s t u leaves apart drawn waits = record {
   };
 }
 
-pub first_stays : (old new : Past) (s : ℕ) → LeavesOthers old new s → DrawsNone old new s → IsNextToReply old s → IsNextToReply new s
+pub first_stays : (old new : Past) (s : ℕ) → LeavesOtherSessions old new s → DrawsNone old new s → IsNextToReply old s → IsNextToReply new s
 first_stays old new s leaves none first t apart waits = first t apart (still_waiting old new s t s leaves apart none waits)
 
 -- who is kept waiting by another was before a third one's turns
-pub waits_still : (old new : Past) (s t u : ℕ) → LeavesOthers old new s → (t == s) ≡ false → (u == s) ≡ false → KeepsWaiting new t u → KeepsWaiting old t u
+pub waits_still : (old new : Past) (s t u : ℕ) → LeavesOtherSessions old new s → (t == s) ≡ false → (u == s) ≡ false → KeepsWaiting new t u → KeepsWaiting old t u
 waits_still old new s t u leaves apart other waits = still_waiting old new s t u leaves apart (λ r h. leaves.drawn u r other h) waits
 
 -- ---- who waits
@@ -224,7 +224,7 @@ module _ (clusters : ℕ) (sessions : List ℕ) (nodes : AreNodes clusters sessi
             (ended_then e other has.draw.revision own ∙ has.unended)
         by false idle = flight_other clusters sessions nodes starts says t e past None run other idle
 
-  event_leaves : (past : Past) (s : ℕ) (e : Event) → IsRunOf starts says clusters sessions None (e ∷ past) → ((t : ℕ) → (t == s) ≡ false → is_own past t e ≡ false) → LeavesOthers past (e ∷ past) s
+  event_leaves : (past : Past) (s : ℕ) (e : Event) → IsRunOf starts says clusters sessions None (e ∷ past) → ((t : ℕ) → (t == s) ≡ false → is_own past t e ≡ false) → LeavesOtherSessions past (e ∷ past) s
   event_leaves past s e run other = record {
     drawing = λ t apart. drawing_then past t e run (other t apart);
     drawn = λ t r apart h. drawn_then past t e (other t apart) r h;
@@ -233,14 +233,14 @@ module _ (clusters : ℕ) (sessions : List ℕ) (nodes : AreNodes clusters sessi
 
   module _ (script : Script) (s : ℕ) (past : Past) where
     -- the events of a turn of s
-    pub turn_leaves : (own : Past) → IsRunOf starts says clusters sessions None (own ++ past) → (own ≡ []) ⊎ (IsSingle script past s own ⊎ IsDouble script past s own) → LeavesOthers past (own ++ past) s
-    turn_leaves own run (inl none) = subst (λ (o : Past). LeavesOthers past (o ++ past) s) (sym none) (leaves_same past s)
+    pub turn_leaves : (own : Past) → IsRunOf starts says clusters sessions None (own ++ past) → (own ≡ []) ⊎ (IsSingle script past s own ⊎ IsDouble script past s own) → LeavesOtherSessions past (own ++ past) s
+    turn_leaves own run (inl none) = subst (λ (o : Past). LeavesOtherSessions past (o ++ past) s) (sym none) (leaves_same past s)
     turn_leaves own run (inr (inl one)) =
-        subst (λ (o : Past). LeavesOthers past (o ++ past) s) (sym one.is)
+        subst (λ (o : Past). LeavesOtherSessions past (o ++ past) s) (sym one.is)
         (event_leaves past s one.event (subst (λ (o : Past). IsRunOf starts says clusters sessions None (o ++ past)) one.is run) (λ t apart. not_of_another script past t s apart one.event one.made))
     turn_leaves own run (inr (inr two)) =
         let ran : IsRunOf starts says clusters sessions None (event.Head two.cluster two.head ∷ event.End two.revision ∷ past) = subst (λ (o : Past). IsRunOf starts says clusters sessions None (o ++ past)) two.is run in
-        subst (λ (o : Past). LeavesOthers past (o ++ past) s) (sym two.is)
+        subst (λ (o : Past). LeavesOtherSessions past (o ++ past) s) (sym two.is)
         (leaves_on past (event.End two.revision ∷ past) (event.Head two.cluster two.head ∷ event.End two.revision ∷ past) s
         (event_leaves past s (event.End two.revision) ran.1 (λ t apart. one_session past t s apart (event.End two.revision) two.theirs))
         (event_leaves (event.End two.revision ∷ past) s (event.Head two.cluster two.head) ran (λ t apart. refl)))

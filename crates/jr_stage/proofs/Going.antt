@@ -9,7 +9,7 @@ use Rattle.jcr_run.specs.declared.turn.Turn.TheVariants as turn
 use Rattle.jr_script.specs.declared.script.Entry.{Entry}
 use Rattle.jr_stage.specs.declared.stage.Stage.{Stage}
 use Rattle.jr_stage.specs.Nearing.{StepsNearer, works_at, left_at, steps_at}
-use Rattle.jr_stage.specs.Stages.{AreSteps, EndsSteps, HasCome, IsNearerOrCome, IsStage, IsThrough, StepsUntil, comes_to, has_come, no_step, one_step}
+use Rattle.jr_stage.specs.Stages.{AreSteps, EndsSteps, HasCome, IsNearerOrCome, IsStage, IsEntryOver, StepsUntil, comes_to, has_come, no_step, one_step}
 
 -- ---- numbers
 
@@ -102,7 +102,7 @@ module _ (old mid new : Stage) (s : ℕ) (until : Option Entry) (steps : AreStep
 
 -- a step, and what is made of the task behind it, brings the session nearer
 module _ (old mid new : Stage) (s : ℕ) (until : Option Entry) (k : StepKind) (short : comes_to old s until ≡ false) (come : HasCome old mid s (turn.Stepped k)) where
-  through_nearer : IsThrough mid new s until → IsNearerOrCome old new s until
+  through_nearer : IsEntryOver mid new s until → IsNearerOrCome old new s until
   through_nearer (most, inr less) = inl (by (works_at old s) (works_at mid s) refl come.nears)
     where
       by : (b c : Bool) → works_at mid s ≡ c → StepsNearer (b && c) old mid s → left_at new s < left_at old s
@@ -111,7 +111,7 @@ module _ (old mid new : Stage) (s : ℕ) (until : Option Entry) (k : StepKind) (
       by false c commits h = under (left_at new s) (left_at mid s) (left_at old s) most h
   through_nearer (most, inl there) = inr there
 
-  pub goes_on : {E : Type 0} (result : Result Turn E) → IfOk result (StepsUntil (IsThrough mid new s until) mid new s until) → IfOk result (StepsUntil (IsNearerOrCome old new s until) old new s until)
+  pub goes_on : {E : Type 0} (result : Result Turn E) → IfOk result (StepsUntil (IsEntryOver mid new s until) mid new s until) → IfOk result (StepsUntil (IsNearerOrCome old new s until) old new s until)
   goes_on result h = until_all old mid new s until (first_step s until old mid k short come) (step_less old mid s k come) through_nearer result h
 
 -- ---- a commit or another task goes on
@@ -143,7 +143,7 @@ pub is_short : (stage : Stage) (s : ℕ) (until : Option Entry) → (works_at st
 is_short stage s until way = (is_apart (works_at stage s) (comes_to stage s until) way).1
 
 module _ (first stage : Stage) (s : ℕ) (until : Option Entry) (has : HasWorkedOn first stage s until) where
-  pub task_through : (works_at stage s && not (comes_to stage s until)) ≡ false → AreSteps s until first stage × IsThrough first stage s until
+  pub task_through : (works_at stage s && not (comes_to stage s until)) ≡ false → AreSteps s until first stage × IsEntryOver first stage s until
   task_through none = (has.steps, (has.most, by (works_at stage s) (comes_to stage s until) refl refl none))
     where
       by : (a b : Bool) → works_at stage s ≡ a → comes_to stage s until ≡ b → (a && not b) ≡ false → (comes_to stage s until ≡ true) ⊎ (works_at first s ≡ true → left_at stage s < left_at first s)

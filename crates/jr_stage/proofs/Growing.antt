@@ -7,8 +7,8 @@ use Rattle.oak_machine.specs.History.{Past}
 use Rattle.jr_script.specs.declared.script.Script.{Script}
 use Rattle.jr_script.specs.declared.script.Entry.TheVariants as entry
 use Rattle.jr_stage.specs.Places.{is_own, is_at_last, is_next, next_of, is_commit, is_write_or_mark, is_of_turn}
-use Rattle.jr_stage.specs.Parts.{Rule, by_entry, Part, session_of, is_done, must_end, may_end, goes_on, is_turn, is_part, events_of, IsCut}
-use Rattle.jr_stage.specs.Growing.{looks_ahead, LookBack, knows_next, is_quiet, StaysPart, StayParts}
+use Rattle.jr_stage.specs.Parts.{Rule, by_entry, Part, part_session, is_part_over, must_end, may_end, goes_on, is_turn, is_part, events_of, IsCut}
+use Rattle.jr_stage.specs.Growing.{looks_ahead, LookBack, knows_next, is_step_quiet, StaysPart, StayParts}
 
 both : (a b x c d : Bool) → a ≡ b → c ≡ d → (not a && x && c) ≡ (not b && x && d)
 both a b x c d p q = ap (λ (u : Bool). not u && x && c) p ∙ ap (λ (w : Bool). not b && x && w) q
@@ -24,7 +24,7 @@ module _ (script : Script) where
 
   same_way : (rule : Rule) (before part : Past) (l m : List Event) → looks_ahead rule ≡ false → goes_on script rule before part l ≡ goes_on script rule before part m
   same_way rule before [] l m h = refl
-  same_way rule before (e ∷ part) l m h = both _ _ (is_of_turn script (part ++ before) (session_of rule) e) _ _ (same_must rule before part (e ∷ l) (e ∷ m) h) (same_way rule before part (e ∷ l) (e ∷ m) h)
+  same_way rule before (e ∷ part) l m h = both _ _ (is_of_turn script (part ++ before) (part_session rule) e) _ _ (same_must rule before part (e ∷ l) (e ∷ m) h) (same_way rule before part (e ∷ l) (e ∷ m) h)
 
   two : (a b c d : Bool) → a ≡ b → c ≡ d → (a && c) ≡ (b && d)
   two a b c d p q = ap (λ (u : Bool). u && c) p ∙ ap (λ (w : Bool). b && w) q
@@ -76,11 +76,11 @@ module _ (script : Script) (s : ℕ) where
     where
       by : (own last : Bool) → is_own (part ++ before) s e ≡ own → is_at_last (part ++ before) s ≡ last → (own || not last) ≡ true → must_end script waits before part (e ∷ l) ≡ must_end script waits before part (e ∷ m)
       by true last own at k =
-          ap (λ (b : Bool). is_done script waits before part || (is_at_last (part ++ before) s && b))
+          ap (λ (b : Bool). is_part_over script waits before part || (is_at_last (part ++ before) s && b))
           (own_is_next is_commit (part ++ before) s e l own ∙ sym (own_is_next is_commit (part ++ before) s e m own))
       by false false own at k =
-          ap (λ (b : Bool). is_done script waits before part || (b && is_next is_commit (part ++ before) s (e ∷ l))) at
-          ∙ sym (ap (λ (b : Bool). is_done script waits before part || (b && is_next is_commit (part ++ before) s (e ∷ m))) at)
+          ap (λ (b : Bool). is_part_over script waits before part || (b && is_next is_commit (part ++ before) s (e ∷ l))) at
+          ∙ sym (ap (λ (b : Bool). is_part_over script waits before part || (b && is_next is_commit (part ++ before) s (e ∷ m))) at)
       by false true own at k = absurd (false≢true k)
 
   same_last_way : (before part : Past) (l m : List Event) → knows_next s before part ≡ true → goes_on script waits before part l ≡ goes_on script waits before part m
@@ -95,11 +95,11 @@ module _ (script : Script) (s : ℕ) where
   still false false n k h e = h
 
   -- a part that waits for a last write stays one, where the next event of its session, once there is one, is no Write or Mark
-  pub last_part_stays : (before part : Past) (l m : List Event) → knows_next s before part ≡ true → is_quiet script waits s before part m ≡ true
+  pub last_part_stays : (before part : Past) (l m : List Event) → knows_next s before part ≡ true → is_step_quiet script waits s before part m ≡ true
       → is_part script waits before part l ≡ true → is_part script waits before part m ≡ true
   last_part_stays before part l m knows quiet h =
       let k = halves _ _ h in
-      let ends : may_end script waits before part m ≡ true = still (is_done script waits before part) (is_at_last (part ++ before) s) (is_next is_write_or_mark (part ++ before) s l) (is_next is_write_or_mark (part ++ before) s m) k.0 quiet in
+      let ends : may_end script waits before part m ≡ true = still (is_part_over script waits before part) (is_at_last (part ++ before) s) (is_next is_write_or_mark (part ++ before) s l) (is_next is_write_or_mark (part ++ before) s m) k.0 quiet in
       ap (λ (b : Bool). b && goes_on script waits before part m) ends ∙ (sym (same_last_way before part l m knows) ∙ k.1)
 
 module _ (script : Script) where
@@ -113,12 +113,12 @@ module _ (script : Script) where
   cut_grows (p ∷ parts) l m stay cut = (part_stays p.rule (events_of parts) p.events l m stay.0 cut.0, cut_grows parts _ _ stay.1 cut.1)
 
   -- what is under way doesn't hang on what comes later, where each place knows the next event that counts there
-  pub way_stays : (rule : Rule) (before part : Past) (l m : List Event) → knows_next (session_of rule) before part ≡ true → goes_on script rule before part l ≡ goes_on script rule before part m
+  pub way_stays : (rule : Rule) (before part : Past) (l m : List Event) → knows_next (part_session rule) before part ≡ true → goes_on script rule before part l ≡ goes_on script rule before part m
   way_stays (by_entry (entry.Last s)) before part l m knows = same_last_way script s before part l m knows
   way_stays rule before part l m knows = same_way script rule before part l m refl
 
   -- the part under way goes on by an event of its session's turns, where it need not have ended before
-  pub part_grows : (rule : Rule) (before part : Past) (e : Event) → knows_next (session_of rule) before part ≡ true → goes_on script rule before part [] ≡ true
-      → must_end script rule before part (e ∷ []) ≡ false → is_of_turn script (part ++ before) (session_of rule) e ≡ true → goes_on script rule before (e ∷ part) [] ≡ true
+  pub part_grows : (rule : Rule) (before part : Past) (e : Event) → knows_next (part_session rule) before part ≡ true → goes_on script rule before part [] ≡ true
+      → must_end script rule before part (e ∷ []) ≡ false → is_of_turn script (part ++ before) (part_session rule) e ≡ true → goes_on script rule before (e ∷ part) [] ≡ true
   part_grows rule before part e knows goes may own =
       both _ false _ _ true may (sym (way_stays rule before part [] (e ∷ []) knows) ∙ goes) ∙ ap (λ (w : Bool). w && true) own

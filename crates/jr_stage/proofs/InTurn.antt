@@ -30,7 +30,7 @@ use Rattle.core_read.proofs.Vectors.{time_before}
 use Rattle.core_heads.proofs.Orders.{before_not}
 use Rattle.core_heads.proofs.Runs.{sound_run}
 use Rattle.core_heads.proofs.Steps.{above}
-use Rattle.jr_stage.specs.Awaited.{AreInTurn, AreOrdered, IsNextToReply, IsStill, KeepsWaiting, LeavesOthers, is_among}
+use Rattle.jr_stage.specs.Awaited.{AreInTurn, StandInTurn, IsNextToReply, IsStill, KeepsWaiting, LeavesOtherSessions, is_among}
 use Rattle.jr_stage.specs.Places.{draws_in, flying_sessions}
 use Rattle.jr_stage.proofs.Ascending.{AreFlown, draws_flown, draws_found, flies_as, flies_of, flown_of, found}
 use Rattle.jr_stage.proofs.First.{drawn_by, flying_drawing, has_flying, revision_by, waits_still}
@@ -185,7 +185,7 @@ module _ (clusters : ℕ) (sessions : List ℕ) (nodes : AreNodes clusters sessi
           let last = last_greatest clusters sessions nodes starts says past s k kept.held run (flown_own past k s flies) (flown_flies past k s flies) kept.own in
           before_not k entry.revision after (at_most_trans entry.revision kept.held k earlier last)
 
-  ordered_of : (es : List (Revision × ℕ)) → is_sorted revision_cmp es ≡ true → AllFly past es → AreOrdered past (values_of es)
+  ordered_of : (es : List (Revision × ℕ)) → is_sorted revision_cmp es ≡ true → AllFly past es → StandInTurn past (values_of es)
   ordered_of [] order all = tt
   ordered_of (e ∷ es) order all = (
     λ t among. later_waits e.0 e.1 t es all.0 (first (below_all revision_cmp e.0 es) _ order) (entry_of past t es all.1 among),
@@ -245,7 +245,7 @@ abbrev AreApart : ℕ → List ℕ → Type 0
 AreApart s list = (t : ℕ) → is_among t list ≡ true → (t == s) ≡ false
 
 -- sessions stay in order while another makes turns
-ordered_still : (old new : Past) (s : ℕ) (list : List ℕ) → LeavesOthers old new s → AreApart s list → AreOrdered old list → AreOrdered new list
+ordered_still : (old new : Past) (s : ℕ) (list : List ℕ) → LeavesOtherSessions old new s → AreApart s list → StandInTurn old list → StandInTurn new list
 ordered_still old new s [] leaves apart ordered = tt
 ordered_still old new s (u ∷ list) leaves apart ordered = (
   λ t among. ((ordered.0 t among).0, λ waits. (ordered.0 t among).1 (waits_still old new s t u leaves (apart t (or_later (u == t) (is_among t list) among)) (apart u (or_first (u == u) (is_among u list) (itself u))) waits)),
@@ -261,7 +261,7 @@ ordered_still old new s (u ∷ list) leaves apart ordered = (
     or_first false b h = absurd (false≢true h)
 
 -- once the first one's commit has ended, the others stand in turn
-pub next_in_turn : (old new : Past) (s : ℕ) (left : List ℕ) → AreInTurn old (s ∷ left) → LeavesOthers old new s → is_drawing new s ≡ false → AreInTurn new left
+pub next_in_turn : (old new : Past) (s : ℕ) (left : List ℕ) → AreInTurn old (s ∷ left) → LeavesOtherSessions old new s → is_drawing new s ≡ false → AreInTurn new left
 next_in_turn old new s left turns leaves idle = record {
   flying = λ t. by t (t == s) refl;
   ordered = ordered_still old new s left leaves apart turns.ordered.1;

@@ -27,7 +27,7 @@ use Rattle.jcr_run.specs.declared.run.Fetch.TheVariants as fetch
 use Rattle.jcr_run.specs.declared.run.Phase.{Phase}
 use Rattle.jcr_run.specs.declared.run.Phase.TheVariants as phase
 use Rattle.jcr_run.specs.declared.run.SessionRun.{SessionRun}
-use Rattle.jcr_run.specs.Standing.{HasLooked, IsCalled, IsReading, Stands, StandsAt, due_of, is_between, is_working, may_read, reads_for}
+use Rattle.jcr_run.specs.Standing.{HasLooked, IsCalled, IsReading, Stands, StandsAt, command_due, is_between, is_working, may_read, reads_for}
 use Rattle.jr_script.specs.declared.script.Entry.TheVariants as entry
 use Rattle.jr_script.specs.Bounds.{IsWithin}
 use Rattle.jr_script.specs.declared.script.Script.{Script}
@@ -39,8 +39,8 @@ use Rattle.jr_stage.specs.Flights.{IsFlight}
 use Rattle.jr_stage.specs.Places.{history_at, is_over}
 use Rattle.jr_stage.specs.Parts.{by_entry}
 use Rattle.jr_stage.specs.SoFar.{IsCutSoFar, is_last_due}
-use Rattle.jr_stage.specs.Nearing.{ReadsNearer, call_at, works_at, reads_at, unread_at}
-use Rattle.jr_stage.specs.Stages.{Closes, HasOnlyRead, HasRead, IsSeated, IsStage, awaited, due_at, law_of, past_of}
+use Rattle.jr_stage.specs.Nearing.{ReadsNearer, next_call, works_at, reads_at, unread_at}
+use Rattle.jr_stage.specs.Stages.{Closes, HasOnlyRead, MakesReading, IsSeated, IsStage, awaited, due_at, law_of, past_of}
 use Rattle.jr_stage.proofs.Coming.{other_seats, set_other}
 use Rattle.jr_stage.proofs.Due.{at_commit, last_commits}
 use Rattle.jr_stage.proofs.Flying.{halves, none_is_some, some_is_some}
@@ -135,7 +135,7 @@ module _ (law : JcrLaw) (run : SessionRun) (b : Beside) (d : Option StepKind) wh
 
 module _ (n : GName) (s : ℕ) (old new : Stage) (seat seat_now : Seat)
     (stage : IsStage old) (at : slice_get old.seats.items s ≡ Some seat) (script_same : new.script.value ≡ old.script.value) (schedule_same : new.schedule ≡ old.schedule) (seats_now : new.seats.items ≡ slice_set old.seats.items s seat_now)
-    (kept : seat_now.flight ≡ seat.flight) (read : HasRead n s old.world new.world seat.run seat_now.run) where
+    (kept : seat_now.flight ≡ seat.flight) (read : MakesReading n s old.world new.world seat.run seat_now.run) where
   looked : HasLooked old.world.law (shown_at n old.world s) (shown_at n new.world s) seat.run seat_now.run
   looked = read.1
 
@@ -239,7 +239,7 @@ module _ (n : GName) (s : ℕ) (old new : Stage) (seat seat_now : Seat)
   -- ---- one that was made
 
   abbrev may_by : Phase → Bool → List Command → ℕ → Bool
-  may_by f attached commands i = is_between f && reads_for (due_of attached commands i)
+  may_by f attached commands i = is_between f && reads_for (command_due attached commands i)
 
   may_now : may_read seat_now.run ≡ may_read seat.run
   may_now =
@@ -284,14 +284,14 @@ module _ (n : GName) (s : ℕ) (old new : Stage) (seat seat_now : Seat)
     called : (c : Call) × IsCalled old.world.law (shown_at n old.world s) c
     called = called_between old.world.law (shown_at n old.world s) seat.run seat.run.phase between (seated.stands n).at
 
-    call_now : call_at new s ≡ call_at old s
+    call_now : next_call new s ≡ next_call old s
     call_now =
         ap (λ (l : JcrLaw). call_of l (live new.world.history).begin (live new.world.history).past s) read.0
         ∙ ap (λ (h : History). call_of old.world.law h.begin h.past s) same_history
 
-    unread_is : (stage : Stage) (x : Seat) → slice_get stage.seats.items s ≡ Some x → call_at stage s ≡ Some called.0 → unread_at stage s ≡ unread_of called.0 x.run
+    unread_is : (stage : Stage) (x : Seat) → slice_get stage.seats.items s ≡ Some x → next_call stage s ≡ Some called.0 → unread_at stage s ≡ unread_of called.0 x.run
     unread_is stage x there is =
-        ap (λ (o : Option Seat). option_map_or (λ y. option_map_or (λ c. unread_of c y.run) (call_at stage s) 0) o 0) there
+        ap (λ (o : Option Seat). option_map_or (λ y. option_map_or (λ c. unread_of c y.run) (next_call stage s) 0) o 0) there
         ∙ ap (λ (o : Option Call). option_map_or (λ c. unread_of c x.run) o 0) is
 
     unread_old : unread_at old s ≡ unread_of called.0 seat.run
@@ -319,7 +319,7 @@ stands_at stage s seat is at n = (is.each s seat at).stands n
 
 -- ---- through a port
 
-read_in : (n m : GName) (s t : ℕ) (old new : WorldOf JcrLaw) (run now : SessionRun) → new.law ≡ old.law → HasLooked old.law (shown_at n old s) (shown_at m new t) run now → HasRead n s old new run now
+read_in : (n m : GName) (s t : ℕ) (old new : WorldOf JcrLaw) (run now : SessionRun) → new.law ≡ old.law → HasLooked old.law (shown_at n old s) (shown_at m new t) run now → MakesReading n s old new run now
 read_in n m s t old new run now law looked = (
   law,
   subst (λ (x : ℕ). HasLooked old.law (shown_at n old s) (shown_at n new x) run now) looked.beside.session
@@ -327,9 +327,9 @@ read_in n m s t old new run now law looked = (
 )
 
 -- what was read through a port of the world is read in the world
-pub read_through : (n m k : GName) (s t u : ℕ) (old start new : WorldOf JcrLaw) (run now : SessionRun) → start ≡ old → k ≡ n → u ≡ s → new.law ≡ start.law → HasLooked start.law (shown_at k start u) (shown_at m new t) run now → HasRead n s old new run now
+pub read_through : (n m k : GName) (s t u : ℕ) (old start new : WorldOf JcrLaw) (run now : SessionRun) → start ≡ old → k ≡ n → u ≡ s → new.law ≡ start.law → HasLooked start.law (shown_at k start u) (shown_at m new t) run now → MakesReading n s old new run now
 read_through n m k s t u old start new run now world name session law looked =
-    subst (λ (x : WorldOf JcrLaw). HasRead n s x new run now) world
-    (subst (λ (x : GName). HasRead x s start new run now) name
-    (subst (λ (x : ℕ). HasRead k x start new run now) session
+    subst (λ (x : WorldOf JcrLaw). MakesReading n s x new run now) world
+    (subst (λ (x : GName). MakesReading x s start new run now) name
+    (subst (λ (x : ℕ). MakesReading k x start new run now) session
     (read_in k m u t start new run now law looked)))

@@ -15,7 +15,7 @@ use Rattle.jr_script.specs.declared.script.Script.{Script}
 use Rattle.jr_script.specs.declared.script.Entry.TheVariants as entry
 use Rattle.jr_stage.specs.declared.stage.Seat.{Seat}
 use Rattle.jr_stage.specs.declared.stage.Stage.{Stage}
-use Rattle.jr_stage.specs.Awaited.{IsAlone, IsNextToReply, IsStill, LeavesOthers}
+use Rattle.jr_stage.specs.Awaited.{IsAlone, IsNextToReply, IsStill, LeavesOtherSessions}
 use Rattle.jr_stage.specs.Nearing.{saves_at}
 use Rattle.jr_stage.specs.Parts.{by_entry, to_end, to_reply}
 use Rattle.jr_stage.specs.Places.{commands_of, is_over}
@@ -79,7 +79,7 @@ pub record IsReplying (first stage : Stage) (s : ℕ) : Type 0 where
   pub gone : HasGone first stage (to_reply s) s
   pub saves : saves_at stage s ≡ true
   pub waits : IsNextToReply (past_of stage) s
-  pub leaves : LeavesOthers (past_of first) (past_of stage) s
+  pub leaves : LeavesOtherSessions (past_of first) (past_of stage) s
 
 pub replying_begins : (stage : Stage) (s : ℕ) → IsStage stage → s < length stage.seats.items → is_drawing (past_of stage) s ≡ true → IsNextToReply (past_of stage) s → IsReplying stage stage s
 replying_begins stage s is below flies waits =
@@ -114,7 +114,7 @@ module _ (first stage : Stage) (s : ℕ) (is : IsStage first) (below : s < lengt
     pub replied_closes : Closes first new (to_reply s)
     replied_closes = reply_said first ends.mid s before.gone new i ends.come
 
-    pub replied_leaves : LeavesOthers (past_of first) (past_of new) s
+    pub replied_leaves : LeavesOtherSessions (past_of first) (past_of new) s
     replied_leaves = leaves_on (past_of first) (past_of ends.mid) (past_of new) s before.leaves ends.come.leaves
 
     pub replied_lands : is_drawing (past_of new) s ≡ false

@@ -11,7 +11,7 @@ use Rattle.jcr_run.specs.declared.turn.Turn.{Turn}
 use Rattle.jcr_run.specs.declared.turn.Turn.TheVariants as turn
 use Rattle.jr_script.specs.declared.script.Script.{Script}
 use Rattle.jr_stage.specs.declared.stage.Stage.{Stage}
-use Rattle.jr_stage.specs.Awaited.{DrawsNone, LeavesOthers}
+use Rattle.jr_stage.specs.Awaited.{DrawsNone, LeavesOtherSessions}
 use Rattle.jr_stage.specs.Nearing.{IsKeptBack, ReadsNearer, ReadsThrough, SavesOn, StepsNearer, TurnsNearer, works_at, left_at, reads_at, saves_at, steps_at, unread_at}
 use Rattle.jr_stage.specs.Places.{is_over}
 use Rattle.jr_stage.specs.SoFar.{IsStepAt, is_last_due}
@@ -109,7 +109,7 @@ module _ (old mid new : Stage) (s : ℕ) (read : HasOnlyRead old mid s) where
     came = subst (λ (x : Script). Comes x (past_of old) s (due_at old.world s) answer come.own) read.script
         (subst (λ (p : Past). Comes mid.script.value p s (due_at old.world s) answer come.own) read.past
         (comes_by mid.script.value (past_of mid) s (due_at mid.world s) (due_at old.world s) come.own read.last answer come.came));
-    leaves = subst (λ (p : Past). LeavesOthers p (past_of new) s) read.past come.leaves;
+    leaves = subst (λ (p : Past). LeavesOtherSessions p (past_of new) s) read.past come.leaves;
     draws = λ saves. subst (λ (p : Past). DrawsNone p (past_of new) s) read.past (come.draws (saves_still old mid new s read ∙ saves));
     saves = saves_on answer come.saves;
     nears = turn_nearer answer come.nears;

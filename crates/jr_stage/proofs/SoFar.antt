@@ -18,8 +18,8 @@ use Rattle.oak_machine.specs.Sessions.{is_drawing, is_reply_of, is_stopped}
 use Rattle.jr_script.specs.declared.script.Script.{Script}
 use Rattle.jr_script.specs.declared.script.Entry.TheVariants as entry
 use Rattle.jr_stage.specs.Places.{is_at_last, is_commit, is_next, is_of_turn, is_own, is_resting, is_waiting, is_write_or_mark, next_of, tells_of_none}
-use Rattle.jr_stage.specs.Parts.{Rule, by_entry, to_reply, to_end, Part, session_of, is_done, is_part, is_turn, may_end, must_end, events_of, IsCut}
-use Rattle.jr_stage.specs.Growing.{StayParts, StaysPart, is_quiet}
+use Rattle.jr_stage.specs.Parts.{Rule, by_entry, to_reply, to_end, Part, part_session, is_part_over, is_part, is_turn, may_end, must_end, events_of, IsCut}
+use Rattle.jr_stage.specs.Growing.{StayParts, StaysPart, is_step_quiet}
 use Rattle.jr_stage.specs.SoFar.{AreQuiet, IsCutSoFar, IsDouble, IsMadeBy, IsQuiet, IsQuietNext, IsSingle, IsStepAt, IsUnderWay, IsUnnamed, is_last_due}
 use Rattle.jr_stage.proofs.Flying.{idle_not_at_last, none_is_some}
 use Rattle.jr_stage.proofs.Growing.{cut_grows, next_stays, part_grows}
@@ -89,7 +89,7 @@ next_behind past s (e ∷ later) more h = elim (is_own past s e) as (λ b. cond 
 
 -- ---- what keeps closed parts
 
-is_quiet_by : (script : Script) (due : ℕ → Option StepKind) (s : ℕ) (before part : Past) (later : List Event) → (is_done script (by_entry (entry.Last s)) before part ≡ true) ⊎ IsQuietNext (next_of (part ++ before) s later) (due s) → is_quiet script (by_entry (entry.Last s)) s before part later ≡ true
+is_quiet_by : (script : Script) (due : ℕ → Option StepKind) (s : ℕ) (before part : Past) (later : List Event) → (is_part_over script (by_entry (entry.Last s)) before part ≡ true) ⊎ IsQuietNext (next_of (part ++ before) s later) (due s) → is_step_quiet script (by_entry (entry.Last s)) s before part later ≡ true
 is_quiet_by script due s before part later (inl done) = ap (λ b. b || not (is_next is_write_or_mark (part ++ before) s later)) done
 is_quiet_by script due s before part later (inr next) = by (next_of (part ++ before) s later) refl next
   where
@@ -97,9 +97,9 @@ is_quiet_by script due s before part later (inr next) = by (next_of (part ++ bef
     or_later true b h = refl
     or_later false b h = h
 
-    by : (o : Option Event) → next_of (part ++ before) s later ≡ o → IsQuietNext o (due s) → is_quiet script (by_entry (entry.Last s)) s before part later ≡ true
-    by (Some e) is quiet = or_later (is_done script (by_entry (entry.Last s)) before part) _ (ap (λ (o : Option Event). not (option_map_or is_write_or_mark o false)) is ∙ ap not quiet)
-    by None is quiet = or_later (is_done script (by_entry (entry.Last s)) before part) _ (ap (λ (o : Option Event). not (option_map_or is_write_or_mark o false)) is)
+    by : (o : Option Event) → next_of (part ++ before) s later ≡ o → IsQuietNext o (due s) → is_step_quiet script (by_entry (entry.Last s)) s before part later ≡ true
+    by (Some e) is quiet = or_later (is_part_over script (by_entry (entry.Last s)) before part) _ (ap (λ (o : Option Event). not (option_map_or is_write_or_mark o false)) is ∙ ap not quiet)
+    by None is quiet = or_later (is_part_over script (by_entry (entry.Last s)) before part) _ (ap (λ (o : Option Event). not (option_map_or is_write_or_mark o false)) is)
 
 stays_by : (script : Script) (due : ℕ → Option StepKind) (rule : Rule) (before part : Past) (later : List Event) → IsQuiet script due rule before part later → StaysPart script rule before part later
 stays_by script due (by_entry (entry.Last s)) before part later (knows, quiet) = (knows, is_quiet_by script due s before part later quiet)
@@ -242,8 +242,8 @@ and_true false b h k = absurd (false≢true h)
 
 module _ (script : Script) (before : Past) where
   -- nothing ends a part between the end of a revision and the move of the head
-  mid_done : (rule : Rule) (part : Past) (r : Revision) → is_done script rule before part ≡ false → is_drawing (event.End r ∷ (part ++ before)) (session_of rule) ≡ false → is_resting script (event.End r ∷ (part ++ before)) (session_of rule) ≡ false
-      → is_done script rule before (event.End r ∷ part) ≡ false
+  mid_done : (rule : Rule) (part : Past) (r : Revision) → is_part_over script rule before part ≡ false → is_drawing (event.End r ∷ (part ++ before)) (part_session rule) ≡ false → is_resting script (event.End r ∷ (part ++ before)) (part_session rule) ≡ false
+      → is_part_over script rule before (event.End r ∷ part) ≡ false
   mid_done (by_entry (entry.Turn s)) part r done idle awake = refl
   mid_done (by_entry (entry.Say s n)) part r done idle awake = ap (λ b. b || is_resting script (event.End r ∷ (part ++ before)) s) (neither (nat_le n (count_by (is_reply_of s) part)) _ done).0 ∙ awake
   mid_done (by_entry (entry.Draw s)) part r done idle awake = ap (λ b. b || false || is_resting script (event.End r ∷ (part ++ before)) s) idle ∙ awake
@@ -254,7 +254,7 @@ module _ (script : Script) (before : Past) where
   mid_done (to_end s) part r done idle awake = (neither (is_waiting script (event.End r ∷ (part ++ before)) s) _ awake).1
 
   -- the part need not have ended before an event
-  pub not_yet : (rule : Rule) (part : Past) (e : Event) → is_done script rule before part ≡ false → ((s : ℕ) → rule ≡ by_entry (entry.Last s) → (is_at_last (part ++ before) s && is_next is_commit (part ++ before) s (e ∷ [])) ≡ false) → must_end script rule before part (e ∷ []) ≡ false
+  pub not_yet : (rule : Rule) (part : Past) (e : Event) → is_part_over script rule before part ≡ false → ((s : ℕ) → rule ≡ by_entry (entry.Last s) → (is_at_last (part ++ before) s && is_next is_commit (part ++ before) s (e ∷ [])) ≡ false) → must_end script rule before part (e ∷ []) ≡ false
   not_yet (by_entry (entry.Last s)) part e done late = ap (λ b. b || (is_at_last (part ++ before) s && is_next is_commit (part ++ before) s (e ∷ []))) done ∙ late s refl
   not_yet (by_entry (entry.Turn s)) part e done late = ap (λ b. b || false) done
   not_yet (by_entry (entry.Say s n)) part e done late = ap (λ b. b || false) done
@@ -265,23 +265,23 @@ module _ (script : Script) (before : Past) where
   not_yet (to_end s) part e done late = ap (λ b. b || false) done
 
   -- the part under way goes on by a step that it need not have ended before
-  pub way_steps : (rule : Rule) (part : Past) (due : Option StepKind) (own : Past) → IsUnderWay script rule before part → IsStepAt script (part ++ before) (session_of rule) due own → is_done script rule before part ≡ false
+  pub way_steps : (rule : Rule) (part : Past) (due : Option StepKind) (own : Past) → IsUnderWay script rule before part → IsStepAt script (part ++ before) (part_session rule) due own → is_part_over script rule before part ≡ false
       → ((s : ℕ) → rule ≡ by_entry (entry.Last s) → is_last_due due ≡ true → is_at_last (part ++ before) s ≡ false) → IsUnderWay script rule before (own ++ part)
   way_steps rule part due own way step done late = by step.events
     where
       s : ℕ
-      s = session_of rule
+      s = part_session rule
 
-      single : (e : Event) → own ≡ e ∷ [] → is_own (part ++ before) (session_of rule) e ≡ true → IsUnderWay script rule before (e ∷ part)
+      single : (e : Event) → own ≡ e ∷ [] → is_own (part ++ before) (part_session rule) e ≡ true → IsUnderWay script rule before (e ∷ part)
       single e is own_is = record {
         goes = part_grows script rule before part e way.knows way.goes
             (not_yet rule part e done (λ t same. no_last t same (is_commit e) refl))
-            (own_of_turn script (part ++ before) (session_of rule) e own_is);
-        knows = and_true (is_own (part ++ before) (session_of rule) e || not (is_at_last (part ++ before) (session_of rule))) _ (ap (λ b. b || not (is_at_last (part ++ before) (session_of rule))) own_is) way.knows;
+            (own_of_turn script (part ++ before) (part_session rule) e own_is);
+        knows = and_true (is_own (part ++ before) (part_session rule) e || not (is_at_last (part ++ before) (part_session rule))) _ (ap (λ b. b || not (is_at_last (part ++ before) (part_session rule))) own_is) way.knows;
       }
         where
           own_next : (t : ℕ) → rule ≡ by_entry (entry.Last t) → is_next is_commit (part ++ before) t (e ∷ []) ≡ is_commit e
-          own_next t same = ap (λ b. option_map_or is_commit (cond b (Some e) None) false) (subst (λ (r : Rule). is_own (part ++ before) (session_of r) e ≡ true) same own_is)
+          own_next t same = ap (λ b. option_map_or is_commit (cond b (Some e) None) false) (subst (λ (r : Rule). is_own (part ++ before) (part_session r) e ≡ true) same own_is)
 
           and_false : (a b : Bool) → b ≡ false → (a && b) ≡ false
           and_false true b h = h
@@ -292,11 +292,11 @@ module _ (script : Script) (before : Past) where
           no_last t same true commits = ap (λ b. b && is_next is_commit (part ++ before) t (e ∷ [])) (late t same (step.committed e is commits))
 
       -- an event that tells of no session comes where none of its session is in flight
-      unnamed : (e : Event) → IsUnnamed script (part ++ before) (session_of rule) e → IsUnderWay script rule before (e ∷ part)
+      unnamed : (e : Event) → IsUnnamed script (part ++ before) (part_session rule) e → IsUnderWay script rule before (e ∷ part)
       unnamed e un = record {
         goes = part_grows script rule before part e way.knows way.goes (not_yet rule part e done (λ t same. none_next t)) un.made;
-        knows = and_true (is_own (part ++ before) (session_of rule) e || not (is_at_last (part ++ before) (session_of rule))) _
-            (or_true (is_own (part ++ before) (session_of rule) e) _ (ap not (idle_not_at_last (part ++ before) (session_of rule) un.idle))) way.knows;
+        knows = and_true (is_own (part ++ before) (part_session rule) e || not (is_at_last (part ++ before) (part_session rule))) _
+            (or_true (is_own (part ++ before) (part_session rule) e) _ (ap not (idle_not_at_last (part ++ before) (part_session rule) un.idle))) way.knows;
       }
         where
           or_true : (a b : Bool) → b ≡ true → (a || b) ≡ true
@@ -310,17 +310,17 @@ module _ (script : Script) (before : Past) where
           none_next : (t : ℕ) → (is_at_last (part ++ before) t && is_next is_commit (part ++ before) t (e ∷ [])) ≡ false
           none_next t = and_false (is_at_last (part ++ before) t) _ (ap (λ b. option_map_or is_commit (cond b (Some e) None) false) (unnamed_own (part ++ before) t e un.none))
 
-      by_one : (one : IsSingle script (part ++ before) (session_of rule) own) → IsMadeBy script (part ++ before) (session_of rule) one.event → IsUnderWay script rule before (one.event ∷ part)
+      by_one : (one : IsSingle script (part ++ before) (part_session rule) own) → IsMadeBy script (part ++ before) (part_session rule) one.event → IsUnderWay script rule before (one.event ∷ part)
       by_one one (inl own_is) = single one.event one.is own_is
       by_one one (inr un) = unnamed one.event un
 
-      by : IsSingle script (part ++ before) (session_of rule) own ⊎ IsDouble script (part ++ before) (session_of rule) own → IsUnderWay script rule before (own ++ part)
+      by : IsSingle script (part ++ before) (part_session rule) own ⊎ IsDouble script (part ++ before) (part_session rule) own → IsUnderWay script rule before (own ++ part)
       by (inl one) = subst (λ (o : Past). IsUnderWay script rule before (o ++ part)) (sym one.is) (by_one one one.made)
       by (inr two) = subst (λ (o : Past). IsUnderWay script rule before (o ++ part)) (sym two.is) (record {
         goes = part_grows script rule before (event.End two.revision ∷ part) (event.Head two.cluster two.head) first.knows first.goes
             (not_yet rule (event.End two.revision ∷ part) (event.Head two.cluster two.head) (mid_done rule part two.revision done two.idle two.awake) (λ t same. and_none (is_at_last (event.End two.revision ∷ (part ++ before)) t)))
             two.near;
-        knows = and_true (not (is_at_last (event.End two.revision ∷ (part ++ before)) (session_of rule))) _ (ap not (idle_not_at_last (event.End two.revision ∷ (part ++ before)) (session_of rule) two.idle)) first.knows;
+        knows = and_true (not (is_at_last (event.End two.revision ∷ (part ++ before)) (part_session rule))) _ (ap not (idle_not_at_last (event.End two.revision ∷ (part ++ before)) (part_session rule) two.idle)) first.knows;
       })
         where
           and_none : (a : Bool) → (a && false) ≡ false
@@ -331,10 +331,10 @@ module _ (script : Script) (before : Past) where
           first = record {
             goes = part_grows script rule before part (event.End two.revision) way.knows way.goes
                 (not_yet rule part (event.End two.revision) done (λ t same.
-                ap (λ b. is_at_last (part ++ before) t && option_map_or is_commit (cond b (Some (event.End two.revision)) None) false) (subst (λ (r : Rule). is_revision_of (part ++ before) (session_of r) two.revision ≡ true) same two.theirs)
+                ap (λ b. is_at_last (part ++ before) t && option_map_or is_commit (cond b (Some (event.End two.revision)) None) false) (subst (λ (r : Rule). is_revision_of (part ++ before) (part_session r) two.revision ≡ true) same two.theirs)
                 ∙ and_none (is_at_last (part ++ before) t)))
-                (own_of_turn script (part ++ before) (session_of rule) (event.End two.revision) two.theirs);
-            knows = and_true (is_revision_of (part ++ before) (session_of rule) two.revision || not (is_at_last (part ++ before) (session_of rule))) _ (ap (λ b. b || not (is_at_last (part ++ before) (session_of rule))) two.theirs) way.knows;
+                (own_of_turn script (part ++ before) (part_session rule) (event.End two.revision) two.theirs);
+            knows = and_true (is_revision_of (part ++ before) (part_session rule) two.revision || not (is_at_last (part ++ before) (part_session rule))) _ (ap (λ b. b || not (is_at_last (part ++ before) (part_session rule))) two.theirs) way.knows;
           }
 
   pub way_begins : (rule : Rule) → IsUnderWay script rule before []
@@ -345,30 +345,30 @@ module _ (script : Script) (before : Past) where
   pub part_turns : (s : ℕ) (part : Past) → IsUnderWay script (by_entry (entry.Turn s)) before part → is_turn script s before part ≡ true → is_part script (by_entry (entry.Turn s)) before part [] ≡ true
   part_turns s part way turn = and_true (is_turn script s before part) _ turn way.goes
 
-  pub part_says : (s n : ℕ) (part : Past) → IsUnderWay script (by_entry (entry.Say s n)) before part → is_done script (by_entry (entry.Say s n)) before part ≡ true → is_part script (by_entry (entry.Say s n)) before part [] ≡ true
-  part_says s n part way done = and_true (is_done script (by_entry (entry.Say s n)) before part) _ done way.goes
+  pub part_says : (s n : ℕ) (part : Past) → IsUnderWay script (by_entry (entry.Say s n)) before part → is_part_over script (by_entry (entry.Say s n)) before part ≡ true → is_part script (by_entry (entry.Say s n)) before part [] ≡ true
+  part_says s n part way done = and_true (is_part_over script (by_entry (entry.Say s n)) before part) _ done way.goes
 
-  pub part_draws : (s : ℕ) (part : Past) → IsUnderWay script (by_entry (entry.Draw s)) before part → is_done script (by_entry (entry.Draw s)) before part ≡ true → is_part script (by_entry (entry.Draw s)) before part [] ≡ true
-  part_draws s part way done = and_true (is_done script (by_entry (entry.Draw s)) before part) _ done way.goes
+  pub part_draws : (s : ℕ) (part : Past) → IsUnderWay script (by_entry (entry.Draw s)) before part → is_part_over script (by_entry (entry.Draw s)) before part ≡ true → is_part script (by_entry (entry.Draw s)) before part [] ≡ true
+  part_draws s part way done = and_true (is_part_over script (by_entry (entry.Draw s)) before part) _ done way.goes
 
-  pub part_writes : (s n : ℕ) (part : Past) → IsUnderWay script (by_entry (entry.Write s n)) before part → is_done script (by_entry (entry.Write s n)) before part ≡ true → is_part script (by_entry (entry.Write s n)) before part [] ≡ true
-  part_writes s n part way done = and_true (is_done script (by_entry (entry.Write s n)) before part) _ done way.goes
+  pub part_writes : (s n : ℕ) (part : Past) → IsUnderWay script (by_entry (entry.Write s n)) before part → is_part_over script (by_entry (entry.Write s n)) before part ≡ true → is_part script (by_entry (entry.Write s n)) before part [] ≡ true
+  part_writes s n part way done = and_true (is_part_over script (by_entry (entry.Write s n)) before part) _ done way.goes
 
-  pub part_rests : (s : ℕ) (part : Past) → IsUnderWay script (by_entry (entry.Last s)) before part → is_done script (by_entry (entry.Last s)) before part ≡ true → is_part script (by_entry (entry.Last s)) before part [] ≡ true
+  pub part_rests : (s : ℕ) (part : Past) → IsUnderWay script (by_entry (entry.Last s)) before part → is_part_over script (by_entry (entry.Last s)) before part ≡ true → is_part script (by_entry (entry.Last s)) before part [] ≡ true
   part_rests s part way done = and_true (may_end script (by_entry (entry.Last s)) before part []) _ (ap (λ b. b || (is_at_last (part ++ before) s && true)) done) way.goes
 
   pub part_at_last : (s : ℕ) (part : Past) → IsUnderWay script (by_entry (entry.Last s)) before part → is_at_last (part ++ before) s ≡ true → is_part script (by_entry (entry.Last s)) before part [] ≡ true
-  part_at_last s part way last = and_true (may_end script (by_entry (entry.Last s)) before part []) _ (or_later (is_done script (by_entry (entry.Last s)) before part) _ (ap (λ b. b && true) last)) way.goes
+  part_at_last s part way last = and_true (may_end script (by_entry (entry.Last s)) before part []) _ (or_later (is_part_over script (by_entry (entry.Last s)) before part) _ (ap (λ b. b && true) last)) way.goes
     where
       or_later : (a b : Bool) → b ≡ true → (a || b) ≡ true
       or_later true b h = refl
       or_later false b h = h
 
-  pub part_replies : (s : ℕ) (part : Past) → IsUnderWay script (to_reply s) before part → is_done script (to_reply s) before part ≡ true → is_part script (to_reply s) before part [] ≡ true
-  part_replies s part way done = and_true (is_done script (to_reply s) before part) _ done way.goes
+  pub part_replies : (s : ℕ) (part : Past) → IsUnderWay script (to_reply s) before part → is_part_over script (to_reply s) before part ≡ true → is_part script (to_reply s) before part [] ≡ true
+  part_replies s part way done = and_true (is_part_over script (to_reply s) before part) _ done way.goes
 
-  pub part_closes : (s : ℕ) (part : Past) → IsUnderWay script (to_end s) before part → is_done script (to_end s) before part ≡ true → is_part script (to_end s) before part [] ≡ true
-  part_closes s part way done = and_true (is_done script (to_end s) before part) _ done way.goes
+  pub part_closes : (s : ℕ) (part : Past) → IsUnderWay script (to_end s) before part → is_part_over script (to_end s) before part ≡ true → is_part script (to_end s) before part [] ≡ true
+  part_closes s part way done = and_true (is_part_over script (to_end s) before part) _ done way.goes
 
 -- the part under way is closed
 pub cut_closes : (script : Script) (due : ℕ → Option StepKind) (rule : Rule) (parts : List Part) (part past : Past) → IsCutSoFar script due parts part past → is_part script rule (events_of parts) part [] ≡ true → IsQuiet script due rule (events_of parts) part []

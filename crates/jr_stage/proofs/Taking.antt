@@ -22,7 +22,7 @@ use Rattle.jr_stage.specs.declared.stage.Seat.{Seat}
 use Rattle.jr_stage.specs.declared.stage.Stage.{Stage}
 use Rattle.jr_stage.specs.Parts.{Rule}
 use Rattle.jr_stage.specs.Nearing.{ReadsNearer, reads_at}
-use Rattle.jr_stage.specs.Stages.{HasCome, HasRead, HasTurnedIn, IsReadIn, IsStage, IsTurnedIn, IsUnder, ReadsOrComes, flight_by, past_of}
+use Rattle.jr_stage.specs.Stages.{HasCome, MakesReading, HasTurnedIn, IsReadingIn, IsStage, IsTurnedIn, IsUnder, ReadsOrComes, flight_by, past_of}
 use Rattle.jr_stage.proofs.Looking.{only_reads, read_through, reads_nearer}
 use Rattle.jr_stage.proofs.Turning.{has_come}
 
@@ -67,7 +67,7 @@ module _ (d n m : GName) (s a t : ℕ) (old w v x : WorldOf JcrLaw) (run now : S
       let at_last : TurnsAt n s old n s x run now answer = subst (λ (y : WorldOf JcrLaw). TurnsAt n s old n s y run now answer) (sym same) at_new in
       record { name = n; law = ap (λ (y : WorldOf JcrLaw). y.law) same ∙ law_old; turned = at_last.0; draws = at_last.1; nears = at_last.2 }
 
-  read_in_out : ReadsAt n a w m t v run now → may_read run ≡ true → IsReadIn s old x run now
+  read_in_out : ReadsAt n a w m t v run now → may_read run ≡ true → IsReadingIn s old x run now
   read_in_out told reads =
       let named : m ≡ n = ap (λ (b : Beside). b.name) told.1.beside.beside in
       let at_port : ReadsAt n a w n a v run now =
@@ -90,10 +90,10 @@ module _ (d n m : GName) (s a t : ℕ) (old w v x : WorldOf JcrLaw) (run now : S
   turned_out turn.Memory turned draws nears reads = tt
 
 -- the same of a reading step
-pub read_out : (d n m : GName) (s a t : ℕ) (old w v x : WorldOf JcrLaw) (run now : SessionRun) → n ≡ d → w ≡ old → a ≡ s → v.law ≡ w.law → (d ≡ m → x ≡ v) → HasLooked w.law (shown_at n w a) (shown_at m v t) run now → (g : GName) × HasRead g s old x run now
+pub read_out : (d n m : GName) (s a t : ℕ) (old w v x : WorldOf JcrLaw) (run now : SessionRun) → n ≡ d → w ≡ old → a ≡ s → v.law ≡ w.law → (d ≡ m → x ≡ v) → HasLooked w.law (shown_at n w a) (shown_at m v t) run now → (g : GName) × MakesReading g s old x run now
 read_out d n m s a t old w v x run now name world session law left looked =
     let same : d ≡ m = sym name ∙ sym (ap (λ (b : Beside). b.name) looked.beside.beside) in
-    subst (λ (y : WorldOf JcrLaw). (g : GName) × HasRead g s old y run now) (sym (left same)) (d, read_through d m n s t a old w v run now world name session law looked)
+    subst (λ (y : WorldOf JcrLaw). (g : GName) × MakesReading g s old y run now) (sym (left same)) (d, read_through d m n s t a old w v run now world name session law looked)
 
 -- what holds anyway holds where there is no error
 pub on_ok : {A E : Type 0} (r : Result A E) (P : Type 0) → P → OnOk r P

@@ -37,7 +37,7 @@ use Rattle.jcr_trans.specs.declared.command.SessionScript.{SessionScript}
 use Rattle.jr_stage.specs.declared.flight.Flight.{Flight}
 use Rattle.jr_stage.specs.declared.stage.Seat.{Seat}
 use Rattle.jr_stage.specs.declared.stage.Stage.{Stage}
-use Rattle.jr_stage.specs.Awaited.{IsSeenBut, LeavesOthers}
+use Rattle.jr_stage.specs.Awaited.{IsSeenBut, LeavesOtherSessions}
 use Rattle.jr_stage.specs.Flights.{IsFlight}
 use Rattle.jr_stage.specs.Nearing.{IsKeptBack, SavesOn, StepsNearer, TurnsNearer, works_at, left_at, saves_at}
 use Rattle.jr_stage.specs.Places.{commands_of, history_at, is_over, is_resting, is_waiting, tells_of_none}
@@ -375,8 +375,8 @@ module _ (n : GName) (s : ℕ) (old new : Stage) (seat seat_now : Seat) (answer 
   saves_on turn.Read is = tt
   saves_on turn.Memory is = tt
 
-  leaves_now : LeavesOthers old.world.history.past new.world.history.past s
-  leaves_now = subst (λ (p : Past). LeavesOthers old.world.history.past p s) (sym pasts)
+  leaves_now : LeavesOtherSessions old.world.history.past new.world.history.past s
+  leaves_now = subst (λ (p : Past). LeavesOtherSessions old.world.history.past p s) (sym pasts)
       (turn_leaves old.script.value.clusters (map (λ x. x.cluster) old.script.value.sessions) (nodes old.script.value n s old.world new.world seat seat_now.run answer stage.law stage.history seated turned)
       (starts_of old.world.law) (says_of old.world.law) old.script.value s old.world.history.past turned.own
       (run_new old.script.value n s old.world new.world seat seat_now.run answer stage.law stage.history seated turned) to.shape)

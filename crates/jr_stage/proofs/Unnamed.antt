@@ -10,7 +10,7 @@ use Rattle.oak_machine.specs.declared.event.StepKind.{StepKind}
 use Rattle.oak_machine.specs.declared.event.StepKind.TheVariants as kind
 use Rattle.oak_machine.specs.History.{History}
 use Rattle.oak_machine.specs.Sessions.{is_drawing, next_index}
-use Rattle.oak_machine.specs.Steps.{is_kind, kind_number, kinds_for, where_test}
+use Rattle.oak_machine.specs.Steps.{is_kind, step_number, kinds_for, where_test}
 use Rattle.oak_port.specs.Ports.{Idle, Learning, Publishing, Shown, Starting, Work}
 use Rattle.oak_port.specs.declared.task.Task.TheVariants as task
 use Rattle.jr_part.specs.declared.need.Need.TheVariants as need
@@ -51,7 +51,7 @@ where_some k j false h = absurd (false≢true h)
 
 -- the number of the kind is that of an upkeep
 abbrev HasNumber : StepKind → ℕ → Type 0
-HasNumber k n = (kind_number k == n) ≡ true
+HasNumber k n = (step_number k == n) ≡ true
 
 -- an event that tells of no session comes of such a step
 unnamed_upkeep : (h : History) (s : ℕ) (k : StepKind) (e : Event) → list_any (is_kind k) (kinds_for h s (e ∷ [])) ≡ true → tells_of_none e ≡ true → (j : StepKind) × (is_upkeep j ≡ true) × (is_kind k j ≡ true)

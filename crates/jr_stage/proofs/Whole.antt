@@ -30,7 +30,7 @@ use Rattle.jr_stage.specs.Places.{commands_of, flying_sessions, history_at, is_o
 use Rattle.jr_stage.specs.Runs.{AnswersScript, AreApart, HasRun}
 use Rattle.jr_stage.specs.Schedules.{Scheduled, rules_of}
 use Rattle.jr_stage.specs.SoFar.{IsCutSoFar}
-use Rattle.jr_stage.specs.Stages.{AreOver, Closes, ClosesAll, IsBegun, IsStage, due_at, law_of, past_of}
+use Rattle.jr_stage.specs.Stages.{HaveEnded, Closes, ClosesAll, IsFirstStage, IsStage, due_at, law_of, past_of}
 use Rattle.jr_stage.proofs.Answering.{range_more, said_so_far}
 use Rattle.jr_stage.proofs.Flying.{halves}
 use Rattle.jr_stage.proofs.Looping.{has_left_over}
@@ -134,13 +134,13 @@ all_taken {X = X} f first stage xs i long all = subst (λ (l : List X). ClosesAl
 below_more : (t n : ℕ) → t < n + 1 → (t == n) ≡ false → t < n
 below_more t n h apart = grind (arith, nat_tests)
 
-pub over_none : (stage : Stage) → AreOver stage 0
+pub over_none : (stage : Stage) → HaveEnded stage 0
 over_none stage t below = absurd (none t below)
   where
     none : (t : ℕ) → t < 0 → ⊥
     none t h = omega arith
 
-pub over_more : (old new : Stage) (n : ℕ) (rule : Rule) → Closes old new rule → AreOver old n → is_over new.script.value (past_of new) n ≡ true → AreOver new (n + 1)
+pub over_more : (old new : Stage) (n : ℕ) (rule : Rule) → Closes old new rule → HaveEnded old n → is_over new.script.value (past_of new) n ≡ true → HaveEnded new (n + 1)
 over_more old new n rule one before ended t below = by (t == n) refl
   where
     by : (b : Bool) → (t == n) ≡ b → is_over new.script.value (past_of new) t ≡ true
@@ -186,10 +186,10 @@ answers_all script h within is run asked apart over obey answer = record {
     })
 
 module _ (script : Script) (begun played replied finished : Stage) (flying : List ℕ)
-    (begins : IsBegun script begun) (plays : ClosesAll begun played (map by_entry begun.schedule))
+    (begins : IsFirstStage script begun) (plays : ClosesAll begun played (map by_entry begun.schedule))
     (flies : flying ≡ flying_sessions (past_of played)) (replies : ClosesAll played replied (map to_reply flying))
     (finishes : ClosesAll replied finished (map to_end (range_with_len 0 (length replied.seats.items))))
-    (over : AreOver finished (length replied.seats.items))
+    (over : HaveEnded finished (length replied.seats.items))
     (run : IsRun (starts_of finished.world.law) (says_of finished.world.law) (live finished.world.history)) (asked : AreAsked (asks_of finished.world.law) (live finished.world.history)) (apart : AreApart finished.world.history.past)
     (obey : (law : JcrLaw) (h : History) → IsProductRun law h → ObeysThroughout law h)
     (answer : (law : JcrLaw) (h : History) → IsNodesRun (starts_of law) (says_of law) h → NameOthers h.past → AnswersThroughout law h) where

@@ -42,7 +42,7 @@ IsStill past = (t : ℕ) → IsFalse (is_drawing past t)
 
 -- of sessions other than s, the same have a commit in flight as before, and nothing was drawn and
 -- nothing is in flight that wasn't
-pub record LeavesOthers (old new : Past) (s : ℕ) : Type 0 where
+pub record LeavesOtherSessions (old new : Past) (s : ℕ) : Type 0 where
   pub drawing : (t : ℕ) → IsFalse (t == s) → is_drawing new t ≡ is_drawing old t
   pub drawn : (t : ℕ) (r : Revision) → IsFalse (t == s)
       → IsTrue (is_revision_of new t r) → IsTrue (is_revision_of old t r)
@@ -61,13 +61,13 @@ abbrev pub is_among : ℕ → List ℕ → Bool
 is_among t sessions = list_any (λ s. s == t) sessions
 
 -- each of the sessions stands once, and no later one keeps it waiting
-abbrev pub AreOrdered : Past → List ℕ → Type 0
-AreOrdered past [] = Unit {0}
-AreOrdered past (s ∷ later) =
+abbrev pub StandInTurn : Past → List ℕ → Type 0
+StandInTurn past [] = Unit {0}
+StandInTurn past (s ∷ later) =
     ((t : ℕ) → IsTrue (is_among t later) → IsFalse (t == s) × (KeepsWaiting past t s → ⊥))
-    × AreOrdered past later
+    × StandInTurn past later
 
 -- just these sessions have a commit in flight, and none is kept waiting by a later one
 pub record AreInTurn (past : Past) (sessions : List ℕ) : Type 0 where
   pub flying : (t : ℕ) → is_drawing past t ≡ is_among t sessions
-  pub ordered : AreOrdered past sessions
+  pub ordered : StandInTurn past sessions

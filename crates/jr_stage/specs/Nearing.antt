@@ -42,14 +42,14 @@ abbrev pub steps_at : Stage → ℕ → ℕ
 steps_at stage s = left_in stage.world s
 
 -- what its next command is run with
-abbrev pub call_at : Stage → ℕ → Option Call
-call_at stage s =
+abbrev pub next_call : Stage → ℕ → Option Call
+next_call stage s =
     call_of stage.world.law (live stage.world.history).begin (live stage.world.history).past s
 
 -- how much is still to be known before its next command
 abbrev pub unread_at : Stage → ℕ → ℕ
 unread_at stage s =
-    option_map_or (λ seat. option_map_or (λ c. unread_of c seat.run) (call_at stage s) 0)
+    option_map_or (λ seat. option_map_or (λ c. unread_of c seat.run) (next_call stage s) 0)
     (slice_get stage.seats.items s) 0
 
 -- ---- how it gets less

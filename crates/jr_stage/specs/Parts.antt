@@ -26,10 +26,10 @@ pub record Part : Type 0 where
   pub events : Past
 
 -- the session whose turns a part has
-abbrev pub session_of : Rule → ℕ
-session_of (by_entry e) = session_named e
-session_of (to_reply s) = s
-session_of (to_end s) = s
+abbrev pub part_session : Rule → ℕ
+part_session (by_entry e) = session_named e
+part_session (to_reply s) = s
+part_session (to_end s) = s
 
 -- the part so far ends with a reply of s
 abbrev pub has_just_said : ℕ → Past → Bool
@@ -51,10 +51,10 @@ is_entry_done script (entry.Last s) before part =
 is_entry_done script (entry.Read s) before part = true
 
 -- the part has come to its end by its rule, whatever comes
-abbrev pub is_done : Script → Rule → Past → Past → Bool
-is_done script (by_entry e) before part = is_entry_done script e before part
-is_done script (to_reply s) before part = has_just_said s part
-is_done script (to_end s) before part = is_over script (part ++ before) s
+abbrev pub is_part_over : Script → Rule → Past → Past → Bool
+is_part_over script (by_entry e) before part = is_entry_done script e before part
+is_part_over script (to_reply s) before part = has_just_said s part
+is_part_over script (to_end s) before part = is_over script (part ++ before) s
 
 -- a part that waits for the last write is at it, and the next event of its session passes the test
 abbrev pub is_last_and : (Event → Bool) → Rule → Past → List Event → Bool
@@ -64,21 +64,21 @@ is_last_and test _ now later = false
 -- the part may end here; at the last write only where no Write or Mark is next
 abbrev pub may_end : Script → Rule → Past → Past → List Event → Bool
 may_end script (by_entry (entry.Last s)) before part later =
-    is_done script (by_entry (entry.Last s)) before part
+    is_part_over script (by_entry (entry.Last s)) before part
     || (is_at_last (part ++ before) s && not (is_next is_write_or_mark (part ++ before) s later))
-may_end script rule before part later = is_done script rule before part
+may_end script rule before part later = is_part_over script rule before part
 
 -- the part can't go on from here; at the last write only where its commit is next
 abbrev pub must_end : Script → Rule → Past → Past → List Event → Bool
 must_end script rule before part later =
-    is_done script rule before part || is_last_and is_commit rule (part ++ before) later
+    is_part_over script rule before part || is_last_and is_commit rule (part ++ before) later
 
 -- each event of the part is of its session's turns, and the part need not have ended before it
 abbrev pub goes_on : Script → Rule → Past → Past → List Event → Bool
 goes_on script rule before [] later = true
 goes_on script rule before (e ∷ part) later =
     not (must_end script rule before part (e ∷ later))
-    && is_of_turn script (part ++ before) (session_of rule) e
+    && is_of_turn script (part ++ before) (part_session rule) e
     && goes_on script rule before part (e ∷ later)
 
 -- one counted step of s; none, where s makes no step

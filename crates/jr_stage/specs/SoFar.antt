@@ -16,7 +16,7 @@ use Rattle.jr_script.specs.declared.script.Script.{Script}
 use Rattle.jr_script.specs.declared.script.Entry.TheVariants as entry
 use Rattle.jr_stage.specs.Places.{history_at, is_commit, is_of_turn, is_own, is_resting}
 use Rattle.jr_stage.specs.Places.{is_write_or_mark, next_of, tells_of_none}
-use Rattle.jr_stage.specs.Parts.{Rule, by_entry, Part, session_of, is_done, goes_on, events_of}
+use Rattle.jr_stage.specs.Parts.{Rule, by_entry, Part, part_session, is_part_over, goes_on, events_of}
 use Rattle.jr_stage.specs.Parts.{IsCut}
 use Rattle.jr_stage.specs.Growing.{knows_next}
 
@@ -77,7 +77,7 @@ IsQuietNext None due = IsTrue (is_last_due due)
 abbrev pub IsQuiet : Script → (ℕ → Option StepKind) → Rule → Past → Past → List Event → Type 0
 IsQuiet script due (by_entry (entry.Last s)) before part later =
     IsTrue (knows_next s before part)
-    × (IsTrue (is_done script (by_entry (entry.Last s)) before part)
+    × (IsTrue (is_part_over script (by_entry (entry.Last s)) before part)
     ⊎ IsQuietNext (next_of (part ++ before) s later) (due s))
 IsQuiet script due rule before part later = Unit {0}
 
@@ -100,4 +100,4 @@ pub record IsCutSoFar (script : Script) (due : ℕ → Option StepKind) (parts :
 -- the part under way goes on, and each place of it knows the next event that counts there
 pub record IsUnderWay (script : Script) (rule : Rule) (before part : Past) : Type 0 where
   pub goes : IsTrue (goes_on script rule before part [])
-  pub knows : IsTrue (knows_next (session_of rule) before part)
+  pub knows : IsTrue (knows_next (part_session rule) before part)

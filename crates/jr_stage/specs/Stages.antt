@@ -30,7 +30,7 @@ use Rattle.jr_script.specs.declared.script.Script.{Script}
 use Rattle.jr_stage.specs.declared.flight.Flight.{Flight}
 use Rattle.jr_stage.specs.declared.stage.Seat.{Seat}
 use Rattle.jr_stage.specs.declared.stage.Stage.{Stage}
-use Rattle.jr_stage.specs.Awaited.{DrawsNone, IsSeenBut, LeavesOthers}
+use Rattle.jr_stage.specs.Awaited.{DrawsNone, IsSeenBut, LeavesOtherSessions}
 use Rattle.jr_stage.specs.Flights.{IsFlight, flight_with}
 use Rattle.jr_stage.specs.Nearing.{IsKeptBack, SavesOn, TurnsNearer, left_at, phase_at, saves_at}
 use Rattle.jr_stage.specs.Nearing.{steps_at, works_at}
@@ -79,7 +79,7 @@ pub record IsStage (stage : Stage) : Type 0 where
       → IsSeated stage.script.value stage.world s seat
 
 -- before any turn
-pub record IsBegun (script : Script) (stage : Stage) : Type 0 where
+pub record IsFirstStage (script : Script) (stage : Stage) : Type 0 where
   pub script_is : stage.script.value ≡ script
   pub stage_is : IsStage stage
   pub first : past_of stage ≡ []
@@ -113,7 +113,7 @@ pub record HasCome (old new : Stage) (s : ℕ) (answer : Turn) : Type 0 where
   pub over : (t : ℕ) → IsTrue (is_over old.script.value (past_of old) t)
       → IsTrue (is_over old.script.value (past_of new) t)
   pub came : Comes old.script.value (past_of old) s (due_at old.world s) answer own
-  pub leaves : LeavesOthers (past_of old) (past_of new) s
+  pub leaves : LeavesOtherSessions (past_of old) (past_of new) s
   pub draws : IsTrue (saves_at old s) → DrawsNone (past_of old) (past_of new) s
   pub saves : SavesOn old new s answer
   pub nears : TurnsNearer old new s answer
@@ -132,14 +132,14 @@ pub record IsTurnedIn (s : ℕ) (old new : WorldOf JcrLaw) (run now : SessionRun
       (turns_left run) (turns_left now) answer
 
 -- a reading step of session s, where one is due
-abbrev pub HasRead : GName → ℕ → WorldOf JcrLaw → WorldOf JcrLaw → SessionRun → SessionRun → Type 0
-HasRead n s old new run now =
+abbrev pub MakesReading : GName → ℕ → WorldOf JcrLaw → WorldOf JcrLaw → SessionRun → SessionRun → Type 0
+MakesReading n s old new run now =
     (new.law ≡ old.law) × HasLooked old.law (shown_at n old s) (shown_at n new s) run now
 
 -- one that was made, in the world that the session was shown through some reference
-pub record IsReadIn (s : ℕ) (old new : WorldOf JcrLaw) (run now : SessionRun) : Type 0 where
+pub record IsReadingIn (s : ℕ) (old new : WorldOf JcrLaw) (run now : SessionRun) : Type 0 where
   pub name : GName
-  pub read : HasRead name s old new run now
+  pub read : MakesReading name s old new run now
   pub reads : IsTrue (may_read run)
   pub nears : HasNeared (EndsSooner (left_in old s) (left_in new s) (shown_at name old s))
       old.law (shown_at name old s) run now
@@ -148,7 +148,7 @@ pub record IsReadIn (s : ℕ) (old new : WorldOf JcrLaw) (run now : SessionRun) 
 abbrev pub HasTurnedIn : ℕ → WorldOf JcrLaw → WorldOf JcrLaw → SessionRun → SessionRun → Turn
     → Type 0
 HasTurnedIn s old new run now turn.Memory = ⊤
-HasTurnedIn s old new run now turn.Read = IsReadIn s old new run now
+HasTurnedIn s old new run now turn.Read = IsReadingIn s old new run now
 HasTurnedIn s old new run now answer = IsTurnedIn s old new run now answer
 
 -- reading steps of session s were made, or none: the journal stays, and who stands where; what is
@@ -228,8 +228,8 @@ IsNearerOrCome old new s until = (left_at new s < left_at old s) ⊎ IsTrue (com
 
 -- s has no more left; and its commit has come to where the entry waits for it, or s has less left
 -- where a task of its next command was under way
-abbrev pub IsThrough : (old new : Stage) → ℕ → Option Entry → Type 0
-IsThrough old new s until = (left_at new s ≤ left_at old s)
+abbrev pub IsEntryOver : (old new : Stage) → ℕ → Option Entry → Type 0
+IsEntryOver old new s until = (left_at new s ≤ left_at old s)
     × (IsTrue (comes_to new s until) ⊎ (IsTrue (works_at old s) → left_at new s < left_at old s))
 
 -- an entry that waits for a commit of session s
@@ -277,5 +277,5 @@ pub record ClosesAll (old new : Stage) (rules : List Rule) : Type 0 where
       × IsCutSoFar old.script.value (due_at new.world) (added ++ parts) [] (past_of new)
 
 -- the first sessions have ended
-abbrev pub AreOver : Stage → ℕ → Type 0
-AreOver stage n = (t : ℕ) → t < n → IsTrue (is_over stage.script.value (past_of stage) t)
+abbrev pub HaveEnded : Stage → ℕ → Type 0
+HaveEnded stage n = (t : ℕ) → t < n → IsTrue (is_over stage.script.value (past_of stage) t)

@@ -5,7 +5,7 @@ ghost use Rattle.jr_script.specs.Bounds.{IsWithin};
 ghost use Rattle.jr_stage.specs.Parts.{by_entry, to_end, to_reply};
 ghost use Rattle.jr_stage.specs.Runs.{HasRun};
 ghost use Rattle.jr_stage.specs.Awaited.{AreInTurn, IsStill};
-ghost use Rattle.jr_stage.specs.Stages.{AreOver, ClosesAll, IsStage, past_of};
+ghost use Rattle.jr_stage.specs.Stages.{HaveEnded, ClosesAll, IsStage, past_of};
 
 use crate::stage::Stage;
 use core_obeys::{the_product_answers_throughout, the_product_obeys_throughout};
@@ -74,7 +74,7 @@ impl Stage {
         requires still { IsStill (past_of self.old) }
         ensures closes { OnOk result (ClosesAll self.old self.new
             (map to_end (range_with_len 0 (length self.old.seats.items)))) }
-        ensures over { OnOk result (AreOver self.new (length self.old.seats.items)) }
+        ensures over { OnOk result (HaveEnded self.new (length self.old.seats.items)) }
     {
         for s in 0..self.seats.len() {
             self.finish(s as u32)?;

@@ -12,11 +12,11 @@ ghost use Rattle.oak_machine.specs.Sessions.{is_drawing};
 ghost use Rattle.oak_world.specs.Seen.{shown_at};
 ghost use Rattle.oak_world.specs.Worlds.{start_world};
 ghost use Rattle.jcr_run.specs.Standing.{IsNew, Stands};
-ghost use Rattle.jr_stage.specs.Awaited.{AreInTurn, IsAlone, IsNextToReply, IsStill, LeavesOthers};
+ghost use Rattle.jr_stage.specs.Awaited.{AreInTurn, IsAlone, IsNextToReply, IsStill, LeavesOtherSessions};
 ghost use Rattle.jr_stage.specs.Places.{flying_sessions, is_over};
 ghost use Rattle.jr_stage.specs.Parts.{by_entry, to_end, to_reply};
 ghost use Rattle.jr_script.specs.declared.script.Entry.TheVariants as entry;
-ghost use Rattle.jr_stage.specs.Stages.{Closes, HasRead, IsBegun, IsOfCommit, IsStage, has_come, past_of};
+ghost use Rattle.jr_stage.specs.Stages.{Closes, MakesReading, IsFirstStage, IsOfCommit, IsStage, has_come, past_of};
 ghost use Rattle.jr_stage.specs.Seats.{AreNew, IsNewSeat};
 
 use crate::flight::Flight;
@@ -96,7 +96,7 @@ impl Stage {
     // trees that meet the types of the script.
     pub(crate) fn new(alloc: Global, script: Script) -> Result<Stage, AllocError>
         requires { IsWithin script }
-        ensures { IfOk result (IsBegun script) }
+        ensures { IfOk result (IsFirstStage script) }
     {
         the_product_obeys();
         let shown = Snapshot::of(&script);
@@ -220,7 +220,7 @@ impl Stage {
         requires flies { IsTrue (is_drawing (past_of self.old) s) }
         requires first { IsNextToReply (past_of self.old) s }
         ensures closes { OnOk result (Closes self.old self.new (to_reply s)) }
-        ensures leaves { OnOk result (LeavesOthers (past_of self.old) (past_of self.new) s) }
+        ensures leaves { OnOk result (LeavesOtherSessions (past_of self.old) (past_of self.new) s) }
         ensures lands { OnOk result (IsFalse (is_drawing (past_of self.new) s)) }
     {
         'turns: loop {
@@ -370,7 +370,7 @@ pub fn session_of(
 fn read_one(world: &mut World<JcrLaw>, run: &mut SessionRun, s: u32) -> Result<bool, AllocError>
     requires there { IsTrue (is_some (slice_get world.old.history.sessions s)) }
     requires stands { (name : GName) → Stands world.old.law (shown_at name world.old s) run.old }
-    ensures { OnOk result ((name : GName) × HasRead name s world.old world.new run.old run.new) }
+    ensures { OnOk result ((name : GName) × MakesReading name s world.old world.new run.old run.new) }
 {
     let mut port = SoloPort::new(world, s);
     read(run, &mut port)

@@ -4,7 +4,7 @@ ghost use Rattle.std.specs.Borrow.{GName};
 ghost use Rattle.oak_world.specs.Seen.{shown_at};
 ghost use Rattle.jcr_run.specs.Standing.{Stands};
 ghost use Rattle.jr_stage.specs.Nearing.{ReadsNearer, ReadsThrough, reads_at, unread_at, works_at};
-ghost use Rattle.jr_stage.specs.Stages.{HasCome, HasTurnedIn, IsNearerOrCome, IsStage, IsThrough, ReadsOrComes, StepsUntil, comes_to, flight_behind, flight_by};
+ghost use Rattle.jr_stage.specs.Stages.{HasCome, HasTurnedIn, IsNearerOrCome, IsStage, IsEntryOver, ReadsOrComes, StepsUntil, comes_to, flight_behind, flight_by};
 
 use crate::flight::{Flight, flight_after};
 use crate::stage::Stage;
@@ -37,7 +37,7 @@ impl Stage {
     fn work_on(&mut self, s: u32, until: Option<Entry>, kind: StepKind) -> Result<Turn, AllocError>
         requires stage { IsStage self.old }
         requires there { s < length self.old.seats.items }
-        ensures { IfOk result (StepsUntil (IsThrough self.old self.new s until)
+        ensures { IfOk result (StepsUntil (IsEntryOver self.old self.new s until)
             self.old self.new s until) }
     {
         'task: while self.is_under_way(s, until) {

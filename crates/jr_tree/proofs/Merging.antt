@@ -17,7 +17,7 @@ use Rattle.jr_tree.specs.declared.edit.Write.{Write}
 use Rattle.jr_tree.specs.declared.edit.Write.TheVariants.{Here, Gone, Put, Unset}
 use Rattle.jr_tree.specs.Trees.{Nodes, node_at}
 use Rattle.jr_tree.specs.Edits.{item_of, applied, last_writes, with_node_write}
-use Rattle.jr_tree.specs.Merging.{is_touched, with_node_of, written_nodes, missing, with_room, without_paths, without_unless, without_gone, with_part, changed_part, merged}
+use Rattle.jr_tree.specs.Merging.{is_touched, with_node_of, written_nodes, paths_missing, with_room, without_paths, without_unless, without_gone, with_tree_part, changed_part, merged}
 use Rattle.jr_tree.proofs.Pointwise.{same_path}
 use Rattle.jr_tree.proofs.Entries.{exactly, first, second, none_below, sorted_insert, sorted_remove, sorted_set, lookup-remove, same_lists}
 use Rattle.jr_tree.proofs.AtPath.{InOrder, come, filled, props_of, node_at-comes, node_at-fills, node_at-applied, order-comes, order-fills, order-applied, changed_there}
@@ -166,7 +166,7 @@ sorted_removed t [] s = s
 sorted_removed t (q ∷ ps) s = sorted_removed (remove_entry (is_at (path_cmp q)) t) ps (sorted_remove path_cmp (is_at (path_cmp q)) t s)
 
 -- a missing path has no node, and the part has one
-missing_at : (t : Nodes) (es : Nodes) (p : Path) → list_any (eq_by_cmp path_cmp p) (missing t es) ≡ (is_some (node_at es p) && is_none (node_at t p))
+missing_at : (t : Nodes) (es : Nodes) (p : Path) → list_any (eq_by_cmp path_cmp p) (paths_missing t es) ≡ (is_some (node_at es p) && is_none (node_at t p))
 missing_at t [] p = refl
 missing_at t (e ∷ es) p = by (is_none (node_at t e.0)) refl (eq_by_cmp path_cmp p e.0) refl (missing_at t es p)
   where
@@ -178,10 +178,10 @@ missing_at t (e ∷ es) p = by (is_none (node_at t e.0)) refl (eq_by_cmp path_cm
     no true = refl
     no false = refl
 
-    by : (b : Bool) → is_none (node_at t e.0) ≡ b → (c : Bool) → eq_by_cmp path_cmp p e.0 ≡ c → list_any (eq_by_cmp path_cmp p) (missing t es) ≡ (is_some (node_at es p) && is_none (node_at t p))
-        → list_any (eq_by_cmp path_cmp p) (cond b (e.0 ∷ missing t es) (missing t es)) ≡ (is_some (cond c (Some e.1) (node_at es p)) && is_none (node_at t p))
-    by true h true g rest = ap (λ b. b || list_any (eq_by_cmp path_cmp p) (missing t es)) g ∙ sym (ap (λ q. is_none (node_at t q)) (same_path p e.0 g) ∙ h)
-    by true h false g rest = ap (λ b. b || list_any (eq_by_cmp path_cmp p) (missing t es)) g ∙ rest
+    by : (b : Bool) → is_none (node_at t e.0) ≡ b → (c : Bool) → eq_by_cmp path_cmp p e.0 ≡ c → list_any (eq_by_cmp path_cmp p) (paths_missing t es) ≡ (is_some (node_at es p) && is_none (node_at t p))
+        → list_any (eq_by_cmp path_cmp p) (cond b (e.0 ∷ paths_missing t es) (paths_missing t es)) ≡ (is_some (cond c (Some e.1) (node_at es p)) && is_none (node_at t p))
+    by true h true g rest = ap (λ b. b || list_any (eq_by_cmp path_cmp p) (paths_missing t es)) g ∙ sym (ap (λ q. is_none (node_at t q)) (same_path p e.0 g) ∙ h)
+    by true h false g rest = ap (λ b. b || list_any (eq_by_cmp path_cmp p) (paths_missing t es)) g ∙ rest
     by false h true g rest =
         let none : is_none (node_at t p) ≡ false = ap (λ q. is_none (node_at t q)) (same_path p e.0 g) ∙ h in
         rest ∙ (ap (λ b. is_some (node_at es p) && b) none ∙ (no (is_some (node_at es p)) ∙ sym none))
@@ -193,9 +193,9 @@ fewer test (suc n) [] h = refl
 fewer test (suc n) (x ∷ xs) h = let parts = or_parts _ _ h in ap (λ b. b || list_any test (take n xs)) parts.0 ∙ fewer test n xs parts.1
 
 -- taking the room away again leaves the tree as it was
-pub room_undone : (t part : Nodes) (n : ℕ) → InOrder t → without_paths (with_room t (take n (missing t part))) (missing t part) ≡ t
+pub room_undone : (t part : Nodes) (n : ℕ) → InOrder t → without_paths (with_room t (take n (paths_missing t part))) (paths_missing t part) ≡ t
 room_undone t part n s =
-    same_lists path_cmp path_total path_exact _ _ (sorted_removed _ (missing t part) (sorted_room t (take n (missing t part)) s)) s (λ p. at p (list_any (eq_by_cmp path_cmp p) (missing t part)) refl)
+    same_lists path_cmp path_total path_exact _ _ (sorted_removed _ (paths_missing t part) (sorted_room t (take n (paths_missing t part)) s)) s (λ p. at p (list_any (eq_by_cmp path_cmp p) (paths_missing t part)) refl)
   where
     none : (a : Bool) (o : Option Node) → (a && is_none o) ≡ true → None ≡ o
     none true None h = refl
@@ -203,7 +203,7 @@ room_undone t part n s =
     none false o h = absurd (false≢true h)
 
     ps : List Path
-    ps = missing t part
+    ps = paths_missing t part
 
     at : (p : Path) (b : Bool) → list_any (eq_by_cmp path_cmp p) ps ≡ b → node_at (without_paths (with_room t (take n ps)) ps) p ≡ node_at t p
     at p true h = removed_at (with_room t (take n ps)) ps (sorted_room t (take n ps) s) p ∙ (ap (λ b. cond b None (node_at (with_room t (take n ps)) p)) h ∙ none (is_some (node_at part p)) (node_at t p) (sym (missing_at t part p) ∙ h))
@@ -275,14 +275,14 @@ same_map None = refl
 same_map (Some n) = refl
 
 -- a place that is there has the part's node, where the part has one
-places_at : (t part : Nodes) → InOrder part → (p : Path) → node_at (with_part t part) p ≡ option_map (λ n. unwrap_or (node_at part p) n) (node_at t p)
+places_at : (t part : Nodes) → InOrder part → (p : Path) → node_at (with_tree_part t part) p ≡ option_map (λ n. unwrap_or (node_at part p) n) (node_at t p)
 places_at t [] s p = same_map (node_at t p)
 places_at t (e ∷ es) s p =
     places_at (with_entry t e) es (second _ _ s) p
     ∙ (ap (option_map (λ n. unwrap_or (node_at es p) n)) (entry_at t e p)
     ∙ placed (eq_by_cmp path_cmp p e.0) (node_at t p) (node_at es p) e.1 (λ h. none_below path_cmp path_total p e.0 (exactly _ h) es (first _ _ s)))
 
-sorted_placed : (t part : Nodes) → InOrder t → InOrder (with_part t part)
+sorted_placed : (t part : Nodes) → InOrder t → InOrder (with_tree_part t part)
 sorted_placed t [] s = s
 sorted_placed t (e ∷ es) s = sorted_placed (with_entry t e) es (sorted_entry t e s)
 
@@ -291,9 +291,9 @@ sorted_placed t (e ∷ es) s = sorted_placed (with_entry t e) es (sorted_entry t
 -- at a path that the part has its node is put, and a written node that it hasn't goes
 merged_at : (t part : Nodes) (us : List Write) → InOrder t → InOrder part → ((p : Path) → is_touched us p ≡ false → node_at part p ≡ None) → (p : Path) → node_at (merged t part us) p ≡ cond (is_touched us p) (node_at part p) (node_at t p)
 merged_at t part us s o only p =
-    places_at (without_gone (with_room t (missing t part)) part us) part o p
-    ∙ (ap (option_map (λ n. unwrap_or (node_at part p) n)) (gone_at (with_room t (missing t part)) part us (sorted_room t (missing t part) s) p
-    ∙ ap (cond (is_touched us p && is_none (node_at part p)) None) (room_at t (missing t part) p ∙ ap (λ b. cond b (Some (record { props = []; born = None })) (node_at t p)) (missing_at t part p)))
+    places_at (without_gone (with_room t (paths_missing t part)) part us) part o p
+    ∙ (ap (option_map (λ n. unwrap_or (node_at part p) n)) (gone_at (with_room t (paths_missing t part)) part us (sorted_room t (paths_missing t part) s) p
+    ∙ ap (cond (is_touched us p && is_none (node_at part p)) None) (room_at t (paths_missing t part) p ∙ ap (λ b. cond b (Some (record { props = []; born = None })) (node_at t p)) (missing_at t part p)))
     ∙ by (node_at part p) (node_at t p) (is_touched us p) (only p))
   where
     by : (x y : Option Node) (b : Bool) → (b ≡ false → x ≡ None) → option_map (λ n. unwrap_or x n) (cond (b && is_none x) None (cond (is_some x && is_none y) (Some (record { props = []; born = None })) y)) ≡ cond b x y
@@ -312,7 +312,7 @@ merged_is : (born : Option Revision) (t : Nodes) (ws : List Write) → InOrder t
 merged_is born t ws s =
     let us = last_writes ws in
     let part = changed_part born t us in
-    same_lists path_cmp path_total path_exact _ _ (sorted_placed _ part (sorted_gone _ part us (sorted_room t (missing t part) s))) (order-applied born t ws s)
+    same_lists path_cmp path_total path_exact _ _ (sorted_placed _ part (sorted_gone _ part us (sorted_room t (paths_missing t part) s))) (order-applied born t ws s)
     (λ p. merged_at t part us s (sorted_part born t us) (part_none born t us) p ∙ sym (applied_at born t ws s p))
 
 -- the steps of the code give the tree after the edit
@@ -325,10 +325,10 @@ map-take f (suc n) [] = refl
 map-take f (suc n) (x ∷ xs) = ap (λ (ps : List Path). f x ∷ ps) (map-take f n xs)
 
 -- what a refusal left is taken away again
-pub room_refused : {A : Type 0} (f : A → Path) (t part room rest : Nodes) (xs ys zs : List A) (n : ℕ) → InOrder t → map f xs ≡ missing t part → ys ≡ xs → zs ≡ xs → room ≡ with_room t (map f (take n ys)) → rest ≡ without_paths room (map f zs) → rest ≡ t
+pub room_refused : {A : Type 0} (f : A → Path) (t part room rest : Nodes) (xs ys zs : List A) (n : ℕ) → InOrder t → map f xs ≡ paths_missing t part → ys ≡ xs → zs ≡ xs → room ≡ with_room t (map f (take n ys)) → rest ≡ without_paths room (map f zs) → rest ≡ t
 room_refused f t part room rest xs ys zs n s are same again put undone =
     undone
     ∙ (ap (λ (ws : List _). without_paths room (map f ws)) again
     ∙ (ap (without_paths room) are
-    ∙ (ap (λ (u : Nodes). without_paths u (missing t part)) (put ∙ (ap (λ (ws : List _). with_room t (map f (take n ws))) same ∙ ap (with_room t) (map-take f n xs ∙ ap (take n) are)))
+    ∙ (ap (λ (u : Nodes). without_paths u (paths_missing t part)) (put ∙ (ap (λ (ws : List _). with_room t (map f (take n ws))) same ∙ ap (with_room t) (map-take f n xs ∙ ap (take n) are)))
     ∙ room_undone t part n s)))

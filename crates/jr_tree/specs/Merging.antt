@@ -25,8 +25,8 @@ abbrev pub written_nodes : Nodes → List Write → Nodes
 written_nodes t ws = fold (λ part w. with_node_of t part (item_of w).path) [] ws
 
 -- the paths that the tree lacks
-abbrev pub missing : Nodes → Nodes → List Path
-missing t part = filter (λ p. is_none (node_at t p)) (keys_of part)
+abbrev pub paths_missing : Nodes → Nodes → List Path
+paths_missing t part = filter (λ p. is_none (node_at t p)) (keys_of part)
 
 -- with a node that has no properties at each of some paths
 abbrev pub with_room : Nodes → List Path → Nodes
@@ -45,8 +45,8 @@ abbrev pub without_gone : Nodes → Nodes → List Write → Nodes
 without_gone t part ws = fold (λ t w. without_unless part t (item_of w).path) t ws
 
 -- with the nodes of a part in the places that are there for them
-abbrev pub with_part : Nodes → Nodes → Nodes
-with_part t part = fold (λ t e. option_map_or (λ old. set_value (is_at (path_cmp e.0)) t e.1) (node_at t e.0) t) t part
+abbrev pub with_tree_part : Nodes → Nodes → Nodes
+with_tree_part t part = fold (λ t e. option_map_or (λ old. set_value (is_at (path_cmp e.0)) t e.1) (node_at t e.0) t) t part
 
 -- the nodes that are written, with the writes made
 abbrev pub changed_part : Option Revision → Nodes → List Write → Nodes
@@ -54,4 +54,4 @@ changed_part born t ws = fold with_property_write (fold (with_node_write born) (
 
 -- the tree with the changed part in its places
 abbrev pub merged : Nodes → Nodes → List Write → Nodes
-merged t part ws = with_part (without_gone (with_room t (missing t part)) part ws) part
+merged t part ws = with_tree_part (without_gone (with_room t (paths_missing t part)) part ws) part

@@ -6,7 +6,7 @@ ghost use Rattle.std.specs.List.{fold};
 ghost use Rattle.std.specs.Map.Iter.{deref};
 ghost use Rattle.jr_path.specs.Names.{path_cmp};
 ghost use Rattle.jr_tree.specs.declared.edit.Write.TheVariants as write;
-ghost use Rattle.jr_tree.specs.Merging.{with_node_of, written_nodes, missing, with_room, without_paths, without_gone, without_unless, with_part, changed_part, merged};
+ghost use Rattle.jr_tree.specs.Merging.{with_node_of, written_nodes, paths_missing, with_room, without_paths, without_gone, without_unless, with_tree_part, changed_part, merged};
 ghost use Rattle.jr_tree.specs.Edits.{applied, properties_at, with_node_write, with_property_write};
 
 use crate::edit::{Edit, Write};
@@ -150,7 +150,7 @@ fn make_room(
     part: &Keyed<Path, Node>,
 ) -> Result<(), AllocError>
     requires { IsTrue (is_sorted path_cmp nodes.old) }
-    ensures ok { OnOk result (nodes.new ≡ with_room nodes.old (missing nodes.old part.now)) }
+    ensures ok { OnOk result (nodes.new ≡ with_room nodes.old (paths_missing nodes.old part.now)) }
     ensures err { OnErr result (nodes.new ≡ nodes.old) }
 {
     let missing = missing_paths(nodes, alloc, part)?;
@@ -169,7 +169,7 @@ fn missing_paths<'a>(
     alloc: Global,
     part: &'a Keyed<Path, Node>,
 ) -> Result<Vec<&'a Path>, AllocError>
-    ensures { IfOk result (λ paths. map deref paths.items ≡ missing nodes.now part.now) }
+    ensures { IfOk result (λ paths. map deref paths.items ≡ paths_missing nodes.now part.now) }
 {
     let mut paths = Vec::new(alloc);
     for (path, _) in part.inner() {
@@ -222,7 +222,7 @@ fn remove_unless(nodes: &mut Keyed<Path, Node>, part: &Keyed<Path, Node>, path: 
 
 // Puts the nodes of the part in the places that are there for them, without memory.
 fn move_in(nodes: &mut Keyed<Path, Node>, part: Keyed<Path, Node>)
-    ensures { nodes.new ≡ with_part nodes.old part }
+    ensures { nodes.new ≡ with_tree_part nodes.old part }
 {
     for (path, node) in part.into_inner() {
         if let Some(place) = nodes.inner_mut().get_mut(&path) {

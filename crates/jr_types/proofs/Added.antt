@@ -19,7 +19,7 @@ use Rattle.jr_types.specs.declared.ChildDef.{ChildDef}
 use Rattle.jr_types.specs.declared.TypeDef.{TypeDef}
 use Rattle.jr_types.specs.Types.{type_named, lineage, lineage_among, supertypes_of, is_a, types_of, child_defs, fits_child}
 use Rattle.jr_types.proofs.Same.{left_nil, right_nil, same}
-use Rattle.jr_types.specs.Rules.{Child, TypesOk, failing, is_primary_type, is_mixin, are_mixins, are_distinct, is_undefined, is_misfit, is_outside, is_missing, is_stray, is_of_no_type, mandatory_props, mandatory_children, property_faults, child_faults, node_types, child_at}
+use Rattle.jr_types.specs.Rules.{PresentChild, TypesOk, failing, is_primary_type, is_mixin, are_mixins, are_distinct, is_undefined, is_misfit, is_outside, is_missing, is_stray, is_of_no_type, mandatory_props, mandatory_children, property_faults, child_faults, node_types, child_at}
 
 first : (a b : Bool) → (a && b) ≡ true → a ≡ true
 first true b h = refl
@@ -192,7 +192,7 @@ module _ (types : List TypeDef) (d : TypeDef) (new : type_named types d.name ≡
         ∙ (ap (λ b. of_property n (property_at t p n) (types_of types (node_types t p)) b (same_name n mixin_types && not (are_mixins more (property_at t p n)))) (one_same p n h)
         ∙ ap (of_property n (property_at t p n) (types_of types (node_types t p)) (same_name n primary_type && not (is_primary_type types (property_at t p n)))) (two_same p n h))
 
-    abbrev of_child : Name → Option Child → List TypeDef → Bool → List ℕ
+    abbrev of_child : Name → Option PresentChild → List TypeDef → Bool → List ℕ
     of_child n o ds eight = failing 7 (is_stray ds n o) ++ failing 8 eight ++ failing 9 (is_missing (mandatory_children ds) n o)
 
     eight_same : (p : Path) (n : Name) (ds : List TypeDef) → is_of_no_type more ds n (child_at t p n) ≡ is_of_no_type types ds n (child_at t p n)

@@ -9,7 +9,7 @@ use Rattle.jr_types.specs.declared.TypeDef.{TypeDef}
 use Rattle.std.specs.List.{filter_map, list_any}
 use Rattle.jr_items.specs.Items.{first_of}
 use Rattle.jr_types.specs.Types.{NodeTypes, types_of, prop_def, child_def, child_defs}
-use Rattle.jr_types.specs.Rules.{Child}
+use Rattle.jr_types.specs.Rules.{PresentChild}
 
 -- the word of an attribute
 abbrev pub opv_text : OnParentVersion → List ℕ
@@ -30,7 +30,7 @@ property_passes test types its n o =
 -- the attribute of a child of a node of these types passes the test; a child without a definition
 -- passes none
 abbrev pub child_passes : (OnParentVersion → Bool) → List TypeDef → NodeTypes → Name
-    → Option Child → Bool
+    → Option PresentChild → Bool
 child_passes test types its n o = option_map_or (λ d. test d.opv)
     (option_and_then (child_def types (types_of types its) n) o) false
 

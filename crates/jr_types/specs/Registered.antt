@@ -72,7 +72,7 @@ IsTypeFault broken Memory = Unit {0}
 
 -- what the registry keeps: each type with its line, its place under its name, and what each check
 -- asks for
-pub record IsKept (registered : List Registered) (places : List (Name × ℕ)) (primary mixins : Name)
+pub record IsRegistryKept (registered : List Registered) (places : List (Name × ℕ)) (primary mixins : Name)
     (order : PropDef) : Type 0 where
   pub types : All (IsRegistered (definitions registered)) registered
   pub places_are : ArePlaces (definitions registered) places

@@ -17,8 +17,8 @@ use Rattle.jr_types.specs.declared.TypeDef.{TypeDef}
 use Rattle.jr_types.specs.Types.{NodeTypes, type_named, types_of, props_of, prop_defs, child_defs, fits, admits, fits_child}
 
 -- a child that is there: its `jcr:primaryType`, if it has one
-abbrev pub Child : Type 0
-Child = Option Property
+abbrev pub PresentChild : Type 0
+PresentChild = Option Property
 
 -- one NAME, of a registered type that is neither a mixin nor abstract
 abbrev pub is_primary_type : List TypeDef → Option Property → Bool
@@ -71,12 +71,12 @@ is_outside ds n (Some x) = let fitting = filter (λ d. fits d x) (prop_defs ds n
     not (is_empty fitting) && list_all (λ d. not (admits d x)) fitting
 
 -- a child has no definition
-abbrev pub is_stray : List TypeDef → Name → Option Child → Bool
+abbrev pub is_stray : List TypeDef → Name → Option PresentChild → Bool
 is_stray ds n None = false
 is_stray ds n (Some child) = is_empty (child_defs ds n)
 
 -- a child has definitions, and its primary type is of all required types of none
-abbrev pub is_of_no_type : List TypeDef → List TypeDef → Name → Option Child → Bool
+abbrev pub is_of_no_type : List TypeDef → List TypeDef → Name → Option PresentChild → Bool
 is_of_no_type types ds n None = false
 is_of_no_type types ds n (Some child) = not (is_empty (child_defs ds n))
     && list_all (λ d. not (fits_child types d child)) (child_defs ds n)
@@ -102,7 +102,7 @@ property_faults types its n o =
     ++ failing 6 (is_missing (mandatory_props ds) n o)
 
 -- the rules that a node of these types breaks by its child of that name, or by having none
-abbrev pub child_faults : List TypeDef → NodeTypes → Name → Option Child → List ℕ
+abbrev pub child_faults : List TypeDef → NodeTypes → Name → Option PresentChild → List ℕ
 child_faults types its n o =
     let ds = types_of types its in
     failing 7 (is_stray ds n o) ++ failing 8 (is_of_no_type types ds n o)
@@ -116,7 +116,7 @@ node_types t p = record {
 }
 
 -- the child of that name of the node at a path
-abbrev pub child_at : Nodes → Path → Name → Option Child
+abbrev pub child_at : Nodes → Path → Name → Option PresentChild
 child_at t p n = cond (is_some (node_at t (child_path p n)))
     (Some (property_at t (child_path p n) primary_type)) None
 

@@ -76,9 +76,9 @@ impl Model for Registry {
 
     ghost view = { λ a. definitions a.types };
 
-    ghost use Rattle.jr_types.specs.Registered.{IsKept};
+    ghost use Rattle.jr_types.specs.Registered.{IsRegistryKept};
 
-    ghost invariant = { λ a. IsKept a.types a.places a.primary_type a.mixin_types a.order };
+    ghost invariant = { λ a. IsRegistryKept a.types a.places a.primary_type a.mixin_types a.order };
 }
 
 impl Registry {

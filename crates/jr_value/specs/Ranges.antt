@@ -25,11 +25,11 @@ IsReadable (value.WeakReference id) = id < 2 ^ 128
 IsReadable x = Unit {0}
 
 -- each of some values is in range and of the kind
-abbrev pub AreReadable : Kind → List Value → Type 0
-AreReadable k [] = Unit {0}
-AreReadable k (x ∷ xs) = IsReadable x × (kind_of x ≡ k) × AreReadable k xs
+abbrev pub AreOfKind : Kind → List Value → Type 0
+AreOfKind k [] = Unit {0}
+AreOfKind k (x ∷ xs) = IsReadable x × (kind_of x ≡ k) × AreOfKind k xs
 
 -- its values are in range, and all of the kind that it names
 abbrev pub IsReadableProperty : Property → Type 0
 IsReadableProperty (Single x) = IsReadable x
-IsReadableProperty (Many k xs) = AreReadable k xs
+IsReadableProperty (Many k xs) = AreOfKind k xs

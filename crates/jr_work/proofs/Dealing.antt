@@ -7,7 +7,7 @@ use Rattle.std.proofs.lemmas.List.{append-nil, append_assoc, length-replicate}
 use Rattle.jcr_trans.specs.declared.command.Command.{Command}
 use Rattle.jcr_trans.specs.declared.command.SessionScript.{SessionScript}
 use Rattle.jr_script.specs.declared.script.Script.{Script}
-use Rattle.jr_work.specs.Hands.{AreDealt, IsInHand, hand_from}
+use Rattle.jr_work.specs.Hands.{AreDealt, AreInHandOf, hand_from}
 use Rattle.jr_stage.specs.Places.{commands_of}
 use Rattle.jr_stage.proofs.Coming.{set_other}
 use Rattle.jr_stage.proofs.Flying.{none_is_some, some_is_some}
@@ -97,7 +97,7 @@ all_dealt sessions rest workers s hands none is = record {
 
 -- ---- while they are taken
 
-module _ (script : Script) (workers worker s : ℕ) (hand : Hand) (below : s < length script.sessions) (is : IsInHand script.sessions workers worker s hand) where
+module _ (script : Script) (workers worker s : ℕ) (hand : Hand) (below : s < length script.sessions) (is : AreInHandOf script.sessions workers worker s hand) where
   abbrev later : List SessionScript
   later = drop (s + 1) script.sessions
 
@@ -117,7 +117,7 @@ module _ (script : Script) (workers worker s : ℕ) (hand : Hand) (below : s < l
       at (x ∷ xs) (suc i) h = at xs i (omega arith)
 
   -- that of another worker is passed over
-  pub passed_by : s % workers ≢ worker → IsInHand script.sessions workers worker (s + 1) hand
+  pub passed_by : s % workers ≢ worker → AreInHandOf script.sessions workers worker (s + 1) hand
   passed_by other = is ∙ (ap (hand_from workers worker s) there.2 ∙ hand_other workers worker s there.0 later other)
 
   module _ (own : s % workers ≡ worker) where
@@ -130,7 +130,7 @@ module _ (script : Script) (workers worker s : ℕ) (hand : Hand) (below : s < l
     pub not_empty : {A : Type 0} → hand ≡ [] → A
     not_empty empty = none_is_some (commands_of script s) (ap (λ (l : Hand). slice_get l 0) (sym empty ∙ whole))
 
-    pub own_taken : (c : List Command) (rest : Hand) → hand ≡ c ∷ rest → (c ≡ commands_of script s) × IsInHand script.sessions workers worker (s + 1) rest
+    pub own_taken : (c : List Command) (rest : Hand) → hand ≡ c ∷ rest → (c ≡ commands_of script s) × AreInHandOf script.sessions workers worker (s + 1) rest
     own_taken c rest took = (
       some_is_some c (commands_of script s) (ap (λ (l : Hand). slice_get l 0) (sym took ∙ whole)),
       ap (drop 1) (sym took ∙ whole),

@@ -13,7 +13,7 @@ use Rattle.jcr_law.specs.Lasting.{says_of, starts_of}
 use Rattle.jcr_law.specs.Makes.{asks_of}
 use Rattle.jr_script.specs.Bounds.{IsWithin}
 use Rattle.jr_script.specs.declared.script.Script.{Script}
-use Rattle.jr_shared.specs.Holds.{Known}
+use Rattle.jr_shared.specs.Holds.{PassKnown}
 use Rattle.jr_shared.specs.Meanings.{Owned, frame_of, owned_of}
 use Rattle.seat_lock.specs.Views.{OwnsPart}
 use Rattle.jr_stage.specs.Places.{is_over}
@@ -23,7 +23,7 @@ use Rattle.jr_stage.proofs.Flying.{some_is_some}
 use Rattle.jr_work.proofs.Gathering.{history_back, law_back, over_back}
 use Rattle.jr_stage.proofs.Whole.{answers_all}
 
-module _ (script : Script) (within : IsWithin script) (v : Known JcrLaw) (all : HasAll script v) (w : WorldOf JcrLaw) (frame : v.frame ≡ Some (frame_of w))
+module _ (script : Script) (within : IsWithin script) (v : PassKnown JcrLaw) (all : HasAll script v) (w : WorldOf JcrLaw) (frame : v.frame ≡ Some (frame_of w))
     (parts : (s : ℕ) (part : Owned) → OwnsPart v s part → owned_of w s ≡ part) where
   same_frame : frame_of w ≡ frame_for script
   same_frame = some_is_some (frame_of w) (frame_for script) (sym frame ∙ all.frame)

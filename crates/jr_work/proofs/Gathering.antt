@@ -8,7 +8,7 @@ use Rattle.oak_world.specs.Worlds.{WorldOf, live}
 use Rattle.jcr_law.specs.declared.law.JcrLaw.{JcrLaw}
 use Rattle.jr_script.specs.declared.script.Script.{Script}
 use Rattle.jr_shared.specs.declared.locked.WorldFrame.{WorldFrame}
-use Rattle.jr_shared.specs.Holds.{Known}
+use Rattle.jr_shared.specs.Holds.{PassKnown}
 use Rattle.jr_shared.specs.Meanings.{Owned, frame_of, owned_of}
 use Rattle.seat_lock.specs.declared.rule.Round.TheVariants as round
 use Rattle.seat_lock.specs.Views.{OwnsPart, joined}
@@ -17,7 +17,7 @@ use Rattle.jr_work.specs.Workers.{HasAll, HasHandedOut, HasOver, HasWorked, fram
 use Rattle.jr_work.proofs.Owning.{own_over}
 
 -- the first pass, while those of the first n of so many workers are still to come
-pub record IsGathering (script : Script) (workers n : ℕ) (v : Known JcrLaw) : Type 0 where
+pub record IsGathering (script : Script) (workers n : ℕ) (v : PassKnown JcrLaw) : Type 0 where
   pub rest : v.round ≡ round.Idle
   pub frame : v.frame ≡ Some (frame_for script)
   pub weight : v.weight + n ≡ 1024
@@ -30,7 +30,7 @@ later : (a n : ℕ) → n ≤ a → (a == n) ≡ false → n + 1 ≤ a
 later a n h apart = grind (arith, nat_tests)
 
 module _ (script : Script) (workers : ℕ) where
-  pub gathering_begins : (v : Known JcrLaw) → 1 ≤ workers → HasHandedOut script workers workers v → IsGathering script workers workers v
+  pub gathering_begins : (v : PassKnown JcrLaw) → 1 ≤ workers → HasHandedOut script workers workers v → IsGathering script workers workers v
   gathering_begins v some out = record {
     rest = out.knows.rest;
     frame = out.knows.frame;
@@ -41,16 +41,16 @@ module _ (script : Script) (workers : ℕ) where
       none : {A : Type 0} (s : ℕ) → s % workers < workers → workers ≤ s % workers → A
       none s less above = absurd (omega arith)
 
-  pub gathering_ends : (v : Known JcrLaw) → IsGathering script workers 0 v → HasAll script v
+  pub gathering_ends : (v : PassKnown JcrLaw) → IsGathering script workers 0 v → HasAll script v
   gathering_ends v is = record { rest = is.rest; frame = is.frame; weight = let sum = is.weight in omega (arith, sum); over = λ s below. is.over s below (let h : 0 ≤ s % workers = omega arith in h) }
 
-  module _ (n : ℕ) (v w u : Known JcrLaw) (is : IsGathering script workers (n + 1) v) (worked : HasWorked script workers n w) (known : u ≡ joined v w) where
+  module _ (n : ℕ) (v w u : PassKnown JcrLaw) (is : IsGathering script workers (n + 1) v) (worked : HasWorked script workers n w) (known : u ≡ joined v w) where
     -- who is over in one of the two passes is in both together
     in_first : (s : ℕ) → HasOver script v s → HasOver script u s
-    in_first s (part, owns, over) = (part, subst (λ (x : Known JcrLaw). OwnsPart x s part) (sym known) (Contains-append_left v.parts w.parts (s, part) owns), over)
+    in_first s (part, owns, over) = (part, subst (λ (x : PassKnown JcrLaw). OwnsPart x s part) (sym known) (Contains-append_left v.parts w.parts (s, part) owns), over)
 
     in_second : (s : ℕ) → HasOver script w s → HasOver script u s
-    in_second s (part, owns, over) = (part, subst (λ (x : Known JcrLaw). OwnsPart x s part) (sym known) (Contains-append_right v.parts w.parts (s, part) owns), over)
+    in_second s (part, owns, over) = (part, subst (λ (x : PassKnown JcrLaw). OwnsPart x s part) (sym known) (Contains-append_right v.parts w.parts (s, part) owns), over)
 
     over_in_both : (s : ℕ) → s < length script.sessions → n ≤ s % workers → HasOver script u s
     over_in_both s below above = elim (s % workers == n) as (λ b. (s % workers == n) ≡ b → HasOver script u s) [
@@ -61,9 +61,9 @@ module _ (script : Script) (workers : ℕ) where
     -- the pass of one more worker is taken in
     pub gathered : IsGathering script workers n u
     gathered = record {
-      rest = ap (λ (x : Known JcrLaw). x.round) known ∙ is.rest;
-      frame = ap (λ (x : Known JcrLaw). x.frame) known ∙ is.frame;
-      weight = sum v.weight w.weight u.weight (ap (λ (x : Known JcrLaw). x.weight) known) worked.weight is.weight;
+      rest = ap (λ (x : PassKnown JcrLaw). x.round) known ∙ is.rest;
+      frame = ap (λ (x : PassKnown JcrLaw). x.frame) known ∙ is.frame;
+      weight = sum v.weight w.weight u.weight (ap (λ (x : PassKnown JcrLaw). x.weight) known) worked.weight is.weight;
       over = over_in_both;
     }
       where
@@ -80,5 +80,5 @@ module _ (script : Script) (w : WorldOf JcrLaw) (frame : frame_of w ≡ frame_fo
   history_back = ap (λ (f : WorldFrame JcrLaw). record { clusters = f.clusters; sessions = f.sessions; begin = None; past = w.history.past }) frame
 
 -- a session that is over in the pass is in the world
-pub over_back : (script : Script) (v : Known JcrLaw) (w : WorldOf JcrLaw) (s : ℕ) → HasOver script v s → ((part : Owned) → OwnsPart v s part → owned_of w s ≡ part) → is_over script w.history.past s ≡ true
+pub over_back : (script : Script) (v : PassKnown JcrLaw) (w : WorldOf JcrLaw) (s : ℕ) → HasOver script v s → ((part : Owned) → OwnsPart v s part → owned_of w s ≡ part) → is_over script w.history.past s ≡ true
 over_back script v w s (part, owns, over) parts = sym (own_over s script w.history.past) ∙ (ap (λ (p : Owned). is_over script p.events s) (parts part owns) ∙ over)

@@ -13,7 +13,7 @@ use Rattle.jcr_law.specs.Lasting.{says_of, starts_of}
 use Rattle.jcr_trans.specs.declared.command.SessionScript.{SessionScript}
 use Rattle.jr_script.specs.declared.script.Script.{Script}
 use Rattle.jr_shared.specs.declared.locked.WorldFrame.{WorldFrame}
-use Rattle.jr_shared.specs.Holds.{IsTold, Known, first_known, owned_by}
+use Rattle.jr_shared.specs.Holds.{IsTold, PassKnown, first_known, owned_by}
 use Rattle.jr_shared.specs.Seen.{history_by}
 use Rattle.jr_shared.proofs.Handing.{first_owns, first_told}
 use Rattle.seat_lock.specs.Views.{handed, is_one_of, kept_back}
@@ -25,11 +25,11 @@ use Rattle.jr_work.proofs.Naming.{AreNamed}
 -- ---- what a pass has seen
 
 -- a pass that has seen nothing has seen a run
-pub run_unseen : (starts : Starts) (says : Says) (v : Known JcrLaw) → v.seen ≡ [] → IsRun starts says (history_by v)
+pub run_unseen : (starts : Starts) (says : Says) (v : PassKnown JcrLaw) → v.seen ≡ [] → IsRun starts says (history_by v)
 run_unseen starts says v unseen = subst (λ (xs : List Event). IsRun starts says (record (history_by v) { past = reverse xs })) (sym unseen) tt
 
 -- what a pass has seen is a history of the script
-pub history_known : (script : Script) (v : Known JcrLaw) → v.frame ≡ Some (frame_for script) → history_by v ≡ history_at script (reverse v.seen)
+pub history_known : (script : Script) (v : PassKnown JcrLaw) → v.frame ≡ Some (frame_for script) → history_by v ≡ history_at script (reverse v.seen)
 history_known script v frame = ap (λ (o : Option (WorldFrame JcrLaw)). record { clusters = option_map_or (λ f. f.clusters) o 0; sessions = option_map_or (λ f. f.sessions) o []; begin = None; past = reverse v.seen }) frame
 
 -- ---- before any step
@@ -58,10 +58,10 @@ module _ (script : Script) where
   }
 
   -- the first pass of the world before any step has handed out nothing
-  pub begins_out : (world : WorldOf JcrLaw) (law : JcrLaw) (nodes : List ℕ) (v : Known JcrLaw) → law ≡ law_of script → nodes ≡ map (λ (s : SessionScript). s.cluster) script.sessions → world ≡ start_world law script.clusters nodes → v ≡ first_known world → (workers : ℕ) → HasHandedOut script workers 0 v
+  pub begins_out : (world : WorldOf JcrLaw) (law : JcrLaw) (nodes : List ℕ) (v : PassKnown JcrLaw) → law ≡ law_of script → nodes ≡ map (λ (s : SessionScript). s.cluster) script.sessions → world ≡ start_world law script.clusters nodes → v ≡ first_known world → (workers : ℕ) → HasHandedOut script workers 0 v
   begins_out world law nodes v law_is nodes_are world_is is workers =
       let same : world ≡ start = world_is ∙ (ap (λ (l : JcrLaw). start_world l script.clusters nodes) law_is ∙ ap (start_world (law_of script) script.clusters) nodes_are) in
-      subst (λ (x : Known JcrLaw). HasHandedOut script workers 0 x) (sym (is ∙ ap first_known same)) (first_out workers)
+      subst (λ (x : PassKnown JcrLaw). HasHandedOut script workers 0 x) (sym (is ∙ ap first_known same)) (first_out workers)
 
 -- ---- a pass for a worker
 
@@ -77,7 +77,7 @@ apart a b h = grind (arith, nat_tests)
 within : (s n : ℕ) → s < n → nat_lt s n ≡ true
 within s n h = grind (arith, nat_tests)
 
-module _ (script : Script) (workers worker : ℕ) (v w : Known JcrLaw) (names : List ℕ) (out : HasHandedOut script workers worker v) (named : AreNamed (λ s. s % workers == worker) (length script.sessions) names) (told : IsTold w) where
+module _ (script : Script) (workers worker : ℕ) (v w : PassKnown JcrLaw) (names : List ℕ) (out : HasHandedOut script workers worker v) (named : AreNamed (λ s. s % workers == worker) (length script.sessions) names) (told : IsTold w) where
   -- the worker's own sessions are named, and those of later workers aren't
   own_named : (s : ℕ) → s < length script.sessions → s % workers ≡ worker → is_one_of names s ≡ true
   own_named s below own = named s ∙ (ap (λ b. b && (s % workers == worker)) (within s (length script.sessions) below) ∙ alike (s % workers) worker own)
@@ -91,17 +91,17 @@ module _ (script : Script) (workers worker : ℕ) (v w : Known JcrLaw) (names : 
   -- the pass that is handed out
   pub ready_by : w ≡ handed names v → ((s : ℕ) → owned_by w s ≡ cond (is_one_of names s) (owned_by v s) None) → IsHandedOut script workers worker w
   ready_by is owns = record {
-    knows = knows_still (ap (λ (x : Known JcrLaw). x.round) is ∙ sym out.knows.rest) (ap (λ (x : Known JcrLaw). x.frame) is) (ap (λ (x : Known JcrLaw). x.seen) is);
-    weight = ap (λ (x : Known JcrLaw). x.weight) is;
+    knows = knows_still (ap (λ (x : PassKnown JcrLaw). x.round) is ∙ sym out.knows.rest) (ap (λ (x : PassKnown JcrLaw). x.frame) is) (ap (λ (x : PassKnown JcrLaw). x.seen) is);
+    weight = ap (λ (x : PassKnown JcrLaw). x.weight) is;
     first = λ s below own. owns s ∙ (ap (λ b. cond b (owned_by v s) None) (own_named s below own) ∙ out.left s below (let h : worker ≤ s % workers = omega (arith, own) in h));
   }
 
   -- the pass that is left
   pub out_more : w ≡ kept_back names v → 1 < v.weight → ((s : ℕ) → owned_by w s ≡ cond (is_one_of names s) None (owned_by v s)) → HasHandedOut script workers (worker + 1) w
   out_more is heavy owns = record {
-    knows = knows_still (ap (λ (x : Known JcrLaw). x.round) is) (ap (λ (x : Known JcrLaw). x.frame) is) (ap (λ (x : Known JcrLaw). x.seen) is);
-    unseen = ap (λ (x : Known JcrLaw). x.seen) is ∙ out.unseen;
-    weight = less v.weight w.weight worker (ap (λ (x : Known JcrLaw). x.weight) is) heavy out.weight;
+    knows = knows_still (ap (λ (x : PassKnown JcrLaw). x.round) is) (ap (λ (x : PassKnown JcrLaw). x.frame) is) (ap (λ (x : PassKnown JcrLaw). x.seen) is);
+    unseen = ap (λ (x : PassKnown JcrLaw). x.seen) is ∙ out.unseen;
+    weight = less v.weight w.weight worker (ap (λ (x : PassKnown JcrLaw). x.weight) is) heavy out.weight;
     left = λ s below later. owns s ∙ (ap (λ b. cond b None (owned_by v s)) (later_unnamed s below later) ∙ out.left s below (let h : worker ≤ s % workers = omega (arith, later) in h));
   }
     where
@@ -109,5 +109,5 @@ module _ (script : Script) (workers worker : ℕ) (v w : Known JcrLaw) (names : 
       less a b n is heavy sum = omega arith
 
 -- so few workers leave the first pass a weight
-pub heavy : (script : Script) (workers worker : ℕ) (v : Known JcrLaw) → HasHandedOut script workers worker v → worker < workers → workers ≤ 16 → 1 < v.weight
+pub heavy : (script : Script) (workers worker : ℕ) (v : PassKnown JcrLaw) → HasHandedOut script workers worker v → worker < workers → workers ≤ 16 → 1 < v.weight
 heavy script workers worker v out below few = let sum = out.weight in omega (arith, sum, below, few)

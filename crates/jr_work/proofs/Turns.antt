@@ -31,7 +31,7 @@ use Rattle.jcr_trans.specs.declared.command.SessionScript.{SessionScript}
 use Rattle.jr_script.specs.Bounds.{IsWithin}
 use Rattle.jr_script.specs.declared.script.Script.{Script}
 use Rattle.jr_shared.specs.declared.locked.WorldFrame.{WorldFrame}
-use Rattle.jr_shared.specs.Holds.{IsTold, Known, has_seat, owned_by}
+use Rattle.jr_shared.specs.Holds.{IsTold, PassKnown, has_seat, owned_by}
 use Rattle.jr_shared.specs.Meanings.{Owned, own_events}
 use Rattle.jr_shared.specs.Seen.{history_by, law_by, shown_through}
 use Rattle.jr_shared.proofs.Events.{are_others}
@@ -105,7 +105,7 @@ module _ (law : JcrLaw) (first mid new : Shown) (run was now : SessionRun) (on :
 
 -- ---- a session of a pass begins
 
-module _ (script : Script) (within : IsWithin script) (v : Known JcrLaw) (knows : KnowsScript script v) (s : ℕ) (first : HasNotBegun v s) where
+module _ (script : Script) (within : IsWithin script) (v : PassKnown JcrLaw) (knows : KnowsScript script v) (s : ℕ) (first : HasNotBegun v s) where
   abbrev past : Past
   past = reverse v.seen
 
@@ -144,13 +144,13 @@ module _ (script : Script) (within : IsWithin script) (v : Known JcrLaw) (knows 
           (λ i. commands_at script s i ∙ ap (λ (o : Option SessionScript). slice_get (option_map_or (λ x. x.commands) o []) i) there) none_yet
 
 -- it stands so at a port of the pass, whatever reference leads there
-pub stands_port : (script : Script) (v w : Known JcrLaw) (s t : ℕ) (m : GName) (run : SessionRun) → KnowsScript script v → ((name : GName) → Stands (law_of script) (shown_through name v s) run)
+pub stands_port : (script : Script) (v w : PassKnown JcrLaw) (s t : ℕ) (m : GName) (run : SessionRun) → KnowsScript script v → ((name : GName) → Stands (law_of script) (shown_through name v s) run)
     → (framed : is_some w.frame ≡ true) → w ≡ v → t ≡ s → Stands (law_by w framed) (shown_through m w t) run
 stands_port script v w s t m run knows stands framed same session =
-    subst (λ (l : JcrLaw). Stands l (shown_through m w t) run) (sym (law_known script w framed (ap (λ (x : Known JcrLaw). x.frame) same ∙ knows.frame)))
-    (subst (λ (i : ℕ). Stands (law_of script) (shown_through m w i) run) (sym session) (subst (λ (x : Known JcrLaw). Stands (law_of script) (shown_through m x s) run) (sym same) (stands m)))
+    subst (λ (l : JcrLaw). Stands l (shown_through m w t) run) (sym (law_known script w framed (ap (λ (x : PassKnown JcrLaw). x.frame) same ∙ knows.frame)))
+    (subst (λ (i : ℕ). Stands (law_of script) (shown_through m w i) run) (sym session) (subst (λ (x : PassKnown JcrLaw). Stands (law_of script) (shown_through m x s) run) (sym same) (stands m)))
   where
-    law_known : (script : Script) (w : Known JcrLaw) (framed : is_some w.frame ≡ true) → w.frame ≡ Some (frame_for script) → law_by w framed ≡ law_of script
+    law_known : (script : Script) (w : PassKnown JcrLaw) (framed : is_some w.frame ≡ true) → w.frame ≡ Some (frame_for script) → law_by w framed ≡ law_of script
     law_known script w framed frame = ap (λ (f : WorldFrame JcrLaw). f.law) (the_is w.frame (frame_for script) frame framed)
 
 -- ---- a session of a pass has ended
@@ -163,7 +163,7 @@ same_frame : (f g : WorldFrame JcrLaw) → f.law ≡ g.law → f.clusters ≡ g.
 same_frame f g p q r = λ i. record { law = p i; clusters = q i; sessions = r i }
 
 -- what is known of the port's pass once its session has ended
-module _ (script : Script) (v w : Known JcrLaw) (s t : ℕ) (n m : GName) (run now : SessionRun) (knows : KnowsScript script v) (commands : run.commands ≡ commands_of script s)
+module _ (script : Script) (v w : PassKnown JcrLaw) (s t : ℕ) (n m : GName) (run now : SessionRun) (knows : KnowsScript script v) (commands : run.commands ≡ commands_of script s)
     (began : Stands (law_of script) (shown_through n v s) run) (framed : is_some w.frame ≡ true) (law : law_by w framed ≡ law_of script) (told : IsTold w) (rest : w.round ≡ round.Idle) (seat : has_seat w t ≡ true)
     (ended : HasRunOut (law_of script) (shown_through n v s) (shown_through m w t) run now) where
   session_now : now.session ≡ s
@@ -213,19 +213,19 @@ module _ (script : Script) (v w : Known JcrLaw) (s t : ℕ) (n m : GName) (run n
   }
 
 -- the same of the pass that the port leaves, which is the caller's where its reference was
-module _ (script : Script) (v u w : Known JcrLaw) (s r t : ℕ) (d n m : GName) (run now : SessionRun) (knows : KnowsScript script v) (commands : run.commands ≡ commands_of script s)
+module _ (script : Script) (v u w : PassKnown JcrLaw) (s r t : ℕ) (d n m : GName) (run now : SessionRun) (knows : KnowsScript script v) (commands : run.commands ≡ commands_of script s)
     (stands : (name : GName) → Stands (law_of script) (shown_through name v s) run) (begun : is_some u.frame ≡ true) (same : u ≡ v) (session : r ≡ s) (name : n ≡ d)
     (framed : is_some w.frame ≡ true) (law : law_by w framed ≡ law_by u begun) (told : IsTold w) (rest : w.round ≡ round.Idle) (seat : has_seat w t ≡ true)
     (weight : w.weight ≡ v.weight) (others : (q : ℕ) → q ≢ t → owned_by w q ≡ owned_by v q)
     (ended : HasRunOut (law_by u begun) (shown_through n u r) (shown_through m w t) run now) where
   law_begun : law_by u begun ≡ law_of script
-  law_begun = ap (λ (f : WorldFrame JcrLaw). f.law) (the_is u.frame (frame_for script) (ap (λ (x : Known JcrLaw). x.frame) same ∙ knows.frame) begun)
+  law_begun = ap (λ (f : WorldFrame JcrLaw). f.law) (the_is u.frame (frame_for script) (ap (λ (x : PassKnown JcrLaw). x.frame) same ∙ knows.frame) begun)
 
   ended_here : HasRunOut (law_of script) (shown_through n v s) (shown_through m w t) run now
   ended_here =
       subst (λ (l : JcrLaw). HasRunOut l (shown_through n v s) (shown_through m w t) run now) law_begun
       (subst (λ (i : ℕ). HasRunOut (law_by u begun) (shown_through n v i) (shown_through m w t) run now) session
-      (subst (λ (y : Known JcrLaw). HasRunOut (law_by u begun) (shown_through n y r) (shown_through m w t) run now) same ended))
+      (subst (λ (y : PassKnown JcrLaw). HasRunOut (law_by u begun) (shown_through n y r) (shown_through m w t) run now) same ended))
 
   -- the reference is the caller's, and the session has run
   pub ran_through : (d ≡ m) × HasRunOne script v w s

@@ -5,17 +5,17 @@ use Rattle.std.proofs.lemmas.Bool.Decides.{nat_tests}
 use Rattle.jcr_law.specs.declared.law.JcrLaw.{JcrLaw}
 use Rattle.jr_script.specs.declared.script.Script.{Script}
 use Rattle.jr_stage.specs.Places.{is_over}
-use Rattle.jr_shared.specs.Holds.{Known, owned_by}
+use Rattle.jr_shared.specs.Holds.{PassKnown, owned_by}
 use Rattle.jr_shared.specs.Meanings.{Owned}
 use Rattle.jr_shared.proofs.Lists.{found_part}
 use Rattle.jr_work.specs.Workers.{HasNotBegun, HasOver, HasRunOne, HasWorked, IsHandedOut, KnowsScript}
 
 -- what the pass finds of session s is over
-abbrev HasFound : Script → Known JcrLaw → ℕ → Type 0
+abbrev HasFound : Script → PassKnown JcrLaw → ℕ → Type 0
 HasFound script v s = (part : Owned) × (owned_by v s ≡ Some part) × IsTrue (is_over script part.events s)
 
 -- of the worker's sessions those below n are over, and the others have not begun
-pub record IsWorking (script : Script) (workers worker n : ℕ) (v : Known JcrLaw) : Type 0 where
+pub record IsWorking (script : Script) (workers worker n : ℕ) (v : PassKnown JcrLaw) : Type 0 where
   pub knows : KnowsScript script v
   pub weight : v.weight ≡ 1
   pub first : (s : ℕ) → s < length script.sessions → s % workers ≡ worker → n ≤ s → HasNotBegun v s
@@ -34,7 +34,7 @@ above : (s n : ℕ) → n + 1 ≤ s → s ≢ n
 above s n h = omega arith
 
 module _ (script : Script) (workers worker : ℕ) where
-  pub working_begins : (v : Known JcrLaw) → IsHandedOut script workers worker v → IsWorking script workers worker 0 v
+  pub working_begins : (v : PassKnown JcrLaw) → IsHandedOut script workers worker v → IsWorking script workers worker 0 v
   working_begins v is = record {
     knows = is.knows;
     weight = is.weight;
@@ -45,7 +45,7 @@ module _ (script : Script) (workers worker : ℕ) where
       none : {A : Type 0} (s : ℕ) → s < 0 → A
       none s below = absurd (omega arith)
 
-  module _ (n : ℕ) (v : Known JcrLaw) (is : IsWorking script workers worker n v) where
+  module _ (n : ℕ) (v : PassKnown JcrLaw) (is : IsWorking script workers worker n v) where
     -- a session of another worker is passed over
     pub passed_over : (n % workers ≡ worker → ⊥) → IsWorking script workers worker (n + 1) v
     passed_over other = record {
@@ -59,7 +59,7 @@ module _ (script : Script) (workers worker : ℕ) where
     }
 
     -- a session of the worker was run
-    pub worked_more : (w : Known JcrLaw) → HasRunOne script v w n → IsWorking script workers worker (n + 1) w
+    pub worked_more : (w : PassKnown JcrLaw) → HasRunOne script v w n → IsWorking script workers worker (n + 1) w
     worked_more w ran = record {
       knows = ran.knows;
       weight = ran.weight ∙ is.weight;
@@ -74,7 +74,7 @@ module _ (script : Script) (workers worker : ℕ) where
         still s apart (part, found, over) = (part, ran.others s apart ∙ found, over)
 
   -- all of them were run
-  pub worked_all : (n : ℕ) (v : Known JcrLaw) → IsWorking script workers worker n v → length script.sessions ≤ n → HasWorked script workers worker v
+  pub worked_all : (n : ℕ) (v : PassKnown JcrLaw) → IsWorking script workers worker n v → length script.sessions ≤ n → HasWorked script workers worker v
   worked_all n v is all = record {
     rest = is.knows.rest;
     weight = is.weight;

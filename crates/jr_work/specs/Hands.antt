@@ -19,5 +19,5 @@ pub record AreDealt (sessions : List SessionScript) (workers : ℕ) (hands : Lis
       → hand ≡ hand_from workers w 0 sessions
 
 -- in hand are the commands of a worker's sessions from session s on
-abbrev pub IsInHand : List SessionScript → (workers worker s : ℕ) → List (List Command) → Type 0
-IsInHand sessions workers worker s hand = hand ≡ hand_from workers worker s (drop s sessions)
+abbrev pub AreInHandOf : List SessionScript → (workers worker s : ℕ) → List (List Command) → Type 0
+AreInHandOf sessions workers worker s hand = hand ≡ hand_from workers worker s (drop s sessions)

@@ -21,11 +21,11 @@ use Rattle.seat_lock.specs.Passes.{IsOf, view_of}
 use Rattle.seat_lock.specs.Views.{OwnsPart}
 use Rattle.jr_shared.specs.declared.locked.LockedWorld.{LockedWorld}
 use Rattle.jr_shared.specs.declared.locked.WorldFrame.{WorldFrame}
-use Rattle.jr_shared.specs.Holds.{IsTold, Known, owned_by}
+use Rattle.jr_shared.specs.Holds.{IsTold, PassKnown, owned_by}
 use Rattle.jr_shared.specs.Meanings.{Owned}
 use Rattle.jr_shared.specs.Seen.{history_by}
 use Rattle.jr_work.specs.declared.worker.Job.{Job}
-use Rattle.jr_work.specs.Hands.{IsInHand}
+use Rattle.jr_work.specs.Hands.{AreInHandOf}
 use Rattle.jr_stage.specs.Places.{is_over}
 use Rattle.jr_stage.specs.Runs.{AnswersScript}
 use Rattle.jr_stage.specs.Stages.{law_of}
@@ -50,7 +50,7 @@ frame_for script = record {
 }
 
 -- a pass knows the world of the script
-pub record KnowsScript (script : Script) (v : Known JcrLaw) : Type 0 where
+pub record KnowsScript (script : Script) (v : PassKnown JcrLaw) : Type 0 where
   -- no call by it is under way
   pub rest : v.round ≡ round.Idle
   pub frame : v.frame ≡ Some (frame_for script)
@@ -60,11 +60,11 @@ pub record KnowsScript (script : Script) (v : Known JcrLaw) : Type 0 where
   pub run : IsRun (starts_of (law_of script)) (says_of (law_of script)) (history_by v)
 
 -- session s is one of the pass's, and has not begun
-abbrev pub HasNotBegun : Known JcrLaw → ℕ → Type 0
+abbrev pub HasNotBegun : PassKnown JcrLaw → ℕ → Type 0
 HasNotBegun v s = owned_by v s ≡ Some (record { seat = Some idle; events = [] })
 
 -- the pass has session s, which has answered all its commands and has left
-abbrev pub HasOver : Script → Known JcrLaw → ℕ → Type 0
+abbrev pub HasOver : Script → PassKnown JcrLaw → ℕ → Type 0
 HasOver script v s =
     (part : Owned) × OwnsPart v s part × IsTrue (is_over script part.events s)
 
@@ -87,7 +87,7 @@ pub record HasRunOut (law : JcrLaw) (old new : Shown) (run now : SessionRun) : T
   pub left : IsTrue (has_left new.history.past new.session)
 
 -- session s of a pass was run to its end; the pass's other sessions own what they owned
-pub record HasRunOne (script : Script) (old new : Known JcrLaw) (s : ℕ) : Type 0 where
+pub record HasRunOne (script : Script) (old new : PassKnown JcrLaw) (s : ℕ) : Type 0 where
   pub knows : KnowsScript script new
   pub weight : new.weight ≡ old.weight
   pub others : (t : ℕ) → t ≢ s → owned_by new t ≡ owned_by old t
@@ -97,13 +97,13 @@ pub record HasRunOne (script : Script) (old new : Known JcrLaw) (s : ℕ) : Type
 -- ---- a worker
 
 -- a pass for a worker of so many: it has the worker's sessions, none of which has begun
-pub record IsHandedOut (script : Script) (workers worker : ℕ) (v : Known JcrLaw) : Type 0 where
+pub record IsHandedOut (script : Script) (workers worker : ℕ) (v : PassKnown JcrLaw) : Type 0 where
   pub knows : KnowsScript script v
   pub weight : v.weight ≡ 1
   pub first : (s : ℕ) → s < length script.sessions → s % workers ≡ worker → HasNotBegun v s
 
 -- the worker has run them, and each is over
-pub record HasWorked (script : Script) (workers worker : ℕ) (v : Known JcrLaw) : Type 0 where
+pub record HasWorked (script : Script) (workers worker : ℕ) (v : PassKnown JcrLaw) : Type 0 where
   pub rest : v.round ≡ round.Idle
   pub weight : v.weight ≡ 1
   pub over : (s : ℕ) → s < length script.sessions → s % workers ≡ worker → HasOver script v s
@@ -113,7 +113,7 @@ abbrev pub IsJob : Script → ℕ → SeatLock (LockedWorld JcrLaw) Event Owned 
     → Job → Type 0
 IsJob script workers lock job =
     IsOf lock job.pass × IsHandedOut script workers job.worker (view_of job.pass)
-    × IsInHand script.sessions workers job.worker 0 job.hand
+    × AreInHandOf script.sessions workers job.worker 0 job.hand
 
 -- the workers are numbered from 0 on
 abbrev pub AreInOrder : List Job → Type 0
@@ -136,14 +136,14 @@ module _ {law : Ghosts (LockedWorld JcrLaw) Event Owned (WorldFrame JcrLaw) (Wor
 -- ---- the first pass
 
 -- the first pass, before any step, once n of so many workers have their sessions
-pub record HasHandedOut (script : Script) (workers n : ℕ) (v : Known JcrLaw) : Type 0 where
+pub record HasHandedOut (script : Script) (workers n : ℕ) (v : PassKnown JcrLaw) : Type 0 where
   pub knows : KnowsScript script v
   pub unseen : v.seen ≡ []
   pub weight : v.weight + n ≡ 1024
   pub left : (s : ℕ) → s < length script.sessions → n ≤ s % workers → HasNotBegun v s
 
 -- the first pass, once it has taken in those of all workers
-pub record HasAll (script : Script) (v : Known JcrLaw) : Type 0 where
+pub record HasAll (script : Script) (v : PassKnown JcrLaw) : Type 0 where
   pub rest : v.round ≡ round.Idle
   pub frame : v.frame ≡ Some (frame_for script)
   pub weight : v.weight ≡ 1024

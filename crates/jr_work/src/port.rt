@@ -14,11 +14,11 @@ use std::sync::Wait;
 pub(crate) trait Took {
     ghost use Rattle.atomic_table.specs.Seated.{TableId};
     ghost use Rattle.jcr_law.specs.declared.law.JcrLaw.{JcrLaw};
-    ghost use Rattle.jr_shared.specs.Holds.{Known};
+    ghost use Rattle.jr_shared.specs.Holds.{PassKnown};
 
     ghost table: { TableId };
 
-    ghost view: { Known JcrLaw };
+    ghost view: { PassKnown JcrLaw };
 }
 
 impl Took for Brand {

@@ -4,7 +4,7 @@ ghost use Rattle.std.specs.Borrow.{GName};
 ghost use Rattle.jcr_run.specs.Standing.{Stands};
 ghost use Rattle.jr_shared.specs.Holds.{has_seat};
 ghost use Rattle.jr_shared.specs.Seen.{shown_through};
-ghost use Rattle.jr_work.specs.Hands.{IsInHand};
+ghost use Rattle.jr_work.specs.Hands.{AreInHandOf};
 ghost use Rattle.jr_stage.specs.Places.{commands_of};
 ghost use Rattle.jr_stage.specs.Stages.{law_of};
 ghost use Rattle.jr_work.specs.Workers.{HasNotBegun, HasRunOne, HasRunOut, HasWorked, IsCrewOf, IsHandedOut, IsJob, KnowsScript};
@@ -88,7 +88,7 @@ fn run_sessions<R: Wait, G: Gate>(
     requires some { 1 ≤ crew.now.workers }
     requires own { IsOf crew.now.shared.now.lock pass.old }
     requires out { IsHandedOut crew.now.script.now.value crew.now.workers worker (view_of pass.old) }
-    requires hand { IsInHand crew.now.script.now.value.sessions crew.now.workers worker 0 hand }
+    requires hand { AreInHandOf crew.now.script.now.value.sessions crew.now.workers worker 0 hand }
     ensures own { OnOk result (IsOf crew.now.shared.now.lock pass.new) }
     ensures worked { OnOk result (HasWorked crew.now.script.now.value crew.now.workers worker
         (view_of pass.new)) }
@@ -115,12 +115,12 @@ fn run_next<R: Wait, G: Gate>(
     requires own { IsOf crew.now.shared.now.lock pass.old }
     requires knows { KnowsScript crew.now.script.now.value (view_of pass.old) }
     requires first { HasNotBegun (view_of pass.old) s }
-    requires hand { IsInHand crew.now.script.now.value.sessions crew.now.workers
+    requires hand { AreInHandOf crew.now.script.now.value.sessions crew.now.workers
         (s % crew.now.workers) s hand.old }
     ensures own { OnOk result (IsOf crew.now.shared.now.lock pass.new) }
     ensures ran { OnOk result (HasRunOne crew.now.script.now.value (view_of pass.old)
         (view_of pass.new) s) }
-    ensures hand { IsInHand crew.now.script.now.value.sessions crew.now.workers
+    ensures hand { AreInHandOf crew.now.script.now.value.sessions crew.now.workers
         (s % crew.now.workers) (s + 1) hand.new }
 {
     match hand.next() {

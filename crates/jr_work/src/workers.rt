@@ -1,7 +1,7 @@
 // A script run by worker threads.
 ghost use Rattle.std.specs.Prelude.{◌≡◌, ◌≤◌, ◌<◌, ◌+◌, ◌%◌, ◌==◌, ◌&&◌, ℕ, All, IfOk, OnOk, length, nat_lt, vec_len};
 ghost use Rattle.jr_script.specs.Bounds.{IsWithin};
-ghost use Rattle.jr_work.specs.Hands.{AreDealt, IsInHand};
+ghost use Rattle.jr_work.specs.Hands.{AreDealt, AreInHandOf};
 ghost use Rattle.jr_stage.specs.Stages.{law_of};
 ghost use Rattle.jr_work.specs.Workers.{AreGivenBack, AreInOrder, HasAll, HasHandedOut, HasRunByWorkers, HasWorked, IsCrewOf, IsJob};
 ghost use Rattle.seat_lock.specs.Passes.{IsOf, view_of};
@@ -157,7 +157,7 @@ fn job_of<R, G>(
     requires below { worker < crew.now.workers }
     requires own { IsOf crew.now.shared.now.lock main.old }
     requires out { HasHandedOut crew.now.script.now.value crew.now.workers worker (view_of main.old) }
-    requires hand { IsInHand crew.now.script.now.value.sessions crew.now.workers worker 0 hand }
+    requires hand { AreInHandOf crew.now.script.now.value.sessions crew.now.workers worker 0 hand }
     ensures own { IsOf crew.now.shared.now.lock main.new }
     ensures out { IfOk result (λ job. HasHandedOut crew.now.script.now.value crew.now.workers
         (worker + 1) (view_of main.new)) }

@@ -23,8 +23,8 @@ use Rattle.core_world.specs.Steps.{after_update}
 -- ---- documents
 
 -- the names of the id's path are names
-abbrev pub HasNames : DocId → Type 0
-HasNames x = All IsName (path_of x)
+abbrev pub AreIdNames : DocId → Type 0
+AreIdNames x = All IsName (path_of x)
 
 -- what an update makes of its document, under the next number
 abbrev pub result_of : Table → UpdateOp → Result Document OpFault
@@ -44,9 +44,9 @@ abbrev pub reply_of : Table → UpdateOp → Reply
 reply_of t op = replied (found t op.id) (result_of t op)
 
 -- what the documents answer to an ask
-abbrev pub answered : Table → Ask → Reply
-answered t (ask.Update op) = reply_of t op
-answered t a = answer t.documents a
+abbrev pub answered_by : Table → Ask → Reply
+answered_by t (ask.Update op) = reply_of t op
+answered_by t a = answer t.documents a
 
 -- the documents once an ask is answered: only an update changes them
 abbrev pub after_ask : Table → Ask → Table
@@ -56,5 +56,5 @@ after_ask t a = t
 -- ---- the memory
 
 -- the base of session s: that of its pin
-abbrev pub base_at : NodeState → ℕ → RevVec
-base_at m s = option_map_or (λ pin. pin.base) (pin_of m s) m.head
+abbrev pub pinned_base : NodeState → ℕ → RevVec
+pinned_base m s = option_map_or (λ pin. pin.base) (pin_of m s) m.head

@@ -3,7 +3,7 @@ ghost use Rattle.std.specs.Prelude.{◌≡◌, ◌∷◌, ◌++◌, [], IfOk, On
 ghost use Rattle.oak_read.specs.Reading.{IsTable};
 ghost use Rattle.oak_store.specs.Tables.{Updates, after_undo};
 ghost use Rattle.core_world.specs.Steps.{after_update};
-ghost use Rattle.oak_acts.specs.Acts.{HasNames, after_ask, answered, reply_of};
+ghost use Rattle.oak_acts.specs.Acts.{AreIdNames, after_ask, answered_by, reply_of};
 
 use crate::answers::answer;
 use jr_path::DocId;
@@ -32,7 +32,7 @@ pub fn ask(
     told: Event,
 ) -> Result<Reply, AllocError>
     requires table { IsTable table.old.documents }
-    ensures reply { IfOk result (λ reply. reply ≡ answered table.old asking) }
+    ensures reply { IfOk result (λ reply. reply ≡ answered_by table.old asking) }
     ensures table { OnOk result (table.new ≡ after_ask table.old asking) }
     ensures list { OnOk result (events.new.list ≡ events.old.list ++ told ∷ []) }
     ensures kept { OnErr result (table.new ≡ table.old) }
@@ -112,7 +112,7 @@ pub fn undo(table: &mut DocTable, id: &DocId, r: Revision)
 
 // The names of an id's path are names. Nothing is done: callers learn the fact.
 fn in_grammar(id: &DocId)
-    ensures { HasNames id.now }
+    ensures { AreIdNames id.now }
 {
     match id {
         DocId::Node(path) | DocId::Prev(_, path) => path.in_grammar(),

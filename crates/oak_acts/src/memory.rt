@@ -4,7 +4,7 @@ ghost use Rattle.oak_machine.specs.declared.event.Event.TheVariants as event;
 ghost use Rattle.oak_machine.specs.declared.event.StepKind.TheVariants as kind;
 ghost use Rattle.oak_node.specs.Pins.{pin_now, pin_of, with_pin};
 ghost use Rattle.core_nodes.specs.Nodes.{without_session};
-ghost use Rattle.oak_acts.specs.Acts.{base_at};
+ghost use Rattle.oak_acts.specs.Acts.{pinned_base};
 
 use jr_rev::{Pin, RevVec};
 use oak_machine::{Event, Events, StepKind};
@@ -76,7 +76,7 @@ pub fn leave(memory: &mut NodeMem, events: &mut Events, s: u32) -> Result<(), Al
 
 /// The base of the session.
 pub fn base_of(memory: &NodeMem, s: u32) -> RevVec
-    ensures { result ≡ base_at memory.now s }
+    ensures { result ≡ pinned_base memory.now s }
 {
     match memory.pin_of(s) {
         Some(pin) => pin.base,

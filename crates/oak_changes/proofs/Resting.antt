@@ -27,8 +27,8 @@ use Rattle.oak_read.specs.declared.wanted.Left.{Left}
 use Rattle.oak_read.proofs.Agreeing.{Agree, counting_here, deleted_agree, previous_here, properties_agree}
 use Rattle.oak_read.proofs.Ends.{Entries, all_behind, all_pass, behind, next_is, not_less_itself, passes_not}
 use Rattle.oak_read.proofs.Walking.{Alike, Covered, IsRead, Within, all_both, all_first, all_of, all_second, covered_noted, each_covered, none_left, own_id, same_id, within_noted}
-use Rattle.oak_changes.specs.Reading.{changes_reader, due, ended, fed, fed_next, on_main, on_previous, on_roots, with_document}
-use Rattle.oak_changes.specs.Resting.{EndsIn, ReadsChanges}
+use Rattle.oak_changes.specs.Reading.{changes_reader, due, changes_ended, fed, fed_next, changes_on_main, changes_on_previous, changes_on_roots, with_document}
+use Rattle.oak_changes.specs.Resting.{ChangesEndIn, ReadsChanges}
 use Rattle.oak_changes.specs.Saying.{changes_said, document_said, grouped, item_said, path_said, property_said}
 use Rattle.oak_changes.specs.declared.changes.ChangesReader.{ChangesReader}
 use Rattle.oak_changes.specs.declared.changes.Step.{Step}
@@ -64,7 +64,7 @@ module _ (ds known : Documents) (t from to : RevVec) where
 -- ---- the steps of a reader
 
 module _ (table : Entries) where
-  ends_after : (r : ChangesReader) (o : List CommitChanges) → EndsIn table (fed r (answer table (due r))) o → EndsIn table r o
+  ends_after : (r : ChangesReader) (o : List CommitChanges) → ChangesEndIn table (fed r (answer table (due r))) o → ChangesEndIn table r o
   ends_after r o e = (suc e.0, e.1)
 
   module _ (r : ChangesReader) (o : List CommitChanges) (kind : Left → Step) (next : Known → Step → ChangesReader)
@@ -72,26 +72,26 @@ module _ (table : Entries) where
       ≡ option_map_or (λ more. record r { known = with_known known left.first (documents_in table left.first); step = kind more }) (left_of left.rest) (next (with_known known left.first (documents_in table left.first)) (kind left))) where
     -- the documents that are left are read one after another
     read_left : (rest : Ids) (first : DocId) (known : Known) (xs : List DocId) → Within table known → AllByRecursion (Covered table known ((first, tt) ∷ rest)) xs
-        → ((known' : Known) (s : Step) → Within table known' → AllByRecursion (Alike table known') xs → EndsIn table (next known' s) o)
-        → EndsIn table (record r { known = known; step = kind (record { first = first; rest = rest }) }) o
+        → ((known' : Known) (s : Step) → Within table known' → AllByRecursion (Alike table known') xs → ChangesEndIn table (next known' s) o)
+        → ChangesEndIn table (record r { known = known; step = kind (record { first = first; rest = rest }) }) o
     read_left [] first known xs within covered then =
         ends_after (record r { known = known; step = kind (record { first = first; rest = [] }) }) o
-        (subst (λ (r' : ChangesReader). EndsIn table r' o) (sym (goes_on known (record { first = first; rest = [] })))
+        (subst (λ (r' : ChangesReader). ChangesEndIn table r' o) (sym (goes_on known (record { first = first; rest = [] })))
         (then (with_known known first (documents_in table first)) (kind (record { first = first; rest = [] })) (within_noted table known within first)
         (all_of (Covered table known ((first, tt) ∷ [])) (Alike table (with_known known first (documents_in table first))) (λ x c. none_left table (with_known known first (documents_in table first)) x (covered_noted table known within first [] x c)) xs covered)))
     read_left (e ∷ rest) first known xs within covered then =
         ends_after (record r { known = known; step = kind (record { first = first; rest = e ∷ rest }) }) o
-        (subst (λ (r' : ChangesReader). EndsIn table r' o) (sym (goes_on known (record { first = first; rest = e ∷ rest })))
+        (subst (λ (r' : ChangesReader). ChangesEndIn table r' o) (sym (goes_on known (record { first = first; rest = e ∷ rest })))
         (read_left rest e.0 (with_known known first (documents_in table first)) xs (within_noted table known within first)
         (all_of (Covered table known ((first, tt) ∷ e ∷ rest)) (Covered table (with_known known first (documents_in table first)) (e ∷ rest)) (λ x c. covered_noted table known within first (e ∷ rest) x c) xs covered) then))
 
     -- those of some ids that aren't known are read, and then all of them are known
     read_unknown : (known : Known) (s : Step) (before xs : List DocId) → Within table known → AllByRecursion (Alike table known) before
-        → ((known' : Known) (s : Step) → Within table known' → AllByRecursion (Alike table known') before → AllByRecursion (Alike table known') xs → EndsIn table (next known' s) o)
-        → EndsIn table (option_map_or (λ left. record r { known = known; step = kind left }) (left_of (unknown known xs)) (next known s)) o
+        → ((known' : Known) (s : Step) → Within table known' → AllByRecursion (Alike table known') before → AllByRecursion (Alike table known') xs → ChangesEndIn table (next known' s) o)
+        → ChangesEndIn table (option_map_or (λ left. record r { known = known; step = kind left }) (left_of (unknown known xs)) (next known s)) o
     read_unknown known s before xs within alike then = by (unknown known xs) (each_covered table known within xs [])
       where
-        by : (ids : Ids) → AllByRecursion (Covered table known ids) xs → EndsIn table (option_map_or (λ left. record r { known = known; step = kind left }) (left_of ids) (next known s)) o
+        by : (ids : Ids) → AllByRecursion (Covered table known ids) xs → ChangesEndIn table (option_map_or (λ left. record r { known = known; step = kind left }) (left_of ids) (next known s)) o
         by [] covered = then known s within alike (all_of (Covered table known []) (Alike table known) (none_left table known) xs covered)
         by (e ∷ es) covered =
             read_left es e.0 known (before ++ xs) within
@@ -99,12 +99,12 @@ module _ (table : Entries) where
             (λ known' s within' all. then known' s within' (all_first (Alike table known') before xs all) (all_second (Alike table known') before xs all))
 
   module _ (r : ChangesReader) (o : List CommitChanges) (d : Document) (there : documents_in table (id.Node r.at) ≡ Some d)
-      (then : (known : Known) (s : Step) → IsRead table true r.pin.sweep r.pin.base r.at d known → EndsIn table (on_roots (record r { known = known; step = s })) o) where
-    roots_end : (known : Known) (s : Step) → Within table known → documents_in known (id.Node r.at) ≡ Some d → AllByRecursion (Alike table known) (listed r.at d) → EndsIn table (on_previous (record r { known = known; step = s })) o
+      (then : (known : Known) (s : Step) → IsRead table true r.pin.sweep r.pin.base r.at d known → ChangesEndIn table (changes_on_roots (record r { known = known; step = s })) o) where
+    roots_end : (known : Known) (s : Step) → Within table known → documents_in known (id.Node r.at) ≡ Some d → AllByRecursion (Alike table known) (listed r.at d) → ChangesEndIn table (changes_on_previous (record r { known = known; step = s })) o
     roots_end known s within here previous =
-        subst (λ ids. EndsIn table (option_map_or (λ left. record r { known = known; step = step.Roots left }) (left_of ids) (on_roots (record r { known = known; step = s }))) o)
+        subst (λ ids. ChangesEndIn table (option_map_or (λ left. record r { known = known; step = step.Roots left }) (left_of ids) (changes_on_roots (record r { known = known; step = s }))) o)
         (sym (ap (λ o'. option_map_or (λ d. unknown known (flat_map (roots_of r.pin.sweep r.pin.base true) (with_previous (documents_in known) r.at d))) o' []) here))
-        (read_unknown r o (λ left. step.Roots left) (λ known' s'. on_roots (record r { known = known'; step = s' })) (λ known' left. refl)
+        (read_unknown r o (λ left. step.Roots left) (λ known' s'. changes_on_roots (record r { known = known'; step = s' })) (λ known' left. refl)
         known s (id.Node r.at ∷ listed r.at d) (flat_map (roots_of r.pin.sweep r.pin.base true) (with_previous (documents_in known) r.at d)) within (here ∙ sym there, previous)
         (λ known' s' within' before roots.
         let same : with_previous (documents_in known) r.at d ≡ with_previous (documents_in known') r.at d =
@@ -117,11 +117,11 @@ module _ (table : Entries) where
         })))
 
     -- the node's document is known: the reader goes on until all is read that the node rests on
-    main_end : Within table r.known → documents_in r.known (id.Node r.at) ≡ Some d → EndsIn table (on_main r) o
+    main_end : Within table r.known → documents_in r.known (id.Node r.at) ≡ Some d → ChangesEndIn table (changes_on_main r) o
     main_end within here =
-        subst (λ ids. EndsIn table (option_map_or (λ left. record r { step = step.Previous left }) (left_of ids) (on_previous r)) o)
+        subst (λ ids. ChangesEndIn table (option_map_or (λ left. record r { step = step.Previous left }) (left_of ids) (changes_on_previous r)) o)
         (sym (ap (λ o'. option_map_or (λ d. unknown r.known (listed r.at d)) o' []) here))
-        (read_unknown r o (λ left. step.Previous left) (λ known' s'. on_previous (record r { known = known'; step = s' })) (λ known' left. refl)
+        (read_unknown r o (λ left. step.Previous left) (λ known' s'. changes_on_previous (record r { known = known'; step = s' })) (λ known' left. refl)
         r.known r.step (id.Node r.at ∷ []) (listed r.at d) within (here ∙ sym there, tt)
         (λ known' s' within' before previous. roots_end known' s' within' (before.0 ∙ there) previous))
 
@@ -163,22 +163,22 @@ module _ (table : Entries) (is : IsTable table) (a : Global) (from : RevVec) (pi
   tells_none id.Settings other = refl
 
   abbrev Goes : List Said → Entries → ChangesReader → Type 0
-  Goes said rest r = EndsIn table r (grouped (said ++ all_told rest))
+  Goes said rest r = ChangesEndIn table r (grouped (said ++ all_told rest))
 
   -- from a document on
   from_document : (e : DocId × Document) (more : Entries) (at : Path) (known : Known) (said : List Said) (s : Step) → documents_in table e.0 ≡ Some e.1 → AllByRecursion (λ y. id_cmp e.0 y ≡ Less) (keys_of more) → e.1.id ≡ e.0
-      → ((q : Path) (known' : Known) (said' : List Said) → e.0 ≡ id.Node q → EndsIn table (reader q known' said' step.Next) (grouped (said' ++ all_told more)))
-      → EndsIn table (with_document (reader at known said s) e.1.id e.1) (grouped (said ++ all_told (e ∷ more)))
-  from_document e more at known said s found less named go = subst (λ (x : DocId). EndsIn table (with_document (reader at known said s) x e.1) (grouped (said ++ all_told (e ∷ more)))) (sym named) (by e.0 refl)
+      → ((q : Path) (known' : Known) (said' : List Said) → e.0 ≡ id.Node q → ChangesEndIn table (reader q known' said' step.Next) (grouped (said' ++ all_told more)))
+      → ChangesEndIn table (with_document (reader at known said s) e.1.id e.1) (grouped (said ++ all_told (e ∷ more)))
+  from_document e more at known said s found less named go = subst (λ (x : DocId). ChangesEndIn table (with_document (reader at known said s) x e.1) (grouped (said ++ all_told (e ∷ more)))) (sym named) (by e.0 refl)
     where
-      stops : ((p : Path) → e.0 ≡ id.Node p → ⊥) → EndsIn table (ended (reader at known said s)) (grouped (said ++ all_told (e ∷ more)))
+      stops : ((p : Path) → e.0 ≡ id.Node p → ⊥) → ChangesEndIn table (changes_ended (reader at known said s)) (grouped (said ++ all_told (e ∷ more)))
       stops other = (zero, ap (λ (l : List Said). step.Done (grouped l)) (sym (ap (λ (l : List Said). said ++ l) ((λ i. tells_none e.0 other i ++ others e.0 other more less i)) ∙ append-nil said)))
 
-      by : (x : DocId) → e.0 ≡ x → EndsIn table (with_document (reader at known said s) x e.1) (grouped (said ++ all_told (e ∷ more)))
+      by : (x : DocId) → e.0 ≡ x → ChangesEndIn table (with_document (reader at known said s) x e.1) (grouped (said ++ all_told (e ∷ more)))
       by (id.Node q) same =
           let there : documents_in table (id.Node q) ≡ Some e.1 = ap (documents_in table) (sym same) ∙ found in
           main_end table (reader q ((id.Node q, e.1) ∷ []) said s) (grouped (said ++ all_told (e ∷ more))) e.1 there
-          (λ known' s' read. subst (λ (l : List Said). EndsIn table (reader q known' (said ++ document_said (documents_in known') pin.sweep from pin.base (id.Node q)) step.Next) (grouped l))
+          (λ known' s' read. subst (λ (l : List Said). ChangesEndIn table (reader q known' (said ++ document_said (documents_in known') pin.sweep from pin.base (id.Node q)) step.Next) (grouped l))
           (append_assoc said (document_said (documents_in known') pin.sweep from pin.base (id.Node q)) (all_told more)
           ∙ ap (λ (l : List Said). said ++ (l ++ all_told more)) (said_agrees (documents_in table) (documents_in known') pin.sweep from pin.base q e.1 read.here there read.previous read.roots ∙ ap tells (sym same)))
           (go q known' (said ++ document_said (documents_in known') pin.sweep from pin.base (id.Node q)) same))
@@ -194,16 +194,16 @@ module _ (table : Entries) (is : IsTable table) (a : Global) (from : RevVec) (pi
       by id.Settings same = stops (λ p h. let both : id.Settings ≡ id.Node p = sym same ∙ h in cc)
 
   -- where the documents that are left are these
-  walk : (rest : Entries) (at : Path) (known : Known) (said : List Said) → behind (id.Node at) table ≡ rest → EndsIn table (reader at known said step.Next) (grouped (said ++ all_told rest))
+  walk : (rest : Entries) (at : Path) (known : Known) (said : List Said) → behind (id.Node at) table ≡ rest → ChangesEndIn table (reader at known said step.Next) (grouped (said ++ all_told rest))
   walk [] at known said none =
       ends_after table (reader at known said step.Next) (grouped (said ++ []))
-      (subst (λ (es : Entries). EndsIn table (fed_next (reader at known said step.Next) (option_map (λ e. e.1) (slice_get es 0))) (grouped (said ++ []))) (sym none)
+      (subst (λ (es : Entries). ChangesEndIn table (fed_next (reader at known said step.Next) (option_map (λ e. e.1) (slice_get es 0))) (grouped (said ++ []))) (sym none)
       (zero, ap (λ (l : List Said). step.Done (grouped l)) (sym (append-nil said))))
   walk (e ∷ more) at known said is_rest =
       let n = next_is (id.Node at) table e more is.ordered is_rest in
       let named : e.1.id ≡ e.0 = (subst (λ es. AllByRecursion (λ (e : DocId × Document). e.1.id ≡ e.0) es) is_rest (all_behind (λ e. e.1.id ≡ e.0) (id.Node at) table all_named)).0 in
       ends_after table (reader at known said step.Next) (grouped (said ++ all_told (e ∷ more)))
-      (subst (λ (es : Entries). EndsIn table (fed_next (reader at known said step.Next) (option_map (λ e. e.1) (slice_get es 0))) (grouped (said ++ all_told (e ∷ more)))) (sym is_rest)
+      (subst (λ (es : Entries). ChangesEndIn table (fed_next (reader at known said step.Next) (option_map (λ e. e.1) (slice_get es 0))) (grouped (said ++ all_told (e ∷ more)))) (sym is_rest)
       (from_document e more at known said step.Next n.found n.others named
       (λ q known' said' same. walk more q known' said' (subst (λ (x : DocId). behind x table ≡ more) same n.behind_it))))
 
@@ -228,14 +228,14 @@ module _ (table : Entries) (is : IsTable table) (a : Global) (from : RevVec) (pi
         named = (subst (λ es. AllByRecursion (λ (e : DocId × Document). e.1.id ≡ e.0) es) same all_named).0;
       }
 
-  pub reads_them : EndsIn table (changes_reader a from pin) (changes_said (documents_in table) pin.sweep from pin.base (keys_of table))
+  pub reads_them : ChangesEndIn table (changes_reader a from pin) (changes_said (documents_in table) pin.sweep from pin.base (keys_of table))
   reads_them = ends_after table (changes_reader a from pin) (grouped (all_told table)) (by table refl)
     where
-      by : (es : Entries) → table ≡ es → EndsIn table (fed_next (changes_reader a from pin) (option_map (λ e. e.1) (slice_get es 0))) (grouped (all_told table))
+      by : (es : Entries) → table ≡ es → ChangesEndIn table (fed_next (changes_reader a from pin) (option_map (λ e. e.1) (slice_get es 0))) (grouped (all_told table))
       by [] none = (zero, ap (λ (es : Entries). step.Done (grouped (all_told es))) (sym none))
       by (e ∷ more) same =
           let f = first_is e more same in
-          subst (λ (es : Entries). EndsIn table (with_document (changes_reader a from pin) e.1.id e.1) (grouped (all_told es))) (sym same)
+          subst (λ (es : Entries). ChangesEndIn table (with_document (changes_reader a from pin) e.1.id e.1) (grouped (all_told es))) (sym same)
           (from_document e more [] [] [] step.First f.found f.others_behind f.named
           (λ q known' said' at_q. walk more q known' said' (subst (λ (x : DocId). behind x table ≡ more) at_q f.behind_it)))
 

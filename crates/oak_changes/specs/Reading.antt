@@ -41,48 +41,48 @@ abbrev pub noted : ChangesReader → DocId → Option Document → ChangesReader
 noted r x found = record r { known = with_known r.known x found }
 
 -- there is no further document of a node
-abbrev pub ended : ChangesReader → ChangesReader
-ended r = record r { said = []; step = step.Done (grouped r.said) }
+abbrev pub changes_ended : ChangesReader → ChangesReader
+changes_ended r = record r { said = []; step = step.Done (grouped r.said) }
 
 -- what the node's documents that were found tell
 abbrev pub told : ChangesReader → List Said
 told r = document_said (documents_in r.known) r.pin.sweep r.from r.pin.base (id.Node r.at)
 
 -- all that the node takes is known: what its documents tell, and next the document behind it
-abbrev pub on_roots : ChangesReader → ChangesReader
-on_roots r = record r { said = r.said ++ told r; step = step.Next }
+abbrev pub changes_on_roots : ChangesReader → ChangesReader
+changes_on_roots r = record r { said = r.said ++ told r; step = step.Next }
 
 -- the node's document and its previous documents are known: next the commit roots
-abbrev pub on_previous : ChangesReader → ChangesReader
-on_previous r = option_map_or (λ left. record r { step = step.Roots left }) (left_of (roots_wanted r.pin.sweep r.pin.base r.known true r.at)) (on_roots r)
+abbrev pub changes_on_previous : ChangesReader → ChangesReader
+changes_on_previous r = option_map_or (λ left. record r { step = step.Roots left }) (left_of (roots_wanted r.pin.sweep r.pin.base r.known true r.at)) (changes_on_roots r)
 
 -- the node's document is known: next the previous documents
-abbrev pub on_main : ChangesReader → ChangesReader
-on_main r = option_map_or (λ left. record r { step = step.Previous left }) (left_of (previous_wanted r.known r.at)) (on_previous r)
+abbrev pub changes_on_main : ChangesReader → ChangesReader
+changes_on_main r = option_map_or (λ left. record r { step = step.Previous left }) (left_of (previous_wanted r.known r.at)) (changes_on_previous r)
 
 -- what is due has come: next the second of the documents that are left, or what comes behind them
-abbrev pub settled : ChangesReader → ChangesReader
-settled r = by r.step
+abbrev pub changes_settled : ChangesReader → ChangesReader
+changes_settled r = by r.step
   where
     by : Step → ChangesReader
     by step.First = r
     by step.Next = r
-    by (step.Previous left) = option_map_or (λ more. record r { step = step.Previous more }) (left_of left.rest) (on_previous r)
-    by (step.Roots left) = option_map_or (λ more. record r { step = step.Roots more }) (left_of left.rest) (on_roots r)
+    by (step.Previous left) = option_map_or (λ more. record r { step = step.Previous more }) (left_of left.rest) (changes_on_previous r)
+    by (step.Roots left) = option_map_or (λ more. record r { step = step.Roots more }) (left_of left.rest) (changes_on_roots r)
     by (step.Done o) = r
 
 -- the document of the node at a path comes; those of the node before go
 abbrev pub begun_at : ChangesReader → Path → Document → ChangesReader
-begun_at r p d = on_main (record r { at = p; known = (id.Node p, d) ∷ [] })
+begun_at r p d = changes_on_main (record r { at = p; known = (id.Node p, d) ∷ [] })
 
 -- a document comes, of a node or not
 abbrev pub with_document : ChangesReader → DocId → Document → ChangesReader
 with_document r (id.Node p) d = begun_at r p d
-with_document r _ d = ended r
+with_document r _ d = changes_ended r
 
 -- what a reader keeps once the next document in store order comes, or none is left
 abbrev pub fed_next : ChangesReader → Option Document → ChangesReader
-fed_next r None = ended r
+fed_next r None = changes_ended r
 fed_next r (Some d) = with_document r d.id d
 
 -- what a reader keeps after a reply
@@ -92,7 +92,7 @@ fed r (reply.Found found) = by r.step
     by : Step → ChangesReader
     by step.First = fed_next r found
     by step.Next = fed_next r found
-    by (step.Previous left) = settled (noted r left.first found)
-    by (step.Roots left) = settled (noted r left.first found)
+    by (step.Previous left) = changes_settled (noted r left.first found)
+    by (step.Roots left) = changes_settled (noted r left.first found)
     by (step.Done o) = r
 fed r _ = r

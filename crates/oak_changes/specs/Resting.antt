@@ -15,15 +15,15 @@ use Rattle.oak_changes.specs.declared.changes.ChangesReader.{ChangesReader}
 use Rattle.oak_changes.specs.declared.changes.Step.TheVariants as step
 
 -- a reader after n replies of documents at rest, each to what is due
-abbrev pub after_replies : List (DocId × Document) → ℕ → ChangesReader → ChangesReader
-after_replies table zero r = r
-after_replies table (suc n) r = after_replies table n (fed r (answer table (due r)))
+abbrev pub changes_after : List (DocId × Document) → ℕ → ChangesReader → ChangesReader
+changes_after table zero r = r
+changes_after table (suc n) r = changes_after table n (fed r (answer table (due r)))
 
 -- after some replies of documents at rest the reader gives this
-abbrev pub EndsIn : List (DocId × Document) → ChangesReader → List CommitChanges → Type 0
-EndsIn table r o = (n : ℕ) × ((after_replies table n r).step ≡ step.Done o)
+abbrev pub ChangesEndIn : List (DocId × Document) → ChangesReader → List CommitChanges → Type 0
+ChangesEndIn table r o = (n : ℕ) × ((changes_after table n r).step ≡ step.Done o)
 
 -- a reader ends in what the documents say of the commits that its pin's base sees and the vector doesn't
 abbrev pub ReadsChanges : Type 0
 ReadsChanges = (table : List (DocId × Document)) (a : Global) (from : RevVec) (pin : Pin) → IsTable table
-    → EndsIn table (changes_reader a from pin) (changes_said (documents_in table) pin.sweep from pin.base (keys_of table))
+    → ChangesEndIn table (changes_reader a from pin) (changes_said (documents_in table) pin.sweep from pin.base (keys_of table))

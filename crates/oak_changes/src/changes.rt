@@ -6,7 +6,7 @@ ghost use Rattle.std.specs.Map.{lookup};
 ghost use Rattle.jr_path.specs.declared.path.DocId.TheVariants.{Node as node_id};
 ghost use Rattle.oak_doc.specs.declared.asks.Ask.TheVariants as ask;
 ghost use Rattle.oak_doc.specs.declared.asks.Reply.TheVariants.{Found};
-ghost use Rattle.oak_changes.specs.Reading.{begun_at, changes_reader, due, ended, fed, fed_next, noted, on_main, on_previous, on_roots, settled, told, with_document};
+ghost use Rattle.oak_changes.specs.Reading.{begun_at, changes_reader, due, changes_ended, fed, fed_next, noted, changes_on_main, changes_on_previous, changes_on_roots, changes_settled, told, with_document};
 ghost use Rattle.oak_changes.specs.Resting.{ReadsChanges};
 ghost use Rattle.oak_changes.specs.declared.changes.Step.TheVariants as step;
 
@@ -171,7 +171,7 @@ impl ChangesReader {
 
     // There is no further document of a node.
     fn end(&mut self) -> Result<(), AllocError>
-        ensures ok { OnOk result (self.new ≡ ended self.old) }
+        ensures ok { OnOk result (self.new ≡ changes_ended self.old) }
         ensures err { OnErr result (self.new ≡ self.old) }
     {
         let commits = grouped(self.alloc, self.said.as_slice())?;
@@ -201,7 +201,7 @@ impl ChangesReader {
 
     // Takes a previous document, or a commit root.
     fn feed_left(&mut self, id: DocId, found: Option<Document>) -> Result<(), AllocError>
-        ensures ok { OnOk result (self.new ≡ settled (noted self.old id found)) }
+        ensures ok { OnOk result (self.new ≡ changes_settled (noted self.old id found)) }
         ensures err { OnErr result (self.new ≡ self.old) }
     {
         match found {
@@ -212,7 +212,7 @@ impl ChangesReader {
 
     // Keeps a document that was found, and goes on; one of an id that is known isn't kept.
     fn note(&mut self, id: DocId, document: Document) -> Result<(), AllocError>
-        ensures ok { OnOk result (self.new ≡ settled (noted self.old id (Some document))) }
+        ensures ok { OnOk result (self.new ≡ changes_settled (noted self.old id (Some document))) }
         ensures err { OnErr result (self.new ≡ self.old) }
     {
         if self.known.contains(&id) {
@@ -225,7 +225,7 @@ impl ChangesReader {
     // Keeps a document of an id that isn't known, and goes on.
     fn keep(&mut self, id: &DocId, document: Document) -> Result<(), AllocError>
         requires { is_some (lookup (is_at (id_cmp id.now)) self.old.known) ≡ false }
-        ensures ok { OnOk result (self.new ≡ settled (noted self.old id.now (Some document))) }
+        ensures ok { OnOk result (self.new ≡ changes_settled (noted self.old id.now (Some document))) }
         ensures err { OnErr result (self.new ≡ self.old) }
     {
         self.known.put(id.copy()?, document)?;
@@ -240,7 +240,7 @@ impl ChangesReader {
 
     // Goes on to the next document that is due.
     fn settle(&mut self) -> Result<(), AllocError>
-        ensures ok { OnOk result (self.new ≡ settled self.old) }
+        ensures ok { OnOk result (self.new ≡ changes_settled self.old) }
         ensures err { OnErr result (self.new ≡ self.old) }
     {
         match &mut self.step {
@@ -264,7 +264,7 @@ impl ChangesReader {
 
     // The node's document is known.
     fn read_previous(&mut self) -> Result<(), AllocError>
-        ensures ok { OnOk result (self.new ≡ on_main self.old) }
+        ensures ok { OnOk result (self.new ≡ changes_on_main self.old) }
         ensures err { OnErr result (self.new ≡ self.old) }
     {
         let wanted = previous_wanted(self.alloc, &self.known, &self.at)?;
@@ -279,7 +279,7 @@ impl ChangesReader {
 
     // The previous documents are known too.
     fn read_roots(&mut self) -> Result<(), AllocError>
-        ensures ok { OnOk result (self.new ≡ on_previous self.old) }
+        ensures ok { OnOk result (self.new ≡ changes_on_previous self.old) }
         ensures err { OnErr result (self.new ≡ self.old) }
     {
         let wanted = roots_wanted(self.alloc, &self.known, &self.pin, true, &self.at)?;
@@ -294,7 +294,7 @@ impl ChangesReader {
 
     // All that the node takes is known.
     fn conclude(&mut self) -> Result<(), AllocError>
-        ensures ok { OnOk result (self.new ≡ on_roots self.old) }
+        ensures ok { OnOk result (self.new ≡ changes_on_roots self.old) }
         ensures err { OnErr result (self.new ≡ self.old) }
     {
         let more = self.told()?;

@@ -29,7 +29,7 @@ use Rattle.oak_doc.specs.declared.document.Document.{Document}
 use Rattle.oak_doc.specs.declared.update.Change.TheVariants as change
 use Rattle.oak_doc.specs.Updates.{after_changes, changed}
 use Rattle.oak_checkpoint.specs.Settings.{attach_op, checkpoint_of, create_op, detach_op, drop_readers_op, release_op}
-use Rattle.oak_checkpoint.specs.Kept.{AreDropped, Attaches, Creates, Detaches, DropsReaders, IsSetAt, Makes, Releases}
+use Rattle.oak_checkpoint.specs.Kept.{AreDropped, Attaches, Creates, Detaches, DropsReaders, IsSetAt, MakesOfSettings, Releases}
 
 -- ---- maps
 
@@ -111,7 +111,7 @@ name_total = lists_total nat_cmp_total
 
 -- ---- the updates
 
-pub creates : (id : Text) (pin : Pin) → Makes (create_op id pin) (Creates id pin)
+pub creates : (id : Text) (pin : Pin) → MakesOfSettings (create_op id pin) (Creates id pin)
 creates id pin d n is = (
   after_changes (Some d) (create_op id pin) n,
   refl,
@@ -120,7 +120,7 @@ creates id pin d n is = (
   (put_sets name_cmp name_total name_exact id pin d.checkpoints, refl),
 )
 
-pub releases : (id : Text) → Makes (release_op id) (Releases id)
+pub releases : (id : Text) → MakesOfSettings (release_op id) (Releases id)
 releases id d n is = (
   after_changes (Some d) (release_op id) n,
   refl,
@@ -129,7 +129,7 @@ releases id d n is = (
   (removal_sets name_cmp name_total name_exact id d.checkpoints is.ids, refl),
 )
 
-pub detaches : (s : ℕ) → Makes (detach_op s) (Detaches s)
+pub detaches : (s : ℕ) → MakesOfSettings (detach_op s) (Detaches s)
 detaches s d n is = (
   after_changes (Some d) (detach_op s) n,
   refl,
@@ -150,7 +150,7 @@ reader_sets : (es : List (ℕ × Pin)) (s : ℕ) (o : Option Pin) → IsSetAt s 
 reader_sets es s None = record { here = refl; others = λ q apart. refl }
 reader_sets es s (Some pin) = put_sets nat_cmp nat_cmp_total nat_cmp-IsAntisymmetric s pin es
 
-pub attaches : (s : ℕ) (id : Text) → Makes (attach_op s id) (Attaches s id)
+pub attaches : (s : ℕ) (id : Text) → MakesOfSettings (attach_op s id) (Attaches s id)
 attaches s id d n is = (
   after_changes (Some d) (attach_op s id) n,
   refl,
@@ -199,7 +199,7 @@ dropped ss d ordered = record {
     not_any q apart true e = absurd (apart (Contains-from_any (λ x y h. (tested nat_cmp_total nat_cmp-IsAntisymmetric x y).0 h) q ss e))
     not_any q apart false e = refl
 
-pub drops_readers : (ss : List ℕ) → Makes (drop_readers_op ss) (DropsReaders ss)
+pub drops_readers : (ss : List ℕ) → MakesOfSettings (drop_readers_op ss) (DropsReaders ss)
 drops_readers ss d n is = (
   record d { readers = without_readers d.readers ss; mod_count = n },
   ap (λ (e : Document). Ok (record e { mod_count = n })) (all_dropped ss d),

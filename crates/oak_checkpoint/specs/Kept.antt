@@ -18,8 +18,8 @@ pub record AreSettings (d : Document) : Type 0 where
   pub sessions : IsStrictlySortedBy nat_cmp (keys_of d.readers)
 
 -- the update is made of each settings' document, with any number; the document then is one too, and this is so of the two
-abbrev pub Makes : UpdateOp → (Document → Document → Type 0) → Type 0
-Makes op After = (d : Document) (number : ℕ) → AreSettings d → (e : Document) × (updated (Some d) op number ≡ Ok e) × AreSettings e × (e.mod_count ≡ number) × After d e
+abbrev pub MakesOfSettings : UpdateOp → (Document → Document → Type 0) → Type 0
+MakesOfSettings op After = (d : Document) (number : ℕ) → AreSettings d → (e : Document) × (updated (Some d) op number ≡ Ok e) × AreSettings e × (e.mod_count ≡ number) × After d e
 
 -- what is kept is x at one key, and at each other key what was kept there
 pub record IsSetAt {K X : Type 0} (key : K) (x : Option X) (before after : K → Option X) : Type 0 where

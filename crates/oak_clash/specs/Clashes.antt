@@ -52,15 +52,15 @@ abbrev pub marks_at : Path → List MarkAt → List Mark
 marks_at p ms = map (λ m. m.mark) (filter (λ m. eq_by_cmp path_cmp p m.path) ms)
 
 -- the item that a mark at a path is of
-abbrev pub item_of : Path → Mark → Item
-item_of p Exists = record { path = p; name = None }
-item_of p Guard = record { path = p; name = None }
-item_of p Touch = record { path = p; name = None }
-item_of p (Prop n) = record { path = p; name = Some n }
+abbrev pub marked_item : Path → Mark → Item
+marked_item p Exists = record { path = p; name = None }
+marked_item p Guard = record { path = p; name = None }
+marked_item p Touch = record { path = p; name = None }
+marked_item p (Prop n) = record { path = p; name = Some n }
 
 -- the item of the first of the marks that clashes at the path with one of the others
 abbrev pub met_at : Path → List MarkAt → List MarkAt → Option Item
-met_at p ms os = option_map (item_of p) (first_mark (filter (λ m. list_any (clash m) (marks_at p os)) (marks_at p ms)))
+met_at p ms os = option_map (marked_item p) (first_mark (filter (λ m. list_any (clash m) (marks_at p os)) (marks_at p ms)))
 
 -- the marks meet those of another commit in the item
 abbrev pub Meets : List MarkAt → List MarkAt → Item → Type 0

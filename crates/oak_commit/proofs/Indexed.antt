@@ -26,7 +26,7 @@ use Rattle.oak_clash.specs.Clashes.{commit_root, marks_at}
 use Rattle.oak_doc.specs.declared.update.Change.{Change}
 use Rattle.oak_doc.specs.declared.update.UpdateOp.{UpdateOp}
 use Rattle.oak_doc.proofs.Entries.{set_is_insert}
-use Rattle.oak_commit.specs.Places.{Finds, IsComputed, Places, items_at, of_path, path_of_write, places_of, with_place}
+use Rattle.oak_commit.specs.Places.{Finds, IsComputed, Places, items_at, of_path, path_of_write, places_of, with_path_place}
 use Rattle.oak_commit.specs.Writing.{entries_at, entry_of, marking_of, rooting, write_op}
 
 get_there : {X : Type 0} (xs : List X) (i : ℕ) (d : X) → i < length xs → slice_get xs i ≡ Some (get_or xs i d)
@@ -58,7 +58,7 @@ module _ {X : Type 0} (all : List X) where
       one (Some x) = sym (append-nil (f x))
 
   -- one more item is found
-  pub finds_more : (path : X → Path) (i : ℕ) (x : X) (places new : Places) → i < length all → x ≡ get_or all i x → Finds path all (take i all) places → new ≡ with_place places (path x) i → Finds path all (take (i + 1) all) new
+  pub finds_more : (path : X → Path) (i : ℕ) (x : X) (places new : Places) → i < length all → x ≡ get_or all i x → Finds path all (take i all) places → new ≡ with_path_place places (path x) i → Finds path all (take (i + 1) all) new
   finds_more path i x places new within is finds put p =
       ap (λ m. items_at all (places_of m p)) put
       ∙ ap (λ o. items_at all (unwrap_or o [])) (lookup-insert_entry path_cmp path_total p (path x) (places_of places (path x) ++ i ∷ []) places)
@@ -99,7 +99,7 @@ entries_of_path r p (w ∷ ws) = by (eq_by_cmp path_cmp p (path_of_write w)) ref
     by false h rest = rw (other_entry r p w h) rest
 
 -- a place that is put at a path that has some
-pub put_at_places : (old : Places) (p : Path) (at : ℕ) (known new : List ℕ) (after : Places) → IsStrictlySortedBy path_cmp (keys_of old) → lookup (is_at (path_cmp p)) old ≡ Some known → new ≡ known ++ at ∷ [] → after ≡ set_value (is_at (path_cmp p)) old new → after ≡ with_place old p at
+pub put_at_places : (old : Places) (p : Path) (at : ℕ) (known new : List ℕ) (after : Places) → IsStrictlySortedBy path_cmp (keys_of old) → lookup (is_at (path_cmp p)) old ≡ Some known → new ≡ known ++ at ∷ [] → after ≡ set_value (is_at (path_cmp p)) old new → after ≡ with_path_place old p at
 put_at_places old p at known new after sorted there put set =
     rw there (set ∙ set_is_insert path_cmp path_total old p known new sorted there ∙ ap (insert_entry path_cmp old p) put)
 

@@ -22,7 +22,7 @@ use Rattle.oak_clash.specs.declared.mark.MarkAt.{MarkAt}
 use Rattle.oak_doc.specs.declared.document.Document.{Document}
 use Rattle.oak_commit.specs.Clashing.{Met, found}
 use Rattle.oak_commit.specs.Committing.{Committing, fed_look, looking_on, look_due, wrote, meeting, asks_undo, due_by, due_of, ended_by, mark_due, roots_in, looks_at, undo_due, wanting, with_undone, write_due, written_by, written_paths}
-use Rattle.oak_commit.specs.Kept.{Settles, met_by, shown, with_look}
+use Rattle.oak_commit.specs.Kept.{SettlesLook, met_by, shown, with_look}
 use Rattle.oak_commit.specs.Looking.{looked_at, looked_before, with_found}
 use Rattle.oak_read.specs.Wanted.{listed}
 use Rattle.oak_commit.specs.Places.{Planned}
@@ -224,13 +224,13 @@ tells_previous c k previous going looking = rw (going, looking) refl
 
 -- ---- what a look has come to
 
-pub settles_ok : (l : Result Looked AllocError) (c d end_ : Committing) (m : Looked) (r : Result Unit AllocError) → Settles l c d r → IfOk l (λ k. k ≡ m) → with_look c m ≡ end_ → OnOk r (d ≡ end_)
+pub settles_ok : (l : Result Looked AllocError) (c d end_ : Committing) (m : Looked) (r : Result Unit AllocError) → SettlesLook l c d r → IfOk l (λ k. k ≡ m) → with_look c m ≡ end_ → OnOk r (d ≡ end_)
 settles_ok (Ok k) c d end_ m (Ok u) h is comes = h ∙ ap {A = Looked} {B = Committing} (with_look c) is ∙ comes
 settles_ok (Ok k) c d end_ m (Err f) h is comes = tt
 settles_ok (Err e) c d end_ m (Ok u) h is comes = absurd h
 settles_ok (Err e) c d end_ m (Err f) h is comes = tt
 
-pub settles_err : (l : Result Looked AllocError) (c d end_ : Committing) (r : Result Unit AllocError) → Settles l c d r → wanting c ≡ end_ → OnErr r (d ≡ end_)
+pub settles_err : (l : Result Looked AllocError) (c d end_ : Committing) (r : Result Unit AllocError) → SettlesLook l c d r → wanting c ≡ end_ → OnErr r (d ≡ end_)
 settles_err (Ok k) c d end_ (Ok u) h comes = tt
 settles_err (Ok k) c d end_ (Err f) h comes = absurd h
 settles_err (Err e) c d end_ (Ok u) h comes = tt

@@ -14,7 +14,7 @@ use Rattle.jr_rev.specs.Vectors.{sees}
 use Rattle.oak_clash.specs.declared.mark.Mark.{Mark}
 use Rattle.oak_clash.specs.declared.mark.Mark.TheVariants.{Exists, Guard, Touch, Prop}
 use Rattle.oak_clash.specs.declared.mark.MarkAt.{MarkAt}
-use Rattle.oak_clash.specs.Clashes.{clash, first_mark, marks_at, item_of}
+use Rattle.oak_clash.specs.Clashes.{clash, first_mark, marks_at, marked_item}
 use Rattle.oak_doc.specs.declared.document.Document.{Document}
 use Rattle.oak_doc.specs.declared.update.UpdateOp.{UpdateOp}
 use Rattle.oak_doc.specs.declared.update.Cond.TheVariants.{NotCommitted}
@@ -53,9 +53,9 @@ marks_in None r = []
 marks_in (Some d) r = filter (has_mark d r) (Exists ∷ Guard ∷ Touch ∷ map Prop (keys_of d.props))
 
 -- the revisions that have a mark there, in ascending order
-abbrev pub revisions_in : Option Document → List Revision
-revisions_in None = []
-revisions_in (Some d) = keys_of (fold (λ es r. insert_entry revision_cmp es r true) [] (keys_of d.deleted ++ (keys_of d.guard ++ (keys_of d.touched ++ flat_map (λ e. keys_of e.1) d.props))))
+abbrev pub marked_revisions : Option Document → List Revision
+marked_revisions None = []
+marked_revisions (Some d) = keys_of (fold (λ es r. insert_entry revision_cmp es r true) [] (keys_of d.deleted ++ (keys_of d.guard ++ (keys_of d.touched ++ flat_map (λ e. keys_of e.1) d.props))))
 
 -- another revision that was met, with one's own item and its
 pub record Met : Type 0 where
@@ -65,7 +65,7 @@ pub record Met : Type 0 where
 
 -- the item of the first of some marks at p that clashes with one of the others
 abbrev pub met_among : Path → List Mark → List Mark → Option Item
-met_among p ms os = option_map (item_of p) (first_mark (filter (λ m. list_any (clash m) os) ms))
+met_among p ms os = option_map (marked_item p) (first_mark (filter (λ m. list_any (clash m) os) ms))
 
 -- the other revision o as met, where there are both one's own item and its
 abbrev pub met_with : Revision → Option Item → Option Item → Option Met
@@ -74,7 +74,7 @@ met_with o _ _ = None
 
 -- what r, with its marks and its base, meets in a document: each other revision that its base doesn't see, with a clashing mark
 abbrev pub found : RevVec → Revision → Path → List MarkAt → Option Document → List Met
-found base r p ms d = filter_map (λ o. cond (is_same o r || sees base o) None (met_with o (met_among p (marks_at p ms) (marks_in d o)) (met_among p (marks_in d o) (marks_at p ms)))) (revisions_in d)
+found base r p ms d = filter_map (λ o. cond (is_same o r || sees base o) None (met_with o (met_among p (marks_at p ms) (marks_in d o)) (met_among p (marks_in d o) (marks_at p ms)))) (marked_revisions d)
 
 -- the mark of a collision with r in its item, on the commit root of the other revision, where that isn't committed
 abbrev pub mark_op : Path → Revision → Revision → Item → UpdateOp

@@ -66,7 +66,7 @@ with_look c (looked.Met dues) = record c { writer = record c.writer { due = map 
 with_look c (looked.More k) = record c { looking = Some k }
 
 -- what a look has come to is kept; or memory was refused for it, and the committer undoes
-abbrev pub Settles : Result Looked AllocError → Committing → Committing → Result Unit AllocError → Type 0
-Settles (Ok l) c d (Ok u) = d ≡ with_look c l
-Settles (Err e) c d (Err f) = d ≡ wanting c
-Settles _ c d _ = ⊥
+abbrev pub SettlesLook : Result Looked AllocError → Committing → Committing → Result Unit AllocError → Type 0
+SettlesLook (Ok l) c d (Ok u) = d ≡ with_look c l
+SettlesLook (Err e) c d (Err f) = d ≡ wanting c
+SettlesLook _ c d _ = ⊥

@@ -11,7 +11,7 @@ use Rattle.jr_rev.specs.Vectors.{sees}
 use Rattle.oak_clash.specs.declared.mark.Mark.{Mark}
 use Rattle.oak_doc.specs.declared.document.Document.{Document}
 use Rattle.oak_read.specs.Meaning.{commit_root_of}
-use Rattle.oak_commit.specs.Clashing.{Met, marks_in, met_among, met_with, revisions_in}
+use Rattle.oak_commit.specs.Clashing.{Met, marks_in, met_among, met_with, marked_revisions}
 use Rattle.oak_commit.specs.declared.met.Due.{Due}
 
 -- with some revisions, in ascending order
@@ -29,7 +29,7 @@ module _ (base : RevVec) (r : Revision) (p : Path) (mine : List Mark) (d : Docum
 
   -- what it meets of all others there
   abbrev pub met_in : List Met
-  met_in = filter_map met_of (revisions_in (Some d))
+  met_in = filter_map met_of (marked_revisions (Some d))
 
 -- a mark to make, of what was met in a document
 abbrev pub due_in : Document → Met → Due

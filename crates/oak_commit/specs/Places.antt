@@ -24,8 +24,8 @@ abbrev pub places_of : Places → Path → List ℕ
 places_of places p = unwrap_or (lookup (is_at (path_cmp p)) places) []
 
 -- with one more place of a path
-abbrev pub with_place : Places → Path → ℕ → Places
-with_place places p at = insert_entry path_cmp places p (places_of places p ++ at ∷ [])
+abbrev pub with_path_place : Places → Path → ℕ → Places
+with_path_place places p at = insert_entry path_cmp places p (places_of places p ++ at ∷ [])
 
 -- the items that stand at some places of a list
 abbrev pub items_at : {X : Type 0} → List X → List ℕ → List X

@@ -4,7 +4,7 @@ ghost use Rattle.std.specs.Option.{option_copied, option_map};
 ghost use Rattle.jr_path.specs.Ids.{names_of};
 ghost use Rattle.oak_commit.specs.Clashing.{mark_op};
 ghost use Rattle.oak_commit.specs.Committing.{advanced, asks_undo, begun, blocked, due_of, end_due, ended_by, fed, fed_end, fed_going, fed_look, fed_undoing, fed_update, is_past, look_due, looks_at, mark_due, refused, undo_due, undo_id, wanting, with_undone, without_memory, written_by, written_paths};
-ghost use Rattle.oak_commit.specs.Kept.{Settles};
+ghost use Rattle.oak_commit.specs.Kept.{SettlesLook};
 ghost use Rattle.oak_commit.specs.Stages.{end_stage, going_stage, stage_of, undo_stage, update_stage};
 ghost use Rattle.oak_doc.specs.declared.asks.Ask.TheVariants as ask;
 
@@ -352,7 +352,7 @@ impl Committer {
 
     // How far a look is now.
     fn settle(&mut self, looked: Result<Looked, AllocError>) -> Result<(), AllocError>
-        ensures { Settles looked self.old self.new result }
+        ensures { SettlesLook looked self.old self.new result }
     {
         match looked {
             Ok(Looked::Met(due)) => {

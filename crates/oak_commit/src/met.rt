@@ -4,8 +4,8 @@ ghost use Rattle.std.specs.List.{flat_map, list_any};
 ghost use Rattle.std.specs.Map.{keys_of};
 ghost use Rattle.std.specs.Option.{option_copied, option_map, option_map_or};
 ghost use Rattle.jr_rev.specs.Vectors.{sees};
-ghost use Rattle.oak_clash.specs.Clashes.{clash, earlier_of, first_mark, is_earlier, item_of};
-ghost use Rattle.oak_commit.specs.Clashing.{has_mark, marks_in, met_among, revisions_in};
+ghost use Rattle.oak_clash.specs.Clashes.{clash, earlier_of, first_mark, is_earlier, marked_item};
+ghost use Rattle.oak_commit.specs.Clashing.{has_mark, marks_in, met_among, marked_revisions};
 ghost use Rattle.oak_commit.specs.Meeting.{due_in, met_in, met_of, root_in, with_revisions};
 
 use jr_path::{DeepCopy, DocId, Item, Keyed, Name, Path};
@@ -108,7 +108,7 @@ fn ancestor(path: &Path, depth: Option<&u32>) -> Result<Path, AllocError>
 
 // The revisions that have a mark in a document, in ascending order.
 fn revisions_in(alloc: Global, document: &Document) -> Result<Keyed<Revision, bool>, AllocError>
-    ensures { IfOk result (λ revisions. keys_of revisions ≡ revisions_in (Some document.now)) }
+    ensures { IfOk result (λ revisions. keys_of revisions ≡ marked_revisions (Some document.now)) }
 {
     let mut revisions = Keyed::new(alloc);
     put_revisions(&mut revisions, &document.deleted)?;
@@ -240,7 +240,7 @@ fn earlier_of<'a>(mark: &'a Mark, first: Option<&'a Mark>) -> &'a Mark
 
 // The item that a mark at a path is of.
 fn item_of(path: &Path, mark: &Mark) -> Result<Item, AllocError>
-    ensures { IfOk result (λ item. item ≡ item_of path.now mark.now) }
+    ensures { IfOk result (λ item. item ≡ marked_item path.now mark.now) }
 {
     let name = match mark {
         Mark::Prop(name) => Some(name.copy()?),

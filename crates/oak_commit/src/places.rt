@@ -1,7 +1,7 @@
 // At which places of a list the items of each path stand.
 ghost use Rattle.std.specs.Prelude.{◌≡◌, ◌++◌, ◌∷◌, [], IfOk, OnOk, map, slice_get};
 ghost use Rattle.std.specs.Option.{option_map_or};
-ghost use Rattle.oak_commit.specs.Places.{Finds, items_at, path_of_write, places_of, with_place};
+ghost use Rattle.oak_commit.specs.Places.{Finds, items_at, path_of_write, places_of, with_path_place};
 
 use jr_path::{DeepCopy, Keyed, List, Path};
 use jr_tree::Write;
@@ -35,7 +35,7 @@ pub(crate) fn places_of_marks(alloc: Global, marks: &[MarkAt]) -> Result<Places,
 
 // Puts one more place of a path.
 fn put_place(alloc: Global, places: &mut Places, path: &Path, at: usize) -> Result<(), AllocError>
-    ensures { OnOk result (places.new ≡ with_place places.old path.now at) }
+    ensures { OnOk result (places.new ≡ with_path_place places.old path.now at) }
 {
     if let Some(known) = places.inner_mut().get_mut(path) {
         known.push(at)?;

@@ -140,21 +140,21 @@ is_met d None = true
 is_met d (Some c) = holds d c
 
 -- why an update is refused: the document is absent, or a condition is unmet
-abbrev pub refusal : Option Document → Option Cond → OpFault
-refusal d None = Absent
-refusal d (Some c) = Unmet c (kept d c)
+abbrev pub update_refusal : Option Document → Option Cond → OpFault
+update_refusal d None = Absent
+update_refusal d (Some c) = Unmet c (kept d c)
 
 -- one update with the number: no document and none made, a condition unmet, or the changes made
 abbrev pub updated : Option Document → UpdateOp → ℕ → Result Document OpFault
-updated d op number = cond (is_none d && not op.create) (Err Absent) (cond (is_met d op.cond) (Ok (after_changes d op number)) (Err (refusal d op.cond)))
+updated d op number = cond (is_none d && not op.create) (Err Absent) (cond (is_met d op.cond) (Ok (after_changes d op number)) (Err (update_refusal d op.cond)))
 
 -- the entries of a revision are dropped, and the document takes the number
 abbrev pub undone : Document → Revision → ℕ → Document
 undone d r number = record (changed d (change.Undo r)) { mod_count = number }
 
 -- an answer is that of the update, unless memory is refused
-abbrev pub Answers : Result Document OpFault → Result Document OpFault → Type 0
-Answers (Err Memory) update = Unit {0}
-Answers (Err (Unmet c k)) update = update ≡ Err (Unmet c k)
-Answers (Err Absent) update = update ≡ Err Absent
-Answers (Ok d) update = update ≡ Ok d
+abbrev pub IsUpdateAnswer : Result Document OpFault → Result Document OpFault → Type 0
+IsUpdateAnswer (Err Memory) update = Unit {0}
+IsUpdateAnswer (Err (Unmet c k)) update = update ≡ Err (Unmet c k)
+IsUpdateAnswer (Err Absent) update = update ≡ Err Absent
+IsUpdateAnswer (Ok d) update = update ≡ Ok d

@@ -1,7 +1,7 @@
 // One update of one document.
 ghost use Rattle.std.specs.Prelude.{◌≡◌, IfOk, OnOk, fold};
 ghost use Rattle.std.specs.Option.{option_copied};
-ghost use Rattle.oak_doc.specs.Updates.{Answers, after_changes, changed, updated};
+ghost use Rattle.oak_doc.specs.Updates.{IsUpdateAnswer, after_changes, changed, updated};
 
 use crate::change::apply_change;
 use crate::condition::{is_held, kept_against};
@@ -17,7 +17,7 @@ pub fn apply_op(
     op: &UpdateOp,
     number: u64,
 ) -> Result<Document, OpFault>
-    ensures { Answers result (updated (option_copied before.entry) op.now number) }
+    ensures { IsUpdateAnswer result (updated (option_copied before.entry) op.now number) }
 {
     if before.is_none() && !op.create {
         return Err(OpFault::Absent);

@@ -18,8 +18,8 @@ use Rattle.oak_doc.specs.declared.update.EntryKey.{EntryKey}
 use Rattle.oak_doc.specs.declared.update.Kept.TheVariants as kept
 use Rattle.oak_gc.proofs.Going.{gone_listed, gone_on}
 use Rattle.oak_gc.specs.Asking.{AskForGarbage, AsksForGarbage}
-use Rattle.oak_gc.specs.Bounding.{after_replies}
-use Rattle.oak_gc.specs.Collecting.{Previous, begun, decided, fed, found_document, found_in, garbage_previous, going_on, has_garbage_in, last_of, lowered, no_pair, nothing_read, reading_of, removing, with_document, with_entries, with_previous, with_skip}
+use Rattle.oak_gc.specs.Bounding.{collector_after}
+use Rattle.oak_gc.specs.Collecting.{Previous, begun, decided, fed, found_document, found_in, garbage_previous, going_on, has_garbage_in, last_of, lowered, no_pair, nothing_read, node_reading, removing, with_document, with_entries, with_previous_read, with_skip}
 use Rattle.oak_gc.specs.Bounds.{kept_pairs, root_pair}
 use Rattle.oak_gc.specs.Garbage.{garbage_in, has_garbage, is_garbage_document, is_garbage_listed, garbage_listed}
 use Rattle.oak_gc.specs.declared.collector.Collector.{Collector}
@@ -73,7 +73,7 @@ going_right c garbage = by c.reading.listed refl
 found_right : (c : Collector) (d : Document) → IsRight c → IsRight (found_document c d)
 found_right c d right = by d.id
   where
-    by : (x : DocId) → IsRight (option_map_or (λ r. going_on (record c { reading = r })) (reading_of c.bound x d) (record c { step = step.Done }))
+    by : (x : DocId) → IsRight (option_map_or (λ r. going_on (record c { reading = r })) (node_reading c.bound x d) (record c { step = step.Done }))
     by (id.Node p) = going_right (record c { reading = record { at = p; document = d; garbage = garbage_in c.bound.base c.bound.sweep d; listed = map (λ e. e.number) d.prev; previous = [] } }) refl
     by (id.Prev n p) = record { garbage = right.garbage; knows = tt }
     by id.Settings = record { garbage = right.garbage; knows = tt }
@@ -170,7 +170,7 @@ goes_on c step.Next reply.Learnt right = right
 goes_on c step.Next (reply.Pins head sweep pins) right = right
 goes_on c step.Next reply.Gone right = right
 goes_on c step.Next reply.Recovered right = right
-goes_on c (step.Listed n) (reply.Found found) right = going_right (record c { reading = with_previous c.reading n found; step = step.Listed n }) right.garbage
+goes_on c (step.Listed n) (reply.Found found) right = going_right (record c { reading = with_previous_read c.reading n found; step = step.Listed n }) right.garbage
 goes_on c (step.Listed n) (reply.Updated before) right = right
 goes_on c (step.Listed n) (reply.Unmet c' (kept.Entry o i)) right = right
 goes_on c (step.Listed n) (reply.Unmet c' (kept.Number found)) right = right
@@ -251,7 +251,7 @@ goes_on c step.Done (reply.Pins head sweep pins) right = right
 goes_on c step.Done reply.Gone right = right
 goes_on c step.Done reply.Recovered right = right
 
-kept_all : (rs : List Reply) (c : Collector) → IsRight c → IsRight (after_replies c rs)
+kept_all : (rs : List Reply) (c : Collector) → IsRight c → IsRight (collector_after c rs)
 kept_all [] c right = right
 kept_all (r ∷ rs) c right = kept_all rs (fed c r) (goes_on c c.step r right)
 
@@ -285,5 +285,5 @@ asks c step.Done right = tt
 
 pub ask_for_garbage : AskForGarbage
 ask_for_garbage a clusters rs =
-    let c = after_replies (begun a clusters) rs in
+    let c = collector_after (begun a clusters) rs in
     asks c c.step (kept_all rs (begun a clusters) (record { garbage = refl; knows = refl }))

@@ -6,7 +6,7 @@ use Rattle.jr_rev.specs.declared.vector.Pin.{Pin}
 use Rattle.oak_doc.specs.declared.asks.Reply.{Reply}
 use Rattle.oak_doc.specs.declared.asks.Reply.TheVariants as reply
 use Rattle.oak_gc.specs.Bounds.{Told, kept_pairs, lesser_pair, root_pair}
-use Rattle.oak_gc.specs.Bounding.{TakesTheLeast, after_replies, node_reply, those_that_tell}
+use Rattle.oak_gc.specs.Bounding.{TakesTheLeast, collector_after, node_reply, those_that_tell}
 use Rattle.oak_gc.specs.Collecting.{begun, behind_node, fed}
 use Rattle.oak_gc.specs.declared.collector.Collector.{Collector}
 use Rattle.oak_gc.specs.declared.reading.Step.TheVariants as step
@@ -44,12 +44,12 @@ module _ (a : Global) (clusters : ℕ) where
       ∙ sym (fold-append lesser_pair bound (n.head ∷ n.pins) (pairs_of ns))
 
   each_node : (nodes : List (Option Told)) (bound : Pin) (k : ℕ) → k + length nodes ≡ clusters → (rest : List Reply)
-      → after_replies (at_node a clusters bound k) (map node_reply nodes ++ rest) ≡ after_replies (record (begun a clusters) { bound = fold lesser_pair bound (pairs_of nodes); step = step.Settings }) rest
+      → collector_after (at_node a clusters bound k) (map node_reply nodes ++ rest) ≡ collector_after (record (begun a clusters) { bound = fold lesser_pair bound (pairs_of nodes); step = step.Settings }) rest
   each_node [] bound k is rest = rw (none_to_ask k clusters is) refl
   each_node (n ∷ ns) bound k is rest =
-      ap (λ c. after_replies c (map node_reply ns ++ rest)) (one_node bound n k (more_to_ask k (length ns) clusters is))
+      ap (λ c. collector_after c (map node_reply ns ++ rest)) (one_node bound n k (more_to_ask k (length ns) clusters is))
       ∙ each_node ns (fold lesser_pair bound (pairs_of (n ∷ []))) (k + 1) (omega arith) rest
-      ∙ ap (λ b. after_replies (record (begun a clusters) { bound = b; step = step.Settings }) rest) (pairs_more n ns bound)
+      ∙ ap (λ b. collector_after (record (begun a clusters) { bound = b; step = step.Settings }) rest) (pairs_more n ns bound)
 
 pub takes_the_least : TakesTheLeast
 takes_the_least a root settings nodes =

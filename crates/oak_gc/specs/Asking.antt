@@ -3,7 +3,7 @@ use Rattle.std.specs.Prelude.{◌≡◌, ℕ, List, IsTrue, IsFalse}
 use Rattle.std.specs.declared.alloc.Global.{Global}
 use Rattle.oak_doc.specs.declared.asks.Ask.TheVariants as ask
 use Rattle.oak_doc.specs.declared.asks.Reply.{Reply}
-use Rattle.oak_gc.specs.Bounding.{after_replies}
+use Rattle.oak_gc.specs.Bounding.{collector_after}
 use Rattle.oak_gc.specs.Collecting.{begun, due, found_in}
 use Rattle.oak_gc.specs.Garbage.{garbage_listed, has_garbage, is_garbage_document, pruning}
 use Rattle.oak_gc.specs.declared.collector.Collector.{Collector}
@@ -24,4 +24,4 @@ AsksForGarbage c = by c.step
 
 -- so does a collector after any replies
 abbrev pub AskForGarbage : Type 0
-AskForGarbage = (a : Global) (clusters : ℕ) (rs : List Reply) → AsksForGarbage (after_replies (begun a clusters) rs)
+AskForGarbage = (a : Global) (clusters : ℕ) (rs : List Reply) → AsksForGarbage (collector_after (begun a clusters) rs)

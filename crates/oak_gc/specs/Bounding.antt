@@ -11,8 +11,8 @@ use Rattle.oak_gc.specs.declared.collector.Collector.{Collector}
 use Rattle.oak_gc.specs.declared.reading.Step.TheVariants as step
 
 -- a collector after some replies
-abbrev pub after_replies : Collector → List Reply → Collector
-after_replies c rs = fold fed c rs
+abbrev pub collector_after : Collector → List Reply → Collector
+collector_after c rs = fold fed c rs
 
 -- the reply of a cluster node: its head and its pins, or that it is recovered
 abbrev pub node_reply : Option Told → Reply
@@ -30,4 +30,4 @@ those_that_tell nodes = filter_map (λ n. n) nodes
 -- once it is fed these replies, the bound of a collector is the least of all pairs in them, and it asks for the first document
 abbrev pub TakesTheLeast : Type 0
 TakesTheLeast = (a : Global) (root settings : Document) (nodes : List (Option Told))
-    → after_replies (begun a (length nodes)) (bounding_replies root nodes settings) ≡ record (begun a (length nodes)) { bound = bound_of root (those_that_tell nodes) settings; step = step.First }
+    → collector_after (begun a (length nodes)) (bounding_replies root nodes settings) ≡ record (begun a (length nodes)) { bound = bound_of root (those_that_tell nodes) settings; step = step.First }

@@ -150,18 +150,18 @@ going_on c = by c.reading.listed
     by (n ∷ ns) = record c { reading = record c.reading { listed = ns }; step = step.Listed n }
 
 -- what is read of a node's document: its path, itself, its entries that are garbage, and the numbers of the previous documents that it lists
-abbrev pub reading_of : Pin → DocId → Document → Option Reading
-reading_of bound (id.Node p) d = Some (record { at = p; document = d; garbage = garbage_in bound.base bound.sweep d; listed = map (λ e. e.number) d.prev; previous = [] })
-reading_of bound (id.Prev n p) d = None
-reading_of bound id.Settings d = None
+abbrev pub node_reading : Pin → DocId → Document → Option Reading
+node_reading bound (id.Node p) d = Some (record { at = p; document = d; garbage = garbage_in bound.base bound.sweep d; listed = map (λ e. e.number) d.prev; previous = [] })
+node_reading bound (id.Prev n p) d = None
+node_reading bound id.Settings d = None
 
 -- a document is found: behind those of nodes it is done
 abbrev pub found_document : Collector → Document → Collector
-found_document c d = option_map_or (λ r. going_on (record c { reading = r })) (reading_of c.bound d.id d) (record c { step = step.Done })
+found_document c d = option_map_or (λ r. going_on (record c { reading = r })) (node_reading c.bound d.id d) (record c { step = step.Done })
 
 -- with a previous document under its number, where it is there
-abbrev pub with_previous : Reading → ℕ → Option Document → Reading
-with_previous r n found = record r { previous = option_map_or (insert_entry nat_cmp r.previous n) found r.previous }
+abbrev pub with_previous_read : Reading → ℕ → Option Document → Reading
+with_previous_read r n found = record r { previous = option_map_or (insert_entry nat_cmp r.previous n) found r.previous }
 
 -- the last of some documents, and those before it
 abbrev pub last_of : Previous → Option ((ℕ × Document) × Previous)
@@ -181,8 +181,8 @@ abbrev pub garbage_previous : Pin → Reading → Previous
 garbage_previous bound r = filter (λ e. is_garbage_previous bound.base bound.sweep r.document e.1) r.previous
 
 -- the garbage of the document is dropped: next the previous documents that it unlisted
-abbrev pub pruned : Collector → Collector
-pruned c = removing (with_entries (record c { reading = record c.reading { previous = garbage_previous c.bound c.reading } }) (length c.reading.garbage))
+abbrev pub garbage_dropped : Collector → Collector
+garbage_dropped c = removing (with_entries (record c { reading = record c.reading { previous = garbage_previous c.bound c.reading } }) (length c.reading.garbage))
 
 -- what a collector keeps after a reply
 abbrev pub fed : Collector → Reply → Collector
@@ -195,8 +195,8 @@ fed c r = by c.step r
     by step.Settings (reply.Found settings) = record (lowered c (option_map_or kept_pairs settings [])) { step = step.First }
     by step.First (reply.Found found) = option_map_or (found_document c) found (record c { step = step.Done })
     by step.Next (reply.Found found) = option_map_or (found_document c) found (record c { step = step.Done })
-    by (step.Listed n) (reply.Found found) = going_on (record c { reading = with_previous c.reading n found })
-    by step.Prune (reply.Updated before) = pruned c
+    by (step.Listed n) (reply.Found found) = going_on (record c { reading = with_previous_read c.reading n found })
+    by step.Prune (reply.Updated before) = garbage_dropped c
     by step.Prune (reply.Unmet cond (kept.Number found)) = on_next (with_skip c c.reading.document.id c.reading.document.mod_count found)
     by step.Prune reply.Absent = on_next c
     by step.Remove (reply.Removed removal.Removed) = removing (with_document c)

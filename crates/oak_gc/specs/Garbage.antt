@@ -26,8 +26,8 @@ abbrev pub keys_where : {X : Type 0} → (Revision → Bool) → Field → List 
 keys_where test f es = map (λ e. record { field = f; revision = e.0 }) (filter (λ e. test e.0) es)
 
 -- the revisions of all that a document keeps by revision
-abbrev pub revisions_in : Document → List Revision
-revisions_in d =
+abbrev pub revisions_kept : Document → List Revision
+revisions_kept d =
     keys_of d.deleted ++ keys_of d.commit_root ++ keys_of d.revisions ++ keys_of d.collisions ++ keys_of d.touched ++ keys_of d.guard
     ++ flat_map (λ p. keys_of p.1) d.props
 
@@ -61,7 +61,7 @@ module _ (m t : RevVec) where
 
   -- the node is absent at m, m sees all that the document keeps, and t each status
   abbrev pub is_garbage_document : Document → Bool
-  is_garbage_document d = is_absent d && list_all (sees m) (revisions_in d) && list_all (sees t) (keys_of d.revisions)
+  is_garbage_document d = is_absent d && list_all (sees m) (revisions_kept d) && list_all (sees t) (keys_of d.revisions)
 
   -- the update that drops just the garbage entries and these previous documents, where d has the number read
   abbrev pub pruning : Document → List ℕ → UpdateOp

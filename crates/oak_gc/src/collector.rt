@@ -10,7 +10,7 @@ ghost use Rattle.oak_doc.specs.declared.update.Cond.{Cond};
 ghost use Rattle.oak_gc.specs.Asking.{AskForGarbage};
 ghost use Rattle.oak_gc.specs.Bounding.{TakesTheLeast};
 ghost use Rattle.oak_gc.specs.Bounds.{kept_pairs, root_pair};
-ghost use Rattle.oak_gc.specs.Collecting.{begun, behind_node, due, fed, found_document, going_on, lowered, no_pair, on_next, removing, with_document, with_entries, with_previous, with_skip};
+ghost use Rattle.oak_gc.specs.Collecting.{begun, behind_node, due, fed, found_document, going_on, lowered, no_pair, on_next, removing, with_document, with_entries, with_previous_read, with_skip};
 ghost use Rattle.oak_gc.specs.Left.{LeavesNoGarbage};
 ghost use Rattle.oak_gc.specs.Noting.{reading_with};
 ghost use Rattle.oak_gc.specs.Resting.{CollectsByTheLeast, CollectsEach};
@@ -283,7 +283,7 @@ impl Collector {
     // A previous document that the document lists, or none.
     fn feed_listed(&mut self, number: u64, found: Option<Document>) -> Result<(), AllocError>
         ensures ok { OnOk result (self.new
-            ≡ going_on (record self.old { reading = with_previous self.old.reading number found })) }
+            ≡ going_on (record self.old { reading = with_previous_read self.old.reading number found })) }
         ensures err { OnErr result (self.new ≡ self.old) }
     {
         self.reading.note(number, found)?;

@@ -252,7 +252,7 @@ fn later_entry(best: Option<(Revision, bool)>, r: Revision, gone: bool) -> (Revi
 
 // Whether a vector sees all that a document keeps by revision.
 fn are_all_seen(base: &RevVec, document: &Document) -> bool
-    ensures { result ≡ list_all (sees base.now) (gc.revisions_in document.now) }
+    ensures { result ≡ list_all (sees base.now) (gc.revisions_kept document.now) }
 {
     are_seen(base, &document.deleted)
         && are_seen(base, &document.commit_root)

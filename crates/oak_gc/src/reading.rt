@@ -7,7 +7,7 @@ ghost use Rattle.oak_doc.specs.declared.asks.Ask.TheVariants as ask;
 ghost use Rattle.oak_doc.specs.declared.update.Change.TheVariants as change;
 ghost use Rattle.jr_path.specs.declared.path.DocId.TheVariants as id;
 ghost use Rattle.oak_gc.specs.Garbage as gc;
-ghost use Rattle.oak_gc.specs.Collecting.{decided, found_in, garbage_previous, has_garbage_in, last_of, nothing_read, prune_op, reading_of, with_previous};
+ghost use Rattle.oak_gc.specs.Collecting.{decided, found_in, garbage_previous, has_garbage_in, last_of, nothing_read, prune_op, node_reading, with_previous_read};
 ghost use Rattle.oak_gc.specs.Noting.{reading_with, unlisting};
 
 use crate::garbage::{garbage_in, is_garbage_document, is_garbage_previous};
@@ -95,7 +95,7 @@ impl Noted {
         document: &Document,
     ) -> Result<Option<Noted>, AllocError>
         ensures { IfOk result (λ noted. option_map (reading_with document.now) noted
-            ≡ reading_of bound.now document.now.id document.now) }
+            ≡ node_reading bound.now document.now.id document.now) }
     {
         match &document.id {
             DocId::Node(at) => Ok(Some(Noted::at(alloc, bound, at, document)?)),
@@ -105,7 +105,7 @@ impl Noted {
 
     fn at(alloc: Global, bound: &Pin, at: &Path, document: &Document) -> Result<Noted, AllocError>
         ensures { IfOk result (λ noted. Some (reading_with document.now noted)
-            ≡ reading_of bound.now (id.Node at.now) document.now) }
+            ≡ node_reading bound.now (id.Node at.now) document.now) }
     {
         Ok(Noted {
             at: at.copy()?,
@@ -131,7 +131,7 @@ impl Reading {
 
     // Keeps a previous document that was found.
     pub(crate) fn note(&mut self, number: u64, found: Option<Document>) -> Result<(), AllocError>
-        ensures ok { OnOk result (self.new ≡ with_previous self.old number found) }
+        ensures ok { OnOk result (self.new ≡ with_previous_read self.old number found) }
         ensures err { OnErr result (self.new ≡ self.old) }
     {
         match found {

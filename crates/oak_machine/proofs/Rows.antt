@@ -18,7 +18,7 @@ use Rattle.oak_machine.specs.declared.event.Event.TheVariants.{Login, Refresh, D
 use Rattle.oak_machine.specs.declared.event.Journal.{Journal}
 use Rattle.oak_machine.specs.History.{Past, History, history_of}
 use Rattle.oak_machine.specs.Commits.{tree_at}
-use Rattle.oak_machine.specs.Heads.{head_of, next_draw}
+use Rattle.oak_machine.specs.Heads.{head_of, drawn_next}
 use Rattle.oak_machine.specs.Sessions.{base_of}
 use Rattle.oak_machine.specs.Laws.{Starts, Says}
 use Rattle.oak_machine.specs.Marks.{marks_for}
@@ -71,7 +71,7 @@ head_moved = refl
 base_stays : base_of h.past 0 ≡ Some (vector 0)
 base_stays = refl
 
-next : next_draw 1 None h.past 1 ≡ at 2
+next : drawn_next 1 None h.past 1 ≡ at 2
 next = refl
 
 -- a law that lets everything start and be said

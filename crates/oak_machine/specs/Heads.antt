@@ -21,13 +21,13 @@ abbrev pub greater_of : Revision → Revision → Revision
 greater_of a b = cond (is_before a b) b a
 
 -- the greatest of a first revision and some others
-abbrev pub greatest : Revision → List Revision → Revision
-greatest first rs = fold greater_of first rs
+abbrev pub greatest_revision : Revision → List Revision → Revision
+greatest_revision first rs = fold greater_of first rs
 
 -- the greatest of a first revision and some others, where there are others
 abbrev pub greatest_of : Revision → List Revision → Option Revision
 greatest_of first [] = None
-greatest_of first (r ∷ rs) = Some (greatest first (r ∷ rs))
+greatest_of first (r ∷ rs) = Some (greatest_revision first (r ∷ rs))
 
 -- the revisions of cluster node k that are in flight
 abbrev pub flying : Past → ℕ → List Revision
@@ -48,7 +48,7 @@ below_flying past k = filter (is_below_flying past k) (draws_by past k)
 -- the local revision of cluster node k: the greatest that it drew below every one of it in flight,
 -- or what it begins from
 abbrev pub local : Begin → Past → ℕ → Revision
-local begin past k = greatest (begin_of begin k) (below_flying past k)
+local begin past k = greatest_revision (begin_of begin k) (below_flying past k)
 
 -- the greatest revision that cluster node k drew below every one of it in flight, if there is one
 abbrev pub local_head : Begin → Past → ℕ → Option Revision
@@ -62,7 +62,7 @@ outs_of (_ ∷ past) k = outs_of past k
 
 -- the greatest revision that cluster node k has published, or what it begins from
 abbrev pub published : Begin → Past → ℕ → Revision
-published begin past k = greatest (begin_of begin k) (outs_of past k)
+published begin past k = greatest_revision (begin_of begin k) (outs_of past k)
 
 -- what cluster node k has learned last, or the vector at the beginning
 abbrev pub last_in : ℕ → Begin → Past → ℕ → RevVec
@@ -85,5 +85,5 @@ last_draw_time (event.Draw d ∷ past) k = cond (d.revision.cluster == k) d.revi
 last_draw_time (_ ∷ past) k = last_draw_time past k
 
 -- the revision that cluster node k draws next
-abbrev pub next_draw : ℕ → Begin → Past → ℕ → Revision
-next_draw clusters begin past k = record { time = max (greatest_time (head_of clusters begin past k)) (last_draw_time past k) + 1; counter = 0; cluster = k }
+abbrev pub drawn_next : ℕ → Begin → Past → ℕ → Revision
+drawn_next clusters begin past k = record { time = max (greatest_time (head_of clusters begin past k)) (last_draw_time past k) + 1; counter = 0; cluster = k }

@@ -18,7 +18,7 @@ use Rattle.oak_machine.specs.declared.event.Event.{Event}
 use Rattle.oak_machine.specs.declared.event.Event.TheVariants as event
 use Rattle.oak_machine.specs.History.{Begin, History, Past, IsBegun}
 use Rattle.oak_machine.specs.Commits.{is_drawn, is_committed, is_refused, is_in_flight, is_in_base, marks_of, are_clashing}
-use Rattle.oak_machine.specs.Heads.{head_of, is_flying, local, published, next_draw}
+use Rattle.oak_machine.specs.Heads.{head_of, is_flying, local, published, drawn_next}
 use Rattle.oak_machine.specs.Sessions.{base_of, has_login, has_left, has_reader, is_attached, is_drawing, is_recovered, is_stopped, is_stopped_under, kept_checkpoint, next_index, since}
 use Rattle.oak_machine.specs.Laws.{Starts, Says, AreOthers, after}
 
@@ -53,7 +53,7 @@ pub record MayDraw (starts : Starts) (h : History) (d : Draw) : Type 0 where
   pub idle : IsFalse (is_drawing h.past d.session)
   pub base : base_of h.past d.session ≡ Some d.base
   pub cluster : slice_get h.sessions d.session ≡ Some d.revision.cluster
-  pub next : d.revision ≡ next_draw h.clusters h.begin h.past d.revision.cluster
+  pub next : d.revision ≡ drawn_next h.clusters h.begin h.past d.revision.cluster
   pub lawful : starts h d.session d.edit d.marks
 
 -- in flight, neither committed nor refused, and of a cluster node that wasn't stopped

@@ -18,8 +18,8 @@ abbrev pub is_on : History → ℕ → ℕ → Bool
 is_on h s k = option_map_or (λ m. m == k) (slice_get h.sessions s) false
 
 -- the end of r moves the head of its cluster node
-abbrev pub is_moving : History → Revision → Bool
-is_moving h r = not (is_same (local h.begin (event.End r ∷ h.past) r.cluster) (local h.begin h.past r.cluster))
+abbrev pub moves_head : History → Revision → Bool
+moves_head h r = not (is_same (local h.begin (event.End r ∷ h.past) r.cluster) (local h.begin h.past r.cluster))
 
 -- the steps of which a Went may be all that is appended: of the other kinds each step has an event of its own
 abbrev pub leaves_went : StepKind → Bool
@@ -53,8 +53,8 @@ kinds_for h s (event.Refresh t v ∷ []) = where_test (t == s) (kind.Pin ∷ [])
 kinds_for h s (event.Draw d ∷ []) = where_test (d.session == s) (kind.Draw ∷ [])
 kinds_for h s (event.Refuse r item o ∷ []) = where_test (is_revision_of h.past s r) (kind.Mark ∷ kind.Last ∷ [])
 kinds_for h s (event.Commit r ∷ []) = where_test (is_revision_of h.past s r) (kind.Last ∷ [])
-kinds_for h s (event.End r ∷ []) = where_test (is_revision_of h.past s r && not (is_moving h r)) (kind.Finish ∷ [])
-kinds_for h s (event.End r ∷ event.Head k v ∷ []) = where_test (is_revision_of h.past s r && is_moving h r && r.cluster == k) (kind.Finish ∷ [])
+kinds_for h s (event.End r ∷ []) = where_test (is_revision_of h.past s r && not (moves_head h r)) (kind.Finish ∷ [])
+kinds_for h s (event.End r ∷ event.Head k v ∷ []) = where_test (is_revision_of h.past s r && moves_head h r && r.cluster == k) (kind.Finish ∷ [])
 kinds_for h s (event.End r ∷ e ∷ events) = where_test (is_recovery_at h r.cluster (event.End r ∷ e ∷ events)) (kind.Recover ∷ [])
 kinds_for h s (event.Recover k ∷ []) = where_test (is_recovery_at h k (event.Recover k ∷ [])) (kind.Recover ∷ [])
 kinds_for h s (event.Stop k ∷ []) = where_test (not (is_on h s k)) (kind.Stop ∷ [])
@@ -74,31 +74,31 @@ kinds_for h s (event.Went t k ∷ []) = where_test (t == s && leaves_went k) (k 
 kinds_for h s _ = []
 
 -- the number of a kind
-abbrev pub kind_number : StepKind → ℕ
-kind_number kind.Login = 0
-kind_number kind.Pin = 1
-kind_number kind.Read = 2
-kind_number kind.Draw = 3
-kind_number kind.Write = 4
-kind_number kind.Mark = 5
-kind_number kind.Last = 6
-kind_number kind.Undo = 7
-kind_number kind.Finish = 8
-kind_number kind.Back = 9
-kind_number kind.Learn = 10
-kind_number kind.Split = 11
-kind_number kind.Sweep = 12
-kind_number kind.Bound = 13
-kind_number kind.Collect = 14
-kind_number kind.Settings = 15
-kind_number kind.Say = 16
-kind_number kind.End = 17
-kind_number kind.Stop = 18
-kind_number kind.Recover = 19
+abbrev pub step_number : StepKind → ℕ
+step_number kind.Login = 0
+step_number kind.Pin = 1
+step_number kind.Read = 2
+step_number kind.Draw = 3
+step_number kind.Write = 4
+step_number kind.Mark = 5
+step_number kind.Last = 6
+step_number kind.Undo = 7
+step_number kind.Finish = 8
+step_number kind.Back = 9
+step_number kind.Learn = 10
+step_number kind.Split = 11
+step_number kind.Sweep = 12
+step_number kind.Bound = 13
+step_number kind.Collect = 14
+step_number kind.Settings = 15
+step_number kind.Say = 16
+step_number kind.End = 17
+step_number kind.Stop = 18
+step_number kind.Recover = 19
 
 -- two kinds of steps are equal, by their numbers
 abbrev pub is_kind : StepKind → StepKind → Bool
-is_kind a b = kind_number a == kind_number b
+is_kind a b = step_number a == step_number b
 
 -- a step of s of that kind appends these events to the history, and no others; a reading step none
 abbrev pub is_appended_by : History → ℕ → StepKind → List Event → Bool

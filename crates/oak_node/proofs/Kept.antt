@@ -17,7 +17,7 @@ use Rattle.oak_node.specs.declared.drawn.Drawn.{Drawn}
 use Rattle.oak_node.specs.declared.pending.Note.{Note}
 use Rattle.oak_node.specs.Changes.{oldest_own}
 use Rattle.oak_node.specs.Memory.{NodeState, AreKept, IsMemory, last_draw, own_entry, revisions_in, begins_in_flight}
-use Rattle.oak_node.specs.Heads.{greatest_time, known_time, local_from, with_end}
+use Rattle.oak_node.specs.Heads.{latest_time, known_time, local_from, with_end}
 use Rattle.oak_node.proofs.Changes.{kept_draw, kept_rise, kept_since, oldest_is}
 use Rattle.oak_node.proofs.Owns.{entry-with_entry, with_entry_same, entry_time}
 use Rattle.oak_node.proofs.Rests.{rises_ended, All-with_end, local_from-has, rest_rises}
@@ -63,8 +63,8 @@ earlier_all : (ds : List Drawn) (t : ℕ) (q : Revision) → t < q.time → AllB
 earlier_all [] t q h all = tt
 earlier_all (d ∷ ds) t q h all = (before_less d.revision q (time_before d.revision q (let le = all.0 in omega arith)), earlier_all ds t q h all.1)
 
-own_time : (s : NodeState) → IsMemory s → (own_entry s).time ≤ greatest_time s.head
-own_time s is = subst (λ (o : Option Revision). option_map_or (λ r. r.time) o 0 ≤ greatest_time s.head) is.own (entry_time s.head s.cluster is.low is.high)
+own_time : (s : NodeState) → IsMemory s → (own_entry s).time ≤ latest_time s.head
+own_time s is = subst (λ (o : Option Revision). option_map_or (λ r. r.time) o 0 ≤ latest_time s.head) is.own (entry_time s.head s.cluster is.low is.high)
 
 flies_push : (ds : List Drawn) (r : Revision) → begins_in_flight ds ≡ true → begins_in_flight (ds ++ record { revision = r; ended = false } ∷ []) ≡ true
 flies_push [] r h = refl

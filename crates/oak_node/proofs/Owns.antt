@@ -7,7 +7,7 @@ use Rattle.std.proofs.lemmas.Bool.{cases_lt}
 use Rattle.jr_rev.specs.declared.revision.Revision.{Revision}
 use Rattle.jr_rev.specs.Vectors.{Entries, entry, with_entry}
 use Rattle.jr_rev.proofs.Bounds.{entry_at}
-use Rattle.oak_node.specs.Heads.{greatest_time}
+use Rattle.oak_node.specs.Heads.{latest_time}
 
 -- an entry that is there stands within the vector
 entry_within : (v : Entries) (k : ℕ) (e : Revision) → get_or v k None ≡ Some e → k < length v
@@ -48,11 +48,11 @@ fold_each f a [] = tt
 fold_each f a (k ∷ ks) = (let h = fold_least f (max a (f k)) ks in omega arith, fold_each f (max a (f k)) ks)
 
 -- no entry is later than the greatest time
-pub entry_time : (v : Entries) (k : ℕ) → 1 ≤ k → k ≤ 8 → option_map_or (λ r. r.time) (entry v k) 0 ≤ greatest_time v
+pub entry_time : (v : Entries) (k : ℕ) → 1 ≤ k → k ≤ 8 → option_map_or (λ r. r.time) (entry v k) 0 ≤ latest_time v
 entry_time v k low high = by k low high (fold_each (λ j. option_map_or (λ r. r.time) (entry v j) 0) 0 (1 ∷ 2 ∷ 3 ∷ 4 ∷ 5 ∷ 6 ∷ 7 ∷ 8 ∷ []))
   where
     at : ℕ → Type 0
-    at j = option_map_or (λ r. r.time) (entry v j) 0 ≤ greatest_time v
+    at j = option_map_or (λ r. r.time) (entry v j) 0 ≤ latest_time v
 
     by : (j : ℕ) → 1 ≤ j → j ≤ 8 → AllByRecursion at (1 ∷ 2 ∷ 3 ∷ 4 ∷ 5 ∷ 6 ∷ 7 ∷ 8 ∷ []) → at j
     by zero l h all = absurd (omega arith)

@@ -8,7 +8,7 @@ use Rattle.jr_rev.specs.declared.revision.Revision.{Revision}
 use Rattle.jr_rev.specs.Revisions.{revision_cmp, is_before}
 use Rattle.oak_node.specs.declared.drawn.Drawn.{Drawn}
 use Rattle.oak_node.specs.Memory.{revisions_in, begins_in_flight}
-use Rattle.oak_node.specs.Heads.{greater_of, flying_in, local_from}
+use Rattle.oak_node.specs.Heads.{later_draw, flying_in, local_from}
 use Rattle.oak_node.proofs.Rising.{less_before, not_before_back, not_before_itself, before_along}
 
 -- each of these revisions is after r
@@ -40,7 +40,7 @@ all_of : (r : Revision) (ds : List Drawn) → Follows r (revisions_in ds) → li
 all_of r [] h = refl
 all_of r (d ∷ ds) h = all_step r d ds d.ended (less_before r d.revision h.0) (all_of r ds h.1)
 
-greater_after : (a b : Revision) → is_before a b ≡ true → greater_of a b ≡ b
+greater_after : (a b : Revision) → is_before a b ≡ true → later_draw a b ≡ b
 greater_after a b h = rw h refl
 
 none_of : (r : Revision) (rs flying : List Revision) → Follows r rs → filter (λ q. list_all (is_before q) (r ∷ flying)) rs ≡ []
@@ -52,7 +52,7 @@ past : (e r : Revision) (ds : List Drawn) → is_before e r ≡ true → Follows
 past e r ds h k =
     let P : Revision → Bool = λ q. list_all (is_before q) (flying_in ds) in
     let kept : filter P (r ∷ revisions_in ds) ≡ r ∷ filter P (revisions_in ds) = cond-true (P r) (r ∷ filter P (revisions_in ds)) (filter P (revisions_in ds)) (all_of r ds k) in
-    ap (λ qs. fold greater_of e qs) kept ∙ ap (λ q. fold greater_of q (filter P (revisions_in ds))) (greater_after e r h)
+    ap (λ qs. fold later_draw e qs) kept ∙ ap (λ q. fold later_draw q (filter P (revisions_in ds))) (greater_after e r h)
 
 -- nothing moves past one in flight
 at_flight : (e r : Revision) (ds : List Drawn) → Follows r (revisions_in ds) → local_from e (record { revision = r; ended = false } ∷ ds) ≡ e

@@ -6,7 +6,7 @@ use Rattle.std.proofs.lemmas.Bool.Decides.{nat_tests}
 use Rattle.std.proofs.lemmas.List.Sums.{fold_more}
 use Rattle.jr_rev.specs.declared.revision.Revision.{Revision}
 use Rattle.jr_rev.specs.Vectors.{Entries, entry}
-use Rattle.oak_node.specs.Heads.{greatest_time}
+use Rattle.oak_node.specs.Heads.{latest_time}
 
 pub ord_max-nat : (a b : ℕ) → ord_max nat_cmp a b ≡ max a b
 ord_max-nat a b = grind (arith, nat_tests)
@@ -25,6 +25,6 @@ time_none v ks i t u h is there now =
     now ∙ (same ∙ (ap (λ x. max x 0) is ∙ (ap (λ o. max (time_among v (take i ks)) (option_map_or (λ q. q.time) o 0)) there ∙ sym (fold_more (λ time k. max time (option_map_or (λ q. q.time) (entry v k) 0)) 0 ks i 0 h))))
 
 -- the greatest time of a vector with eight entries, entry by entry
-pub times_of_eight : (v : Entries) → length v ≡ 8 → greatest_time v ≡ fold (λ time e. max time (option_map_or (λ r. r.time) e 0)) 0 v
+pub times_of_eight : (v : Entries) → length v ≡ 8 → latest_time v ≡ fold (λ time e. max time (option_map_or (λ r. r.time) e 0)) 0 v
 times_of_eight (a ∷ b ∷ c ∷ d ∷ e ∷ f ∷ g ∷ h ∷ []) eight = refl
 times_of_eight _ eight = absurd (omega (arith, eight))

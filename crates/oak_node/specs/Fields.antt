@@ -3,8 +3,8 @@ use Rattle.oak_node.specs.declared.memory.NodeMem.TheInside.{Inside}
 use Rattle.oak_node.specs.Memory.{NodeState}
 
 -- the state of a cluster node, from the fields of its memory
-abbrev pub state_of : Inside → NodeState
-state_of m = record {
+abbrev pub memory_state : Inside → NodeState
+memory_state m = record {
   cluster = m.cluster;
   head = m.head;
   sweep = m.sweep;

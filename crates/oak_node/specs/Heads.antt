@@ -13,12 +13,12 @@ use Rattle.oak_node.specs.Memory.{NodeState, own_entry, revisions_in}
 -- ---- draws
 
 -- the greatest time in a vector
-abbrev pub greatest_time : Entries → ℕ
-greatest_time v = fold (λ time k. max time (option_map_or (λ r. r.time) (entry v k) 0)) 0 (1 ∷ 2 ∷ 3 ∷ 4 ∷ 5 ∷ 6 ∷ 7 ∷ 8 ∷ [])
+abbrev pub latest_time : Entries → ℕ
+latest_time v = fold (λ time k. max time (option_map_or (λ r. r.time) (entry v k) 0)) 0 (1 ∷ 2 ∷ 3 ∷ 4 ∷ 5 ∷ 6 ∷ 7 ∷ 8 ∷ [])
 
 -- the greatest time that the node knows
 abbrev pub known_time : NodeState → ℕ
-known_time s = max (greatest_time s.head) s.last_time
+known_time s = max (latest_time s.head) s.last_time
 
 -- the revision that the node draws next
 abbrev pub next_draw : NodeState → Revision
@@ -43,8 +43,8 @@ abbrev pub last_drawn : Revision → List Drawn → Revision
 last_drawn e drawn = fold (λ last d. d.revision) e drawn
 
 -- the greater of two revisions
-abbrev pub greater_of : Revision → Revision → Revision
-greater_of a b = cond (is_before a b) b a
+abbrev pub later_draw : Revision → Revision → Revision
+later_draw a b = cond (is_before a b) b a
 
 -- those of the drawn revisions that are in flight
 abbrev pub flying_in : List Drawn → List Revision
@@ -52,7 +52,7 @@ flying_in drawn = revisions_in (filter (λ d. not d.ended) drawn)
 
 -- the greatest of e and the drawn revisions that are below every one in flight
 abbrev pub local_from : Revision → List Drawn → Revision
-local_from e drawn = fold greater_of e (filter (λ r. list_all (is_before r) (flying_in drawn)) (revisions_in drawn))
+local_from e drawn = fold later_draw e (filter (λ r. list_all (is_before r) (flying_in drawn)) (revisions_in drawn))
 
 -- r is ended
 abbrev pub with_end : List Drawn → Revision → List Drawn

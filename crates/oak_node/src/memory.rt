@@ -5,7 +5,7 @@ ghost use Rattle.jr_rev.specs.Revisions.{is_before};
 ghost use Rattle.jr_rev.specs.Vectors.{entry};
 ghost use Rattle.oak_node.specs.Changes.{changed_since, known_from, oldest_own};
 ghost use Rattle.oak_node.specs.Memory.{IsMemory, begun, own_entry};
-ghost use Rattle.oak_node.specs.Heads.{greatest_time, known_time, next_draw, with_draw, finished, learned};
+ghost use Rattle.oak_node.specs.Heads.{latest_time, known_time, next_draw, with_draw, finished, learned};
 ghost use Rattle.oak_node.specs.Heads.{IsInFlight, HasEnded, IsAwaited};
 ghost use Rattle.oak_node.specs.Pins.{pin_of, pin_now, with_pin, without_pin};
 ghost use Rattle.oak_node.specs.Notes.{notes_of, with_notes, without_seen, IsPending};
@@ -77,11 +77,11 @@ impl Model for NodeMem {
 
     ghost Value = { NodeState };
 
-    ghost use Rattle.oak_node.specs.Fields.{state_of};
+    ghost use Rattle.oak_node.specs.Fields.{memory_state};
 
-    ghost view = { state_of };
+    ghost view = { memory_state };
 
-    ghost invariant = { λ m. IsMemory (state_of m) };
+    ghost invariant = { λ m. IsMemory (memory_state m) };
 }
 
 impl NodeMem {
@@ -426,7 +426,7 @@ fn put_drawn(
 
 // The greatest time in a vector.
 fn greatest_time(vector: &RevVec) -> u64
-    ensures { result ≡ greatest_time vector.now }
+    ensures { result ≡ latest_time vector.now }
 {
     let mut time = 0;
     for cluster in [1, 2, 3, 4, 5, 6, 7, 8] {

@@ -20,7 +20,7 @@ use Rattle.jr_path.specs.declared.name.Name.{Name}
 use Rattle.jr_path.specs.declared.path.Item.{Item}
 use Rattle.oak_clash.specs.declared.mark.Mark.{Mark}
 use Rattle.oak_clash.specs.declared.mark.Mark.TheVariants.{Prop}
-use Rattle.oak_clash.specs.Clashes.{item_of}
+use Rattle.oak_clash.specs.Clashes.{marked_item}
 use Rattle.jr_rev.specs.declared.revision.Revision.{Revision}
 
 tied : (o : Ordering) → is_eq o ≡ true → o ≡ Equal
@@ -38,11 +38,11 @@ same_names m n r e = (
 )
 
 -- the item of a property
-pub is_property : (m n : Name) (mark : Mark) (item : Item) (r : Bool) → r ≡ eq_by_cmp name_cmp m n → mark ≡ Prop m → item.name ≡ Some n → Decides r (item_of item.path mark ≡ item)
+pub is_property : (m n : Name) (mark : Mark) (item : Item) (r : Bool) → r ≡ eq_by_cmp name_cmp m n → mark ≡ Prop m → item.name ≡ Some n → Decides r (marked_item item.path mark ≡ item)
 is_property m n mark item r e marked named =
     let d = same_names m n r e in (
-      λ t. ap (item_of item.path) marked ∙ ap (λ (x : Option Name). record { path = item.path; name = x }) (ap Some (d.0 t) ∙ sym named),
-      λ p. d.1 (ap (λ (x : Option Name). unwrap_or x m) (ap (λ (i : Item). i.name) (sym (ap (item_of item.path) marked) ∙ p) ∙ named)),
+      λ t. ap (marked_item item.path) marked ∙ ap (λ (x : Option Name). record { path = item.path; name = x }) (ap Some (d.0 t) ∙ sym named),
+      λ p. d.1 (ap (λ (x : Option Name). unwrap_or x m) (ap (λ (i : Item). i.name) (sym (ap (marked_item item.path) marked) ∙ p) ∙ named)),
     )
 
 abbrev pub same_revision : Revision → Revision → Bool

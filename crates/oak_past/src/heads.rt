@@ -4,7 +4,7 @@ ghost use Rattle.std.specs.Option.{option_map_or};
 ghost use Rattle.jr_rev.specs.Vectors.{entry};
 ghost use Rattle.oak_machine.specs.Runs.{IsNode, learned};
 ghost use Rattle.oak_machine.specs.History.{begin_at, begin_of, history_of};
-ghost use Rattle.oak_machine.specs.Heads.{below_flying, greater_of, greatest_time, head_of, is_below_flying, is_flying, last_draw_time, last_in, local, local_head, next_draw, published};
+ghost use Rattle.oak_machine.specs.Heads.{below_flying, greater_of, greatest_time, head_of, is_below_flying, is_flying, last_draw_time, last_in, local, local_head, drawn_next, published};
 
 use crate::past::is_in_flight;
 use jr_rev::{RevVec, Revision};
@@ -231,7 +231,7 @@ fn time_at(vector: &RevVec, cluster: u32) -> u64
 pub(crate) fn is_next_draw(journal: &Journal, events: &[Event], r: Revision) -> bool
     requires eight { journal.now.clusters ≤ 8 }
     requires node { IsNode journal.now.clusters r.cluster }
-    ensures { IsTrue result ↔ (r ≡ next_draw journal.now.clusters journal.now.start (reverse events.now) r.cluster) }
+    ensures { IsTrue result ↔ (r ≡ drawn_next journal.now.clusters journal.now.start (reverse events.now) r.cluster) }
 {
     let head = head_of(journal, events, r.cluster);
     let known = greatest_time(&head).max(last_draw_time(events, r.cluster));

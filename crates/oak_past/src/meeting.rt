@@ -4,7 +4,7 @@ ghost use Rattle.std.specs.Option.{option_copied};
 ghost use Rattle.std.specs.Ordering.{eq_by_cmp};
 ghost use Rattle.std.specs.List.{list_any};
 ghost use Rattle.jr_path.specs.Names.{path_cmp};
-ghost use Rattle.oak_clash.specs.Clashes.{Meets, clash, clashing, earlier_of, is_earlier, item_of, marks_at};
+ghost use Rattle.oak_clash.specs.Clashes.{Meets, clash, clashing, earlier_of, is_earlier, marked_item, marks_at};
 ghost use Rattle.oak_machine.specs.Tests.{first_met};
 
 use jr_path::{Item, Path};
@@ -52,7 +52,7 @@ pub(crate) fn meets(ours: &[MarkAt], others: &[MarkAt], item: &Item) -> bool
 
 // Whether the item is that of a mark at its path.
 fn is_item_of(mark: &Mark, item: &Item) -> bool
-    ensures { IsTrue result ↔ (item_of item.now.path mark.now ≡ item.now) }
+    ensures { IsTrue result ↔ (marked_item item.now.path mark.now ≡ item.now) }
 {
     match (mark, &item.name) {
         (Mark::Prop(name), Some(other)) => name == other,

@@ -147,8 +147,8 @@ abbrev pub SeesAllOf : RevVec → RevVec → Type 0
 SeesAllOf v u = (r : Revision) → IsTrue (sees u r) → IsTrue (sees v r)
 
 -- the session is of cluster node k
-abbrev pub IsOn : History → ℕ → ℕ → Type 0
-IsOn h s k = slice_get h.sessions s ≡ Some k
+abbrev pub IsSessionOn : History → ℕ → ℕ → Type 0
+IsSessionOn h s k = slice_get h.sessions s ≡ Some k
 
 -- the head of the cluster node of r sees r
 abbrev pub is_in_head : History → Revision → Bool
@@ -176,7 +176,7 @@ Makes h s (Starting (task.Commit edit marks)) (out.Went k) own now =
     (d : Draw) × IsDrawFor s edit marks d × (k ≡ kind.Draw) × (own ≡ event.Draw d ∷ [])
     × (now ≡ Writing d.revision)
 Makes h s (Starting task.BackWrite) (out.Went k) own now =
-    (m : ℕ) × IsOn h s m × (k ≡ kind.Back) × (own ≡ event.Went s kind.Back ∷ [])
+    (m : ℕ) × IsSessionOn h s m × (k ≡ kind.Back) × (own ≡ event.Went s kind.Back ∷ [])
     × (now ≡ Publishing (local h.begin h.past m))
 Makes h s (Starting task.BackRead) (out.Went k) own now =
     (v : RevVec) × IsPublic h v × (k ≡ kind.Back) × (own ≡ event.Went s kind.Back ∷ [])
@@ -204,10 +204,10 @@ Makes h s (Starting t) out.Memory own now = (own ≡ []) × (now ≡ Idle)
 Makes h s (Publishing r) (out.Went k) own now =
     (k ≡ kind.Back) × (own ≡ event.Went s kind.Back ∷ []) × (now ≡ Publishing r)
 Makes h s (Publishing r) (out.Ready (end.Published o)) own now =
-    (m : ℕ) × IsOn h s m × (o ≡ r) × (own ≡ event.Out m r ∷ []) × (now ≡ Idle)
+    (m : ℕ) × IsSessionOn h s m × (o ≡ r) × (own ≡ event.Out m r ∷ []) × (now ≡ Idle)
 Makes h s (Publishing r) out.Memory own now = (own ≡ []) × (now ≡ Idle)
 Makes h s (Learning u) (out.Ready (end.Learnt v)) own now =
-    (m : ℕ) × IsOn h s m × SeesAllOf v u × (own ≡ event.In m v ∷ []) × (now ≡ Idle)
+    (m : ℕ) × IsSessionOn h s m × SeesAllOf v u × (own ≡ event.In m v ∷ []) × (now ≡ Idle)
 Makes h s (Learning u) out.Memory own now = (own ≡ []) × (now ≡ Idle)
 Makes h s (Detaching v) (out.Ready (end.Pinned pin)) own now =
     (pin.base ≡ v) × (own ≡ event.Detach s ∷ []) × (now ≡ Idle)

@@ -28,13 +28,13 @@ use Rattle.oak_read.specs.Meaning.{Documents, documents_in, commit_root_of, is_c
 use Rattle.oak_read.specs.Reading.{with_known}
 use Rattle.oak_read.specs.Wanted.{Known, Ids}
 use Rattle.oak_read.proofs.Walking.{Within, noted_at, own_id, same_id, within_noted}
-use Rattle.oak_prev.specs.Moving.{documents_known, entries_of, key_of, listed_by, moved_entries, revisions_of}
+use Rattle.oak_prev.specs.Moving.{documents_known, entries_of, entry_key, listing_entry, moved_entries, revisions_of}
 use Rattle.oak_prev.proofs.Entries.{keys_are, listed_are}
-use Rattle.oak_prev.specs.Resting.{EndsIn, SplitsWhatMoves, answer, end_of, is_last, split_end}
+use Rattle.oak_prev.specs.Resting.{SplitEndsIn, SplitsWhatMoves, splitter_answer, end_of, is_last, split_end}
 use Rattle.oak_prev.specs.Splits.{entry_from, listed_as, moved_count, older, older_values}
-use Rattle.oak_prev.specs.Splitting.{begun, due, fed, fed_read, going_on, settled}
+use Rattle.oak_prev.specs.Splitting.{begun, due, fed, fed_read, on_next_root, statuses_known}
 use Rattle.oak_prev.specs.declared.splitter.Step.{Step}
-use Rattle.oak_prev.specs.Wanted.{asked_of, asked_roots, is_asked, roots_wanted, with_root}
+use Rattle.oak_prev.specs.Wanted.{asked_of, asked_roots, is_asked, roots_wanted, with_other_id}
 use Rattle.oak_prev.specs.declared.splitter.Splitter.{Splitter}
 use Rattle.oak_prev.specs.declared.splitter.Step.TheVariants as step
 
@@ -105,16 +105,16 @@ module _ (ds known : Documents) (pin : Pin) (d : Document) where
   entries_agree all = entries_by d.props all
 
   pub count_agrees : AllByRecursion Agree (asked_roots pin d d.props) → moved_count known pin d ≡ moved_count ds pin d
-  count_agrees all = ap (λ ks. length ks) (sym (keys_are known pin d)) ∙ ap (λ es. length (map key_of es)) (entries_agree all) ∙ ap (λ ks. length ks) (keys_are ds pin d)
+  count_agrees all = ap (λ ks. length ks) (sym (keys_are known pin d)) ∙ ap (λ es. length (map entry_key es)) (entries_agree all) ∙ ap (λ ks. length ks) (keys_are ds pin d)
 
   pub listing_agrees : AllByRecursion Agree (asked_roots pin d d.props) → listed_as known pin d ≡ listed_as ds pin d
-  listing_agrees all = sym (listed_are known pin d) ∙ ap (λ es. listed_by d.mod_count (revisions_of es)) (entries_agree all) ∙ listed_are ds pin d
+  listing_agrees all = sym (listed_are known pin d) ∙ ap (λ es. listing_entry d.mod_count (revisions_of es)) (entries_agree all) ∙ listed_are ds pin d
 
 -- the number under which a previous document is listed is the one that was read
 number_is : (ds : Documents) (pin : Pin) (d : Document) (e : PrevEntry) → listed_as ds pin d ≡ Some e → e.number ≡ d.mod_count
 number_is ds pin d e is = by (keys_of (revisions_of (moved_entries ds pin d))) refl (listed_are ds pin d ∙ is)
   where
-    by : (rs : List Revision) → keys_of (revisions_of (moved_entries ds pin d)) ≡ rs → listed_by d.mod_count (revisions_of (moved_entries ds pin d)) ≡ Some e → e.number ≡ d.mod_count
+    by : (rs : List Revision) → keys_of (revisions_of (moved_entries ds pin d)) ≡ rs → listing_entry d.mod_count (revisions_of (moved_entries ds pin d)) ≡ Some e → e.number ≡ d.mod_count
     by [] is_r h = let no : None ≡ Some e = rw is_r at h in cc
     by (r ∷ rs) is_r h = let some : Some (entry_from d.mod_count r rs) ≡ Some e = rw is_r at h in cc
 
@@ -130,7 +130,7 @@ named_found (e ∷ es) all x d h = by (eq_by_cmp id_cmp x e.0) refl h (λ h'. na
 -- ---- the steps of a splitter
 
 module _ (table : List (DocId × Document)) (a : Global) (pin : Pin) (p : Path) where
-  ends_after : (s : Splitter) (o : SplitEnd) → EndsIn table (fed s (answer table (due s))) o → EndsIn table s o
+  ends_after : (s : Splitter) (o : SplitEnd) → SplitEndsIn table (fed s (splitter_answer table (due s))) o → SplitEndsIn table s o
   ends_after s o e = (suc e.0, e.1)
 
   abbrev ds : Documents
@@ -177,31 +177,31 @@ module _ (table : List (DocId × Document)) (a : Global) (pin : Pin) (p : Path) 
     some_cond true x o h = refl
     some_cond false x o h = h
 
-    stays : (x y : DocId) (left : Ids) → is_some (lookup (is_at (id_cmp x)) left) ≡ true → is_some (lookup (is_at (id_cmp x)) (with_root d left y)) ≡ true
+    stays : (x y : DocId) (left : Ids) → is_some (lookup (is_at (id_cmp x)) left) ≡ true → is_some (lookup (is_at (id_cmp x)) (with_other_id d left y)) ≡ true
     stays x y left h = by (eq_by_cmp id_cmp y d.id)
       where
         by : (b : Bool) → is_some (lookup (is_at (id_cmp x)) (cond b left (insert_entry id_cmp left y tt))) ≡ true
         by true = h
         by false = ap (λ o. is_some o) (lookup-insert_entry id_cmp id_total x y tt left) ∙ some_cond (eq_by_cmp id_cmp x y) tt (lookup (is_at (id_cmp x)) left) h
 
-    stays_behind : (x : DocId) (ys : List DocId) (left : Ids) → is_some (lookup (is_at (id_cmp x)) left) ≡ true → is_some (lookup (is_at (id_cmp x)) (fold (with_root d) left ys)) ≡ true
+    stays_behind : (x : DocId) (ys : List DocId) (left : Ids) → is_some (lookup (is_at (id_cmp x)) left) ≡ true → is_some (lookup (is_at (id_cmp x)) (fold (with_other_id d) left ys)) ≡ true
     stays_behind x [] left h = h
-    stays_behind x (y ∷ ys) left h = stays_behind x ys (with_root d left y) (stays x y left h)
+    stays_behind x (y ∷ ys) left h = stays_behind x ys (with_other_id d left y) (stays x y left h)
 
-    taken_up : (x : DocId) (left : Ids) → Covered [] (with_root d left x) x
+    taken_up : (x : DocId) (left : Ids) → Covered [] (with_other_id d left x) x
     taken_up x left = by (eq_by_cmp id_cmp x d.id) refl
       where
         by : (b : Bool) → eq_by_cmp id_cmp x d.id ≡ b → Alike [] x ⊎ (is_some (lookup (is_at (id_cmp x)) (cond b left (insert_entry id_cmp left x tt))) ≡ true)
         by true e = inl (own_alike [] x e)
         by false e = inr (ap (λ o. is_some o) (lookup-insert_entry id_cmp id_total x x tt left) ∙ ap (λ b. is_some (cond b (Some tt) (lookup (is_at (id_cmp x)) left))) (own_id x))
 
-    each_covered : (xs : List DocId) (left : Ids) → AllByRecursion (Covered [] (fold (with_root d) left xs)) xs
+    each_covered : (xs : List DocId) (left : Ids) → AllByRecursion (Covered [] (fold (with_other_id d) left xs)) xs
     each_covered [] left = tt
-    each_covered (x ∷ xs) left = (by (taken_up x left), each_covered xs (with_root d left x))
+    each_covered (x ∷ xs) left = (by (taken_up x left), each_covered xs (with_other_id d left x))
       where
-        by : Covered [] (with_root d left x) x → Covered [] (fold (with_root d) (with_root d left x) xs) x
+        by : Covered [] (with_other_id d left x) x → Covered [] (fold (with_other_id d) (with_other_id d left x) xs) x
         by (inl h) = inl h
-        by (inr h) = inr (stays_behind x xs (with_root d left x) h)
+        by (inr h) = inr (stays_behind x xs (with_other_id d left x) h)
 
     none_left : (roots : Known) (x : DocId) → Covered roots [] x → Alike roots x
     none_left roots x (inl h) = h
@@ -209,7 +209,7 @@ module _ (table : List (DocId × Document)) (a : Global) (pin : Pin) (p : Path) 
 
     -- the updates, and how they end
     updates_end : (roots : Known) (asked : DocId) (left : Ids) (e : PrevEntry) (n : ℕ) → e.number ≡ d.mod_count
-        → EndsIn table (reading roots asked left (step.Previous e n)) (cond (is_none (documents_in table (id.Prev d.mod_count p))) (cond (is_last d.mod_count) (end.Skipped d.mod_count d.mod_count) (end.Split n)) (end.Split 0))
+        → SplitEndsIn table (reading roots asked left (step.Previous e n)) (cond (is_none (documents_in table (id.Prev d.mod_count p))) (cond (is_last d.mod_count) (end.Skipped d.mod_count d.mod_count) (end.Split n)) (end.Split 0))
     updates_end roots asked left e n number = by (documents_in table (id.Prev d.mod_count p)) refl
       where
         place : id.Prev d.mod_count (path_of d.id) ≡ id.Prev d.mod_count p
@@ -224,30 +224,30 @@ module _ (table : List (DocId × Document)) (a : Global) (pin : Pin) (p : Path) 
         goal : Option Document → SplitEnd
         goal o = cond (is_none o) (cond (is_last d.mod_count) (end.Skipped d.mod_count d.mod_count) (end.Split n)) (end.Split 0)
 
-        by : (o : Option Document) → documents_in table (id.Prev d.mod_count p) ≡ o → EndsIn table (reading roots asked left (step.Previous e n)) (goal o)
+        by : (o : Option Document) → documents_in table (id.Prev d.mod_count p) ≡ o → SplitEndsIn table (reading roots asked left (step.Previous e n)) (goal o)
         by (Some x) h = ends_after (reading roots asked left (step.Previous e n)) (end.Split 0) (rw (place, h) (zero, refl))
         by None h =
             ends_after (reading roots asked left (step.Previous e n)) (goal None)
             (rw (place, h) (ends_after (reading roots asked left (step.Main e n)) (goal None) (last (is_last d.mod_count) refl)))
           where
-            last : (b : Bool) → is_last d.mod_count ≡ b → EndsIn table (fed (reading roots asked left (step.Main e n)) (answer table (due (reading roots asked left (step.Main e n))))) (cond b (end.Skipped d.mod_count d.mod_count) (end.Split n))
+            last : (b : Bool) → is_last d.mod_count ≡ b → SplitEndsIn table (fed (reading roots asked left (step.Main e n)) (splitter_answer table (due (reading roots asked left (step.Main e n))))) (cond b (end.Skipped d.mod_count d.mod_count) (end.Split n))
             last true is = rw (mine, same_number, is, number) (ends_after (reading roots asked left (step.Find d.mod_count (end.Skipped d.mod_count d.mod_count))) (end.Skipped d.mod_count d.mod_count) (rw h (zero, refl)))
             last false is = rw (mine, same_number, is) (zero, refl)
 
-    settled_end : (roots : Known) (asked : DocId) (left : Ids) (st : Step) → AllByRecursion (Alike roots) (asked_roots pin d d.props) → EndsIn table (settled (reading roots asked left st)) (end_of ds pin p d)
+    settled_end : (roots : Known) (asked : DocId) (left : Ids) (st : Step) → AllByRecursion (Alike roots) (asked_roots pin d d.props) → SplitEndsIn table (statuses_known (reading roots asked left st)) (end_of ds pin p d)
     settled_end roots asked left st alike =
         let listing = listing_agrees ds (documents_known d roots) pin d alike in
         let count = count_agrees ds (documents_known d roots) pin d alike in
         rw (listing, count) (by (listed_as ds pin d) refl)
       where
         by : (o : Option PrevEntry) → listed_as ds pin d ≡ o
-            → EndsIn table (option_map_or (λ e. reading roots asked left (step.Previous e (moved_count ds pin d))) o (reading roots asked left (step.Done (end.Split 0))))
+            → SplitEndsIn table (option_map_or (λ e. reading roots asked left (step.Previous e (moved_count ds pin d))) o (reading roots asked left (step.Done (end.Split 0))))
             (cond (is_some o && is_none (ds (id.Prev d.mod_count p))) (cond (is_last d.mod_count) (end.Skipped d.mod_count d.mod_count) (end.Split (moved_count ds pin d))) (end.Split 0))
         by None is = (zero, refl)
         by (Some e) is = updates_end roots asked left e (moved_count ds pin d) (number_is ds pin d e is)
 
     -- the commit roots that are left are read one after another
-    roots_end : (left : Ids) (roots : Known) (asked : DocId) (st : Step) → Within table roots → AllByRecursion (Covered roots left) (asked_roots pin d d.props) → EndsIn table (going_on (reading roots asked left st)) (end_of ds pin p d)
+    roots_end : (left : Ids) (roots : Known) (asked : DocId) (st : Step) → Within table roots → AllByRecursion (Covered roots left) (asked_roots pin d d.props) → SplitEndsIn table (on_next_root (reading roots asked left st)) (end_of ds pin p d)
     roots_end [] roots asked st within covered = settled_end roots asked [] st (all_of (Covered roots []) (Alike roots) (none_left roots) (asked_roots pin d d.props) covered)
     roots_end (x ∷ xs) roots asked st within covered =
         ends_after (reading roots x.0 xs step.Root) (end_of ds pin p d)
@@ -257,13 +257,13 @@ module _ (table : List (DocId × Document)) (a : Global) (pin : Pin) (p : Path) 
     nothing_known : Within table []
     nothing_known x d h = cc
 
-    read_end : EndsIn table (fed_read (begun a pin p) d) (end_of ds pin p d)
+    read_end : SplitEndsIn table (fed_read (begun a pin p) d) (end_of ds pin p d)
     read_end = roots_end (roots_wanted pin d) [] id.Settings step.Read nothing_known (each_covered (asked_roots pin d d.props) [])
 
 pub splits_what_moves : SplitsWhatMoves
 splits_what_moves table a pin p is = ends_after table a pin p (begun a pin p) (split_end (documents_in table) pin p) (by (documents_in table (id.Node p)) refl)
   where
     by : (o : Option Document) → documents_in table (id.Node p) ≡ o
-        → EndsIn table (option_map_or (fed_read (begun a pin p)) o (record (begun a pin p) { step = step.Done (end.Split 0) })) (option_map_or (end_of (documents_in table) pin p) o (end.Split 0))
+        → SplitEndsIn table (option_map_or (fed_read (begun a pin p)) o (record (begun a pin p) { step = step.Done (end.Split 0) })) (option_map_or (end_of (documents_in table) pin p) o (end.Split 0))
     by None none = (zero, refl)
     by (Some d) there = read_end table a pin p d there (named_found table (recursion_from_All _ table is.named) (id.Node p) d there)

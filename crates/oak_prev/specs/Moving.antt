@@ -42,24 +42,24 @@ abbrev pub moved_entries : Documents → Pin → Document → List Entry
 moved_entries ds pin d = flat_map (λ p. entries_of p.0 (older_values ds pin d p.1)) d.props
 
 -- as the key by which it is dropped
-abbrev pub key_of : Entry → EntryKey
-key_of e = record { field = field.Prop e.0; revision = e.1 }
+abbrev pub entry_key : Entry → EntryKey
+entry_key e = record { field = field.Prop e.0; revision = e.1 }
 
 -- as the change that writes it
-abbrev pub change_of : Entry → Change
-change_of e = change.Prop e.0 e.1 e.2
+abbrev pub writing_change : Entry → Change
+writing_change e = change.Prop e.0 e.1 e.2
 
 -- the revisions of some entries, as a set
 abbrev pub revisions_of : List Entry → List (Revision × Bool)
 revisions_of es = fold (λ rs e. insert_entry revision_cmp rs e.1 true) [] es
 
 -- the depths of the commit roots of some revisions
-abbrev pub roots_of : List (Revision × Bool) → List (Revision × ℕ) → List (Revision × ℕ)
-roots_of rs es = filter (λ e. list_any (is_same e.0) (keys_of rs)) es
+abbrev pub root_depths : List (Revision × Bool) → List (Revision × ℕ) → List (Revision × ℕ)
+root_depths rs es = filter (λ e. list_any (is_same e.0) (keys_of rs)) es
 
 -- how a previous document with these revisions is listed, by the number that was read, if there is one
-abbrev pub listed_by : ℕ → List (Revision × Bool) → Option PrevEntry
-listed_by n rs = by (keys_of rs)
+abbrev pub listing_entry : ℕ → List (Revision × Bool) → Option PrevEntry
+listing_entry n rs = by (keys_of rs)
   where
     by : List Revision → Option PrevEntry
     by [] = None

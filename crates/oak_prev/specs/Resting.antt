@@ -31,19 +31,19 @@ update_reply before (Err fault.Absent) = reply.Absent
 update_reply before (Err fault.Memory) = reply.NoMemory
 
 -- what documents answer a splitter that reads and updates each of them once, before its update
-abbrev pub answer : List (DocId × Document) → Ask → Reply
-answer table (ask.Find x) = reply.Found (documents_in table x)
-answer table (ask.Update op) = update_reply (documents_in table op.id) (updated (documents_in table op.id) op 0)
-answer table _ = reply.Found None
+abbrev pub splitter_answer : List (DocId × Document) → Ask → Reply
+splitter_answer table (ask.Find x) = reply.Found (documents_in table x)
+splitter_answer table (ask.Update op) = update_reply (documents_in table op.id) (updated (documents_in table op.id) op 0)
+splitter_answer table _ = reply.Found None
 
 -- a splitter after n replies of such documents, each to what is due
-abbrev pub after_replies : List (DocId × Document) → ℕ → Splitter → Splitter
-after_replies table zero s = s
-after_replies table (suc n) s = after_replies table n (fed s (answer table (due s)))
+abbrev pub splitter_after : List (DocId × Document) → ℕ → Splitter → Splitter
+splitter_after table zero s = s
+splitter_after table (suc n) s = splitter_after table n (fed s (splitter_answer table (due s)))
 
 -- after some replies it ends so
-abbrev pub EndsIn : List (DocId × Document) → Splitter → SplitEnd → Type 0
-EndsIn table s o = (n : ℕ) × ((after_replies table n s).step ≡ step.Done o)
+abbrev pub SplitEndsIn : List (DocId × Document) → Splitter → SplitEnd → Type 0
+SplitEndsIn table s o = (n : ℕ) × ((splitter_after table n s).step ≡ step.Done o)
 
 -- the number is the last one, on which no update is made
 abbrev pub is_last : ℕ → Bool
@@ -59,4 +59,4 @@ split_end ds pin p = option_map_or (end_of ds pin p) (ds (id.Node p)) (end.Split
 
 -- over such documents a splitter ends with the count of what moves by their meaning
 abbrev pub SplitsWhatMoves : Type 0
-SplitsWhatMoves = (table : List (DocId × Document)) (a : Global) (pin : Pin) (p : Path) → IsTable table → EndsIn table (begun a pin p) (split_end (documents_in table) pin p)
+SplitsWhatMoves = (table : List (DocId × Document)) (a : Global) (pin : Pin) (p : Path) → IsTable table → SplitEndsIn table (begun a pin p) (split_end (documents_in table) pin p)

@@ -26,12 +26,12 @@ use Rattle.oak_prev.specs.declared.splitter.Step.{Step}
 use Rattle.oak_prev.specs.declared.splitter.Step.TheVariants as step
 
 -- what a splitter knows before it has read the document
-abbrev pub nothing_read : Reading
-nothing_read = record { document = document_of None id.Settings; roots = [] }
+abbrev pub unread_splitter : Reading
+unread_splitter = record { document = document_of None id.Settings; roots = [] }
 
 -- a splitter of the document of the node at a path, at a pin
 abbrev pub begun : Global → Pin → Path → Splitter
-begun a pin p = record { alloc = a; pin = pin; path = p; reading = nothing_read; asked = id.Settings; left = []; step = step.Read }
+begun a pin p = record { alloc = a; pin = pin; path = p; reading = unread_splitter; asked = id.Settings; left = []; step = step.Read }
 
 -- the documents that a splitter knows
 abbrev pub known : Splitter → Documents
@@ -55,45 +55,45 @@ due s = due_at s.step
 -- ---- what it keeps
 
 -- it has ended
-abbrev pub ended : Splitter → SplitEnd → Splitter
-ended s o = record s { step = step.Done o }
+abbrev pub split_ended : Splitter → SplitEnd → Splitter
+split_ended s o = record s { step = step.Done o }
 
 -- each status is known: next the previous document is written, where something moves
-abbrev pub settled : Splitter → Splitter
-settled s = option_map_or (λ e. record s { step = step.Previous e (moved_count (known s) s.pin s.reading.document) }) (listed_as (known s) s.pin s.reading.document) (ended s (end.Split 0))
+abbrev pub statuses_known : Splitter → Splitter
+statuses_known s = option_map_or (λ e. record s { step = step.Previous e (moved_count (known s) s.pin s.reading.document) }) (listed_as (known s) s.pin s.reading.document) (split_ended s (end.Split 0))
 
 -- next the first of the commit roots that are left to be asked for, and behind all of them what moves
-abbrev pub going_on : Splitter → Splitter
-going_on s = by s.left
+abbrev pub on_next_root : Splitter → Splitter
+on_next_root s = by s.left
   where
     by : Ids → Splitter
-    by [] = settled s
+    by [] = statuses_known s
     by (x ∷ xs) = record s { asked = x.0; left = xs; step = step.Root }
 
 -- the document is there: next the status of what it may move
 abbrev pub fed_read : Splitter → Document → Splitter
-fed_read s d = going_on (record s { reading = record { document = d; roots = [] }; left = roots_wanted s.pin d })
+fed_read s d = on_next_root (record s { reading = record { document = d; roots = [] }; left = roots_wanted s.pin d })
 
 -- a commit root, or none, was found
-abbrev pub fed_root : Splitter → Option Document → Splitter
-fed_root s found = going_on (record s { reading = record s.reading { roots = with_known s.reading.roots s.asked found } })
+abbrev pub fed_commit_root : Splitter → Option Document → Splitter
+fed_commit_root s found = on_next_root (record s { reading = record s.reading { roots = with_known s.reading.roots s.asked found } })
 
 -- next the previous document of a number is removed again, and then the splitter ends so
-abbrev pub undoing : Splitter → ℕ → SplitEnd → Splitter
-undoing s k o = record s { step = step.Find k o }
+abbrev pub removing_copy : Splitter → ℕ → SplitEnd → Splitter
+removing_copy s k o = record s { step = step.Find k o }
 
 -- what a splitter keeps after a reply
 abbrev pub fed : Splitter → Reply → Splitter
 fed s r = by s.step r
   where
     by : Step → Reply → Splitter
-    by step.Read (reply.Found found) = option_map_or (fed_read s) found (ended s (end.Split 0))
-    by step.Root (reply.Found found) = fed_root s found
+    by step.Read (reply.Found found) = option_map_or (fed_read s) found (split_ended s (end.Split 0))
+    by step.Root (reply.Found found) = fed_commit_root s found
     by (step.Previous e n) (reply.Updated before) = record s { step = step.Main e n }
-    by (step.Previous e n) (reply.Unmet cond k) = ended s (end.Split 0)
-    by (step.Main e n) (reply.Updated before) = ended s (end.Split n)
-    by (step.Main e n) (reply.Unmet cond (kept.Number found)) = undoing s e.number (end.Skipped e.number found)
-    by (step.Main e n) reply.Absent = undoing s e.number (end.Split 0)
-    by (step.Find k o) (reply.Found found) = option_map_or (λ d. record s { step = step.Remove k d.mod_count o }) found (ended s o)
-    by (step.Remove k found o) (reply.Removed out) = ended s o
+    by (step.Previous e n) (reply.Unmet cond k) = split_ended s (end.Split 0)
+    by (step.Main e n) (reply.Updated before) = split_ended s (end.Split n)
+    by (step.Main e n) (reply.Unmet cond (kept.Number found)) = removing_copy s e.number (end.Skipped e.number found)
+    by (step.Main e n) reply.Absent = removing_copy s e.number (end.Split 0)
+    by (step.Find k o) (reply.Found found) = option_map_or (λ d. record s { step = step.Remove k d.mod_count o }) found (split_ended s o)
+    by (step.Remove k found o) (reply.Removed out) = split_ended s o
     by _ _ = s

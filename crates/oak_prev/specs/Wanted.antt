@@ -15,8 +15,8 @@ use Rattle.oak_read.specs.Meaning.{commit_root_of}
 use Rattle.oak_read.specs.Wanted.{Ids}
 
 -- an id more, but for that of the document itself
-abbrev pub with_root : Document → Ids → DocId → Ids
-with_root d ids x = cond (eq_by_cmp id_cmp x d.id) ids (insert_entry id_cmp ids x tt)
+abbrev pub with_other_id : Document → Ids → DocId → Ids
+with_other_id d ids x = cond (eq_by_cmp id_cmp x d.id) ids (insert_entry id_cmp ids x tt)
 
 module _ (pin : Pin) where
   -- only its commit root tells whether an entry that the base sees is committed
@@ -33,4 +33,4 @@ module _ (pin : Pin) where
 
   -- each once, in store order, but for the document itself
   abbrev pub roots_wanted : Document → Ids
-  roots_wanted d = fold (with_root d) [] (asked_roots d d.props)
+  roots_wanted d = fold (with_other_id d) [] (asked_roots d d.props)

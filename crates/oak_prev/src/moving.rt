@@ -4,7 +4,7 @@ ghost use Rattle.std.specs.List.{list_any};
 ghost use Rattle.std.specs.Map.{keys_of};
 ghost use Rattle.jr_rev.specs.Revisions.{is_same};
 ghost use Rattle.oak_doc.specs.declared.update.Change.TheVariants as change;
-ghost use Rattle.oak_prev.specs.Moving.{change_of, entry_of, key_of, listed_by, revisions_of, roots_of};
+ghost use Rattle.oak_prev.specs.Moving.{writing_change, entry_of, entry_key, listing_entry, revisions_of, root_depths};
 
 use jr_path::{DeepCopy, Keyed, List, Name};
 use jr_rev::Revision;
@@ -22,7 +22,7 @@ pub(crate) struct Moved<'a> {
 
 // The keys by which entries are dropped.
 pub(crate) fn entry_keys(alloc: Global, moved: &[Moved<'_>]) -> Result<List<EntryKey>, AllocError>
-    ensures { IfOk result (λ keys. keys ≡ map key_of (map entry_of moved.now)) }
+    ensures { IfOk result (λ keys. keys ≡ map entry_key (map entry_of moved.now)) }
 {
     let mut keys = List::new(alloc);
     for entry in moved {
@@ -50,7 +50,7 @@ pub(crate) fn revisions_of(
 
 // How a previous document with these revisions is listed, if there is one.
 pub(crate) fn listed_by(number: u64, revisions: &Keyed<Revision, bool>) -> Option<PrevEntry>
-    ensures { result ≡ listed_by number revisions.now }
+    ensures { result ≡ listing_entry number revisions.now }
 {
     let revisions = revisions.inner();
     match (revisions.first_key_value(), revisions.last_key_value()) {
@@ -70,7 +70,7 @@ pub(crate) fn put_roots(
     roots: &Keyed<Revision, u32>,
 ) -> Result<(), AllocError>
     ensures { OnOk result (changes.new ≡ changes.old
-        ++ map (λ e. change.CommitRoot e.0 e.1) (roots_of revisions.now roots.now)) }
+        ++ map (λ e. change.CommitRoot e.0 e.1) (root_depths revisions.now roots.now)) }
 {
     for (r, depth) in roots.iter() {
         if is_among(revisions, *r) {
@@ -89,7 +89,7 @@ fn is_among(revisions: &Keyed<Revision, bool>, r: Revision) -> bool
 
 // Puts the entries.
 pub(crate) fn put_entries(changes: &mut List<Change>, moved: &[Moved<'_>]) -> Result<(), AllocError>
-    ensures { OnOk result (changes.new ≡ changes.old ++ map change_of (map entry_of moved.now)) }
+    ensures { OnOk result (changes.new ≡ changes.old ++ map writing_change (map entry_of moved.now)) }
 {
     for entry in moved {
         changes.push(Change::Prop(entry.name.copy()?, entry.revision, entry.value.copy()?))?;

@@ -6,8 +6,8 @@ ghost use Rattle.jr_rev.specs.Vectors.{sees};
 ghost use Rattle.oak_read.specs.Meaning.{commit_root_of, is_committed, path_of};
 ghost use Rattle.oak_prev.specs.Moving.{documents_known, entries_of, entry_of, moved_entries};
 ghost use Rattle.oak_prev.specs.Splits as splits;
-ghost use Rattle.oak_prev.specs.Splitting.{nothing_read};
-ghost use Rattle.oak_prev.specs.Wanted.{asked_of, is_asked, roots_wanted, with_root};
+ghost use Rattle.oak_prev.specs.Splitting.{unread_splitter};
+ghost use Rattle.oak_prev.specs.Wanted.{asked_of, is_asked, roots_wanted, with_other_id};
 
 use crate::moving::{Moved, entry_keys, listed_by, put_entries, put_roots, revisions_of};
 use jr_path::{DeepCopy, DocId, Keyed, List, Name, Path};
@@ -59,7 +59,7 @@ fn add_roots(
     values: &Values,
     roots: &mut Keyed<DocId, ()>,
 ) -> Result<(), AllocError>
-    ensures { OnOk result (roots.new ≡ fold (with_root document.now) roots.old
+    ensures { OnOk result (roots.new ≡ fold (with_other_id document.now) roots.old
         (map (commit_root_of document.now) (asked_of pin.now values.now))) }
 {
     if values.len() <= 1 {
@@ -75,7 +75,7 @@ fn add_roots(
 
 // Adds an id, but for that of the document itself.
 fn add_root(document: &Document, id: DocId, roots: &mut Keyed<DocId, ()>) -> Result<(), AllocError>
-    ensures { OnOk result (roots.new ≡ with_root document.now roots.old id) }
+    ensures { OnOk result (roots.new ≡ with_other_id document.now roots.old id) }
 {
     if id == document.id {
         return Ok(());
@@ -103,7 +103,7 @@ fn path_of(alloc: Global, id: &DocId) -> Result<Path, AllocError>
 impl Reading {
     // What is known before the document is read. It takes no memory.
     pub(crate) fn nothing(alloc: Global) -> Reading
-        ensures { result ≡ nothing_read }
+        ensures { result ≡ unread_splitter }
     {
         Reading {
             document: Document::empty(alloc, DocId::Settings),

@@ -9,7 +9,7 @@ ghost use Rattle.oak_doc.specs.declared.asks.SplitEnd.TheVariants as end;
 ghost use Rattle.oak_doc.specs.declared.document.Document.{Document};
 ghost use Rattle.oak_doc.specs.declared.update.Cond.{Cond};
 ghost use Rattle.oak_prev.specs.Resting.{SplitsWhatMoves};
-ghost use Rattle.oak_prev.specs.Splitting.{begun, due, ended, fed, fed_read, fed_root, going_on, settled};
+ghost use Rattle.oak_prev.specs.Splitting.{begun, due, split_ended, fed, fed_read, fed_commit_root, on_next_root, statuses_known};
 ghost use Rattle.oak_prev.specs.Stages.{stage_of};
 ghost use Rattle.oak_prev.specs.declared.splitter.Step.TheVariants as step;
 
@@ -194,7 +194,7 @@ impl Splitter {
     // The document that is to be split, or none.
     fn feed_read(&mut self, found: Option<Document>) -> Result<(), AllocError>
         ensures ok { OnOk result (self.new ≡ option_map_or (fed_read self.old) found
-            (ended self.old (end.Split 0))) }
+            (split_ended self.old (end.Split 0))) }
         ensures err { OnErr result (self.new ≡ self.old) }
     {
         let Some(document) = found else {
@@ -220,7 +220,7 @@ impl Splitter {
 
     // A commit root, or none.
     fn feed_root(&mut self, found: Option<Document>) -> Result<(), AllocError>
-        ensures ok { OnOk result (self.new ≡ fed_root self.old found) }
+        ensures ok { OnOk result (self.new ≡ fed_commit_root self.old found) }
         ensures err { OnErr result (self.new ≡ self.old) }
     {
         match found {
@@ -231,7 +231,7 @@ impl Splitter {
 
     // Keeps a commit root that was found, and goes on; one that is known isn't kept.
     fn note(&mut self, document: Document) -> Result<(), AllocError>
-        ensures ok { OnOk result (self.new ≡ fed_root self.old (Some document)) }
+        ensures ok { OnOk result (self.new ≡ fed_commit_root self.old (Some document)) }
         ensures err { OnErr result (self.new ≡ self.old) }
     {
         if self.reading.roots.contains(&self.asked) {
@@ -248,7 +248,7 @@ impl Splitter {
 
     // The first of the commit roots that are left, or what moves.
     fn go_on(&mut self) -> Result<(), AllocError>
-        ensures ok { OnOk result (self.new ≡ going_on self.old) }
+        ensures ok { OnOk result (self.new ≡ on_next_root self.old) }
         ensures err { OnErr result (self.new ≡ self.old) }
     {
         match self.left.inner_mut().pop_first() {
@@ -263,7 +263,7 @@ impl Splitter {
 
     // Each status is known: next the previous document is written, where something moves.
     fn settle(&mut self) -> Result<(), AllocError>
-        ensures ok { OnOk result (self.new ≡ settled self.old) }
+        ensures ok { OnOk result (self.new ≡ statuses_known self.old) }
         ensures err { OnErr result (self.new ≡ self.old) }
     {
         self.step = next_step(self.reading.listed_as(self.alloc, &self.pin)?);

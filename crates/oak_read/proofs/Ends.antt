@@ -30,7 +30,7 @@ use Rattle.jr_rev.specs.declared.vector.Pin.{Pin}
 use Rattle.oak_doc.specs.declared.document.Document.{Document}
 use Rattle.oak_read.specs.Meaning.{documents_in, path_of, child_found, found_node, found_children}
 use Rattle.oak_read.specs.Wanted.{Known}
-use Rattle.oak_read.specs.Reading.{IsTable, EndsIn, ReadsNode, ReadsChildren, child_at, children_reader, ended, fed_main, fed_next, node_reader, noted, settled, with_known}
+use Rattle.oak_read.specs.Reading.{IsTable, EndsIn, ReadsNode, ReadsChildren, child_path_in, children_reader, ended, fed_main, fed_next, node_reader, noted, settled, with_known}
 use Rattle.oak_read.specs.declared.reader.Reader.{Reader}
 use Rattle.oak_read.specs.declared.reader.ReadOut.{ReadOut}
 use Rattle.oak_read.specs.declared.reader.ReadOut.TheVariants as out
@@ -293,7 +293,7 @@ module _ (table : Entries) (is : IsTable table) (a : Global) (pin : Pin) (p : Pa
   walk (e ∷ more) known names q within from at =
       ends_after table (reader known names q step.Next) (out.Children (names ++ found (e ∷ more)))
       (subst (λ (es : Entries). EndsIn table (fed_next (reader known names q step.Next) (option_map (λ e. e.1) (slice_get es 0))) (out.Children (names ++ found (e ∷ more)))) (sym at)
-      (subst (λ x. EndsIn table (option_map_or (λ q'. settled (noted (reader known names q' step.Next) x (Some e.1))) (child_at (Some p) x) (ended (reader known names q step.Next))) (out.Children (names ++ found (e ∷ more)))) (sym id_is)
+      (subst (λ x. EndsIn table (option_map_or (λ q'. settled (noted (reader known names q' step.Next) x (Some e.1))) (child_path_in (Some p) x) (ended (reader known names q step.Next))) (out.Children (names ++ found (e ∷ more)))) (sym id_is)
       (by e.0 refl (λ known' names' q' within' from' at'. walk more known' names' q' within' from' at'))))
     where
       Going : Type 0
@@ -328,14 +328,14 @@ module _ (table : Entries) (is : IsTable table) (a : Global) (pin : Pin) (p : Pa
           (inr (subst (λ x. id_cmp least x ≡ Less) same above)) (subst (λ x. behind x table ≡ more) same next.behind_it)))
           begun.0 begun.1)
 
-      by : (x : DocId) → e.0 ≡ x → Going → EndsIn table (option_map_or (λ q'. settled (noted (reader known names q' step.Next) e.0 (Some e.1))) (child_at (Some p) e.0) (ended (reader known names q step.Next))) (out.Children (names ++ found (e ∷ more)))
+      by : (x : DocId) → e.0 ≡ x → Going → EndsIn table (option_map_or (λ q'. settled (noted (reader known names q' step.Next) e.0 (Some e.1))) (child_path_in (Some p) e.0) (ended (reader known names q step.Next))) (out.Children (names ++ found (e ∷ more)))
       by (id.Node q') same go = at_node (is_child_of p q') refl
         where
-          at_node : (b : Bool) → is_child_of p q' ≡ b → EndsIn table (option_map_or (λ q'. settled (noted (reader known names q' step.Next) e.0 (Some e.1))) (child_at (Some p) e.0) (ended (reader known names q step.Next))) (out.Children (names ++ found (e ∷ more)))
-          at_node true is_child = subst (λ o. EndsIn table (option_map_or (λ q'. settled (noted (reader known names q' step.Next) e.0 (Some e.1))) o (ended (reader known names q step.Next))) (out.Children (names ++ found (e ∷ more)))) (sym (ap (child_at (Some p)) same ∙ ap (λ b. cond b (Some q') None) is_child)) (one_more q' same is_child go)
-          at_node false is_child = subst (λ o. EndsIn table (option_map_or (λ q'. settled (noted (reader known names q' step.Next) e.0 (Some e.1))) o (ended (reader known names q step.Next))) (out.Children (names ++ found (e ∷ more)))) (sym (ap (child_at (Some p)) same ∙ ap (λ b. cond b (Some q') None) is_child)) (past (λ q'' same'. let both : id.Node q' ≡ id.Node q'' = sym same ∙ same' in let one : q' ≡ q'' = cc in subst (λ q. is_child_of p q ≡ false) one is_child))
-      by (id.Prev n q') same go = subst (λ o. EndsIn table (option_map_or (λ q'. settled (noted (reader known names q' step.Next) e.0 (Some e.1))) o (ended (reader known names q step.Next))) (out.Children (names ++ found (e ∷ more)))) (sym (ap (child_at (Some p)) same)) (past (λ q'' same'. let both : id.Prev n q' ≡ id.Node q'' = sym same ∙ same' in cc))
-      by id.Settings same go = subst (λ o. EndsIn table (option_map_or (λ q'. settled (noted (reader known names q' step.Next) e.0 (Some e.1))) o (ended (reader known names q step.Next))) (out.Children (names ++ found (e ∷ more)))) (sym (ap (child_at (Some p)) same)) (past (λ q'' same'. let both : id.Settings ≡ id.Node q'' = sym same ∙ same' in cc))
+          at_node : (b : Bool) → is_child_of p q' ≡ b → EndsIn table (option_map_or (λ q'. settled (noted (reader known names q' step.Next) e.0 (Some e.1))) (child_path_in (Some p) e.0) (ended (reader known names q step.Next))) (out.Children (names ++ found (e ∷ more)))
+          at_node true is_child = subst (λ o. EndsIn table (option_map_or (λ q'. settled (noted (reader known names q' step.Next) e.0 (Some e.1))) o (ended (reader known names q step.Next))) (out.Children (names ++ found (e ∷ more)))) (sym (ap (child_path_in (Some p)) same ∙ ap (λ b. cond b (Some q') None) is_child)) (one_more q' same is_child go)
+          at_node false is_child = subst (λ o. EndsIn table (option_map_or (λ q'. settled (noted (reader known names q' step.Next) e.0 (Some e.1))) o (ended (reader known names q step.Next))) (out.Children (names ++ found (e ∷ more)))) (sym (ap (child_path_in (Some p)) same ∙ ap (λ b. cond b (Some q') None) is_child)) (past (λ q'' same'. let both : id.Node q' ≡ id.Node q'' = sym same ∙ same' in let one : q' ≡ q'' = cc in subst (λ q. is_child_of p q ≡ false) one is_child))
+      by (id.Prev n q') same go = subst (λ o. EndsIn table (option_map_or (λ q'. settled (noted (reader known names q' step.Next) e.0 (Some e.1))) o (ended (reader known names q step.Next))) (out.Children (names ++ found (e ∷ more)))) (sym (ap (child_path_in (Some p)) same)) (past (λ q'' same'. let both : id.Prev n q' ≡ id.Node q'' = sym same ∙ same' in cc))
+      by id.Settings same go = subst (λ o. EndsIn table (option_map_or (λ q'. settled (noted (reader known names q' step.Next) e.0 (Some e.1))) o (ended (reader known names q step.Next))) (out.Children (names ++ found (e ∷ more)))) (sym (ap (child_path_in (Some p)) same)) (past (λ q'' same'. let both : id.Settings ≡ id.Node q'' = sym same ∙ same' in cc))
 
   no_document_no_child : documents_in table least ≡ None → child least ≡ None
   no_document_no_child none =

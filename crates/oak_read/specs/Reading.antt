@@ -92,10 +92,10 @@ settled r = by r.step
     by (step.Done o) = r
 
 -- the path of the node whose document it is, where that is a child
-abbrev pub child_at : Option Path → DocId → Option Path
-child_at (Some p) (id.Node q) = cond (is_child_of p q) (Some q) None
-child_at (Some p) _ = None
-child_at None x = None
+abbrev pub child_path_in : Option Path → DocId → Option Path
+child_path_in (Some p) (id.Node q) = cond (is_child_of p q) (Some q) None
+child_path_in (Some p) _ = None
+child_path_in None x = None
 
 -- a reader behind the answer to its question for the node's document
 abbrev pub fed_main : Reader → Option Document → Reader
@@ -105,7 +105,7 @@ fed_main r (Some d) = settled (noted r (id.Node r.at) (Some d))
 -- a reader behind the answer to its question for the next child's document
 abbrev pub fed_next : Reader → Option Document → Reader
 fed_next r None = ended r
-fed_next r (Some d) = option_map_or (λ q. settled (noted (record r { at = q }) d.id (Some d))) (child_at r.parent d.id) (ended r)
+fed_next r (Some d) = option_map_or (λ q. settled (noted (record r { at = q }) d.id (Some d))) (child_path_in r.parent d.id) (ended r)
 
 -- what a reader keeps after a reply
 abbrev pub fed : Reader → Reply → Reader

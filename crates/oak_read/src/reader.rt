@@ -6,7 +6,7 @@ ghost use Rattle.jr_path.specs.declared.path.DocId.TheVariants.{Node as node_id}
 ghost use Rattle.jr_path.specs.Ids.{id_cmp};
 ghost use Rattle.oak_read.specs.Meaning.{child_found, documents_in};
 ghost use Rattle.oak_read.specs.Kept.{child_noted, node_read};
-ghost use Rattle.oak_read.specs.Reading.{ReadsChildren, ReadsNode, child_at, children_reader, due, ended, fed, fed_main, fed_next, node_reader, noted, on_main, on_previous, on_roots, passed_by, settled};
+ghost use Rattle.oak_read.specs.Reading.{ReadsChildren, ReadsNode, child_path_in, children_reader, due, ended, fed, fed_main, fed_next, node_reader, noted, on_main, on_previous, on_roots, passed_by, settled};
 ghost use Rattle.oak_doc.specs.declared.asks.Ask.TheVariants as ask;
 ghost use Rattle.oak_doc.specs.declared.asks.Reply.TheVariants.{Found};
 ghost use Rattle.oak_read.specs.declared.reader.Step.TheVariants.{Done};
@@ -246,7 +246,7 @@ impl Reader {
 
     // The path of the node whose document it is, where that is a child.
     fn child_at(&self, id: &DocId) -> Result<Option<Path>, AllocError>
-        ensures { IfOk result (λ at. at ≡ child_at self.now.parent id.now) }
+        ensures { IfOk result (λ at. at ≡ child_path_in self.now.parent id.now) }
     {
         match (&self.parent, id) {
             (Some(parent), DocId::Node(at)) => {

@@ -23,8 +23,8 @@ use Rattle.oak_doc.specs.declared.document.Document.{Document}
 use Rattle.oak_doc.specs.Updates.{of_revision}
 use Rattle.oak_read.specs.Meaning.{Documents, commit_root_of, is_committed}
 use Rattle.oak_read.specs.Wanted.{Ids}
-use Rattle.oak_recover.specs.Dead.{Revisions, dead_in, entries_in, is_after, revisions_after, with_after, with_each}
-use Rattle.oak_recover.specs.Reading.{Doubts, answered, doubts_in, is_confirmed, read_of, roots_of, with_other}
+use Rattle.oak_recover.specs.Dead.{Revisions, dead_in, field_revisions, is_after, revisions_after, with_after, with_each}
+use Rattle.oak_recover.specs.Reading.{Doubts, root_answered, doubts_in, is_confirmed, read_of, roots_of, with_other}
 use Rattle.oak_recover.specs.declared.reading.Reading.{Reading}
 
 pub never : {A : Type 0} → false ≡ true → A
@@ -142,7 +142,7 @@ module _ (k : ℕ) (l : Revision) where
 
   pub revisions_ascend : (d : Document) → IsStrictlySortedBy revision_cmp (keys_of (revisions_after k l d))
   unfolding IsStrictlySortedBy
-  revisions_ascend d = all_ascend (entries_in d) [] empty
+  revisions_ascend d = all_ascend (field_revisions d) [] empty
     where
       none : Revisions
       none = []
@@ -233,7 +233,7 @@ value_in (f ∷ es) e (inr i) = inr (value_in es e i)
 module _ (ds : Documents) where
   -- a commit root is asked
   abbrev pub asking : Reading → DocId × Unit {0} → Reading
-  asking s x = answered (record s { asked = x.0 }) x.0 (ds x.0)
+  asking s x = root_answered (record s { asked = x.0 }) x.0 (ds x.0)
 
   -- its commit root has it
   abbrev pub confirmed : Revision × DocId → Bool

@@ -34,9 +34,9 @@ use Rattle.oak_read.specs.Wanted.{Ids}
 use Rattle.oak_sync.specs.Publishing.{back_op}
 use Rattle.oak_sync.specs.Upward.{AreUpward}
 use Rattle.oak_recover.specs.Dead.{dead_in}
-use Rattle.oak_recover.specs.Ending.{EndsBy, IsRun, RecoversAll, answer, dead, documents_of_nodes, latest_in, noted, published, undone_at, undone_by, with_latest}
+use Rattle.oak_recover.specs.Ending.{EndsBy, IsRecoveryRun, RecoversAll, recovery_answer, dead, documents_of_nodes, latest_in, noted, published, undone_at, undone_by, with_latest}
 use Rattle.oak_recover.specs.Reading.{Doubts, read_of}
-use Rattle.oak_recover.specs.Recovering.{begun, due, fed, fed_next, going_on, of_node, one_more, passed, published_in, told, undoing, upto_after, upto_told}
+use Rattle.oak_recover.specs.Recovering.{begun, due, fed, fed_next, on_next_status, node_document, one_more, passed, published_in, document_told, undoing, upto_after, upto_told}
 use Rattle.oak_recover.specs.declared.entries.After.{After}
 use Rattle.oak_recover.specs.declared.reading.Reading.{Reading}
 use Rattle.oak_recover.specs.declared.recovery.Recovery.{Recovery}
@@ -182,7 +182,7 @@ counted_all (u ∷ us) n h = counted_all us (one_more n) (omega (arith, h)) ∙ 
 counted_first : (us : List (DocId × Revision)) → counted us 0 ≡ min (length us) (2 ^ 64 - 1)
 counted_first us = counted_all us 0 (omega arith) ∙ omega arith
 
-module _ (table : Entries) (is : reading.IsTable table) (t : RevVec) (k : ℕ) (first : Recovery) (run : ℕ → Recovery) (runs : IsRun table first run) where
+module _ (table : Entries) (is : reading.IsTable table) (t : RevVec) (k : ℕ) (first : Recovery) (run : ℕ → Recovery) (runs : IsRecoveryRun table first run) where
   -- the first document's revisions that are looked at, and whose
   abbrev looks : After
   looks = record { cluster = k; last = published table t k }
@@ -191,9 +191,9 @@ module _ (table : Entries) (is : reading.IsTable table) (t : RevVec) (k : ℕ) (
   abbrev Ends : Recovery → List (DocId × Revision) → List Path → Revision → ℕ → Type 0
   Ends s us ps u c = (n : ℕ) → run n ≡ s → (m : ℕ) × (due (run m) ≡ ask.Done) × (undone_by run m ≡ undone_by run n ++ us) × ((run m).noted ≡ ps) × AreUpward (run m).noted (run m).paths × ((run m).upto ≡ u) × ((run m).undone ≡ c)
 
-  one_step : (s e : Recovery) (us : List (DocId × Revision)) (ps : List Path) (u : Revision) (c : ℕ) → ((up : List Path) → fed up s (answer table (due s)) ≡ e) → Ends e us ps u c → Ends s (undone_at s ++ us) ps u c
+  one_step : (s e : Recovery) (us : List (DocId × Revision)) (ps : List Path) (u : Revision) (c : ℕ) → ((up : List Path) → fed up s (recovery_answer table (due s)) ≡ e) → Ends e us ps u c → Ends s (undone_at s ++ us) ps u c
   one_step s e us ps u c goes ends n at =
-      let next : run (suc n) ≡ e = (runs.next n).fed ∙ (ap (λ (x : Recovery). fed (run (suc n)).paths x (answer table (due x))) at ∙ goes (run (suc n)).paths) in
+      let next : run (suc n) ≡ e = (runs.next n).fed ∙ (ap (λ (x : Recovery). fed (run (suc n)).paths x (recovery_answer table (due x))) at ∙ goes (run (suc n)).paths) in
       let v = ends (suc n) next in
       (v.0, v.1, v.2 ∙ (ap (λ (x : Recovery). (undone_by run n ++ undone_at x) ++ us) at ∙ append_assoc (undone_by run n) (undone_at s) us), v.3, v.4, v.5, v.6)
 
@@ -238,11 +238,11 @@ module _ (table : Entries) (is : reading.IsTable table) (t : RevVec) (k : ℕ) (
       gone_on : Recovery
       gone_on = record s { written = s.written + 1; step = cond (nat_lt (s.written + 1) (length s.paths)) step.Back step.Settings }
 
-      goes : (p : Path) → slice_get s.paths s.written ≡ Some p → (up : List Path) → fed up (record s { step = step.Back }) (answer table (due (record s { step = step.Back }))) ≡ gone_on
+      goes : (p : Path) → slice_get s.paths s.written ≡ Some p → (up : List Path) → fed up (record s { step = step.Back }) (recovery_answer table (due (record s { step = step.Back }))) ≡ gone_on
       goes p is ps =
-          ap (λ (o : Option Path). fed ps (record s { step = step.Back }) (answer table (option_map_or (λ p. ask.Update (Rattle.oak_recover.specs.Recovering.told_op p s.upto)) o ask.Done))) is
+          ap (λ (o : Option Path). fed ps (record s { step = step.Back }) (recovery_answer table (option_map_or (λ p. ask.Update (Rattle.oak_recover.specs.Recovering.told_op p s.upto)) o ask.Done))) is
           ∙ (made (record s { step = step.Back }) (documents_in table (Rattle.oak_recover.specs.Recovering.told_op p s.upto).id) ps
-          ∙ (ap (λ b. cond b (told (record s { step = step.Back }) (documents_in table (Rattle.oak_recover.specs.Recovering.told_op p s.upto).id)) (record s { step = step.Back })) within
+          ∙ (ap (λ b. cond b (document_told (record s { step = step.Back }) (documents_in table (Rattle.oak_recover.specs.Recovering.told_op p s.upto).id)) (record s { step = step.Back })) within
           ∙ ap (λ (u : Revision). record gone_on { upto = u }) (upto_is p is)))
 
       none : undone_at (record s { step = step.Back }) ≡ []
@@ -271,8 +271,8 @@ module _ (table : Entries) (is : reading.IsTable table) (t : RevVec) (k : ℕ) (
   memory_ends s after least n at =
       let m : Recovery = record s { step = step.Memory } in
       let ps : List Path = (run (suc n)).paths in
-      let next : run (suc n) ≡ record m { paths = ps; written = 0; step = step.Back } = (runs.next n).fed ∙ ap (λ (x : Recovery). fed ps x (answer table (due x))) at in
-      let up : AreUpward (run n).noted ps = (runs.next n).upward (subst (λ (x : Recovery). IsTrue (Rattle.oak_recover.specs.Recovering.is_recovered x (answer table (due x)))) (sym at) refl) in
+      let next : run (suc n) ≡ record m { paths = ps; written = 0; step = step.Back } = (runs.next n).fed ∙ ap (λ (x : Recovery). fed ps x (recovery_answer table (due x))) at in
+      let up : AreUpward (run n).noted ps = (runs.next n).upward (subst (λ (x : Recovery). IsTrue (Rattle.oak_recover.specs.Recovering.is_memory_recovered x (recovery_answer table (due x)))) (sym at) refl) in
       let v = backs (length ps) (record m { paths = ps; written = 0 }) (omega arith) (rests_at s after least) (subst (λ (x : Recovery). AreUpward x.noted ps) at up) (suc n) next in
       (v.0, v.1, v.2 ∙ (ap (λ (x : Recovery). (undone_by run n ++ undone_at x) ++ []) at ∙ append_assoc (undone_by run n) [] []), v.3, v.4, v.5, v.6)
 
@@ -294,11 +294,11 @@ module _ (table : Entries) (is : reading.IsTable table) (t : RevVec) (k : ℕ) (
 
   -- each commit root is asked
   statuses : (xs : Ids) (s : Recovery) (out : List (DocId × Revision)) (ps : List Path) (u : Revision) (c : ℕ) → ((st : Step) → Ends (undoing (record s { reading = record (fold (asking (documents_in table)) s.reading xs) { left = [] }; step = st })) out ps u c)
-      → Ends (going_on (record s { reading = record s.reading { left = xs } })) out ps u c
+      → Ends (on_next_status (record s { reading = record s.reading { left = xs } })) out ps u c
   statuses [] s out ps u c go = go s.step
   statuses (x ∷ xs) s out ps u c go =
       let here : Recovery = record s { reading = record s.reading { asked = x.0; left = xs }; step = step.Status } in
-      one_step here (going_on (record here { reading = record (asking (documents_in table) s.reading x) { left = xs } })) out ps u c (λ up. refl)
+      one_step here (on_next_status (record here { reading = record (asking (documents_in table) s.reading x) { left = xs } })) out ps u c (λ up. refl)
       (statuses xs (record here { reading = asking (documents_in table) s.reading x }) out ps u c go)
 
   -- ---- the documents, in store order
@@ -335,7 +335,7 @@ module _ (table : Entries) (is : reading.IsTable table) (t : RevVec) (k : ℕ) (
       → ((v : Recovery) → v.sweep ≡ t → v.after ≡ looks → v.reading.at ≡ d.id → v.noted ≡ (passed s).noted → v.upto ≡ (passed s).upto → v.undone ≡ counted (at_id d.id (dead_in (documents_in table) t k (published table t k) d)) (passed s).undone → v.reading.committed ≡ latest_in table t k d → Ends (record v { step = step.Next }) out ps u c)
       → Ends (fed_next s (Some d)) (at_id d.id (dead_in (documents_in table) t k (published table t k) d) ++ out) ps u c
   document d there s sweep after out ps u c go =
-      subst (λ (x : Reading). Ends (going_on (record (passed s) { reading = x })) (at_id d.id (dead_in (documents_in table) t k (published table t k) d) ++ out) ps u c) (sym read_is)
+      subst (λ (x : Reading). Ends (on_next_status (record (passed s) { reading = x })) (at_id d.id (dead_in (documents_in table) t k (published table t k) d) ++ out) ps u c) (sym read_is)
       (statuses start.left (record (passed s) { reading = start }) (at_id d.id (dead_in (documents_in table) t k (published table t k) d) ++ out) ps u c (λ st.
       subst (λ us. Ends (undoing (record (passed s) { reading = record last { left = [] }; step = st })) (us ++ out) ps u c) dead_is
       (undos last.doubts (record (passed s) { reading = record last { left = [] }; step = st }) out ps u c
@@ -381,7 +381,7 @@ module _ (table : Entries) (is : reading.IsTable table) (t : RevVec) (k : ℕ) (
   EndsBehind s docs = Ends s (dead_of docs) ((passed s).noted ++ noted table t k docs) (fold (with_latest table t k) (passed s).upto docs) (counted (dead_of docs) (passed s).undone)
 
   -- behind the last node's document
-  none_left : (s : Recovery) → s.after ≡ looks → is_before s.upto (published table t k) ≡ false → undone_at s ≡ [] → ((up : List Path) → fed up s (answer table (due s)) ≡ fed_next s None) → EndsBehind s []
+  none_left : (s : Recovery) → s.after ≡ looks → is_before s.upto (published table t k) ≡ false → undone_at s ≡ [] → ((up : List Path) → fed up s (recovery_answer table (due s)) ≡ fed_next s None) → EndsBehind s []
   none_left s after least none goes = subst (λ us. Ends s (us ++ []) ((passed s).noted ++ []) (passed s).upto (passed s).undone) none
       (subst (λ ps. Ends s (undone_at s ++ []) ps (passed s).upto (passed s).undone) (sym (end (passed s).noted)) (one_step s (fed_next s None) [] (passed s).noted (passed s).upto (passed s).undone goes (memory_ends (passed s) (passed_after s ∙ after) (passed_least s (published table t k) least))))
     where
@@ -389,7 +389,7 @@ module _ (table : Entries) (is : reading.IsTable table) (t : RevVec) (k : ℕ) (
       end [] = refl
       end (p ∷ ps) = ap (λ rest. p ∷ rest) (end ps)
 
-  no_more : (x : DocId) (d : Document) (more front : Entries) (s : Recovery) → s.after ≡ looks → is_before s.upto (published table t k) ≡ false → node_path x ≡ None → table ≡ front ++ (x, d) ∷ more → undone_at s ≡ [] → ((up : List Path) → fed up s (answer table (due s)) ≡ fed_next s (of_node (Some d))) → EndsBehind s (nodes more)
+  no_more : (x : DocId) (d : Document) (more front : Entries) (s : Recovery) → s.after ≡ looks → is_before s.upto (published table t k) ≡ false → node_path x ≡ None → table ≡ front ++ (x, d) ∷ more → undone_at s ≡ [] → ((up : List Path) → fed up s (recovery_answer table (due s)) ≡ fed_next s (node_document (Some d))) → EndsBehind s (nodes more)
   unfolding IsStrictlySortedBy
   no_more x d more front s after least other split none goes =
       subst (λ docs. EndsBehind s docs) (sym (none_after x other more (rest_above (sorted_from front ((x, d) ∷ more) split))))
@@ -399,7 +399,7 @@ module _ (table : Entries) (is : reading.IsTable table) (t : RevVec) (k : ℕ) (
       rest_above h = h.0
 
   -- from a step at which these documents are left
-  from : (more front : Entries) (s : Recovery) → table ≡ front ++ more → s.sweep ≡ t → s.after ≡ looks → is_before s.upto (published table t k) ≡ false → undone_at s ≡ [] → ((up : List Path) → fed up s (answer table (due s)) ≡ fed_next s (of_node (first_found more))) → EndsBehind s (nodes more)
+  from : (more front : Entries) (s : Recovery) → table ≡ front ++ more → s.sweep ≡ t → s.after ≡ looks → is_before s.upto (published table t k) ≡ false → undone_at s ≡ [] → ((up : List Path) → fed up s (recovery_answer table (due s)) ≡ fed_next s (node_document (first_found more))) → EndsBehind s (nodes more)
   from [] front s split sweep after least none goes = none_left s after least none goes
   from ((id.Node q, d) ∷ more) front s split sweep after least none goes =
       let named : d.id ≡ id.Node q = named_in front more (id.Node q, d) split in
@@ -416,7 +416,7 @@ module _ (table : Entries) (is : reading.IsTable table) (t : RevVec) (k : ℕ) (
       (subst (λ c. Ends (record v { step = step.Next }) (dead_of docs) ((passed (record v { step = step.Next })).noted ++ noted table t k docs) (fold (with_latest table t k) (passed (record v { step = step.Next })).upto docs) c)
       (ap (counted (dead_of docs)) (passed_undone (record v { step = step.Next }) ∙ undone') ∙ sym (counted_more (at_id d.id (dead_in (documents_in table) t k (published table t k) d)) (dead_of docs) (passed s).undone))
       (from more (front ++ (id.Node q, d) ∷ []) (record v { step = step.Next }) (split ∙ sym (append_assoc front ((id.Node q, d) ∷ []) more)) sweep' after' (subst (λ (x : Revision). is_before x (published table t k) ≡ false) (sym upto') (passed_least s (published table t k) least)) refl
-      (λ up. ap (λ (es : Entries). fed_next (record v { step = step.Next }) (of_node (first_found es)))
+      (λ up. ap (λ (es : Entries). fed_next (record v { step = step.Next }) (node_document (first_found es)))
       (ap (λ x. behind x table) (at ∙ named) ∙ (ap (behind (id.Node q)) split ∙ behind_front front more (id.Node q, d) (sorted_at front ((id.Node q, d) ∷ more) split))))))))))
   from ((id.Prev n q, d) ∷ more) front s split sweep after least none goes = no_more (id.Prev n q) d more front s after least refl split none goes
   from ((id.Settings, d) ∷ more) front s split sweep after least none goes = no_more id.Settings d more front s after least refl split none goes

@@ -19,7 +19,7 @@ use Rattle.oak_doc.specs.Updates.{of_revision}
 use Rattle.oak_read.specs.Meaning.{Documents, commit_root_of, is_committed}
 use Rattle.oak_read.specs.Wanted.{Ids}
 use Rattle.oak_recover.specs.Dead.{committed_in, revisions_after}
-use Rattle.oak_recover.specs.Ending.{greatest_of}
+use Rattle.oak_recover.specs.Ending.{greatest_found}
 use Rattle.oak_recover.specs.Reading.{Doubts, doubts_in, is_confirmed, read_of, with_later}
 use Rattle.oak_recover.specs.declared.reading.Reading.{Reading}
 use Rattle.oak_recover.proofs.Asking.{In, any_confirms, asking, asks_all, confirmed, doubts_are, in_filter, never, revisions_ascend, left_finds, root_answers_for}
@@ -115,7 +115,7 @@ top (r ∷ rs) start = by start (fold with_later (with_later start r) rs) (top r
         each x (inr i) = t.1.1 x i
 
 -- the same revisions, in whatever order, have the same greatest
-pub same_greatest : (xs ys : List Revision) → ((r : Revision) → In r xs → In r ys) → ((r : Revision) → In r ys → In r xs) → greatest_of xs ≡ greatest_of ys
+pub same_greatest : (xs ys : List Revision) → ((r : Revision) → In r xs → In r ys) → ((r : Revision) → In r ys → In r xs) → greatest_found xs ≡ greatest_found ys
 unfolding IsTop
 same_greatest xs ys to from = by (fold with_later None xs) (fold with_later None ys) (top xs None) (top ys None)
   where
@@ -287,7 +287,7 @@ module _ (ds : Documents) where
         by false h = at_root h (own e) refl
 
     -- what the reading knows to be committed in the end
-    pub committed_is : (fold (asking ds) (read_of t k l d) (read_of t k l d).left).committed ≡ greatest_of (committed_in ds t k l d)
+    pub committed_is : (fold (asking ds) (read_of t k l d) (read_of t k l d).left).committed ≡ greatest_found (committed_in ds t k l d)
     committed_is =
         asked_committed (read_of t k l d).left (read_of t k l d)
         ∙ (ap (λ o. fold with_later o (found (read_of t k l d).left left)) (fold_append None (filter (sees t) all) (keys_of (filter own es)))

@@ -23,7 +23,7 @@ use Rattle.oak_doc.specs.declared.asks.Ask.TheVariants as ask
 use Rattle.oak_doc.specs.declared.asks.Reply.{Reply}
 use Rattle.oak_doc.specs.declared.asks.Reply.TheVariants as reply
 use Rattle.oak_sync.specs.Upward.{backward_cmp}
-use Rattle.oak_recover.specs.Recovering.{Feeds, back_stage, due, ended, fed, fed_update, publish_op, stage_of, told, told_op, upto_after, upto_told}
+use Rattle.oak_recover.specs.Recovering.{Feeds, back_stage, due, recovery_end, fed, fed_update, publish_op, stage_of, document_told, told_op, upto_after, upto_told}
 use Rattle.oak_recover.specs.Told.{AllTellTheRoot, IsAtRoot}
 use Rattle.oak_recover.specs.declared.recovery.Recovery.{Recovery}
 use Rattle.oak_recover.specs.declared.recovery.Step.{Step}
@@ -196,7 +196,7 @@ behind_root : (s t : Recovery) (d : Document) → IsAtRoot s → Feeds s (reply.
 behind_root s t d at feeds =
     feeds.fed
     ∙ (ap (λ (x : Step). fed_update (record s { step = x }) (Some d)) is.0
-    ∙ (ap (λ b. cond b (told (record s { step = step.Back }) (Some d)) (record s { step = step.Back })) (within s.paths s.written [] is.1)
+    ∙ (ap (λ b. cond b (document_told (record s { step = step.Back }) (Some d)) (record s { step = step.Back })) (within s.paths s.written [] is.1)
     ∙ (ap (λ b. record s { upto = upto_after (record s { step = step.Back }) (Some d); written = s.written + 1; step = cond b step.Back step.Settings }) (none_behind s.paths at.upward.ordered s.written is.1)
     ∙ ap (λ (u : Revision). record s { upto = u; written = s.written + 1; step = step.Settings }) upto_is)))
   where
@@ -224,5 +224,5 @@ all_tell s t d at vector feeds = record { asked = asked; said = said; kept = kep
     said : (number : ℕ) → entry (raised d.last_rev s.upto) s.after.cluster ≡ Some t.upto
     said number = raised_entry d.last_rev s.upto s.after.cluster at.own at.low at.high vector.eight ∙ ap (λ (x : Recovery). Some x.upto) (sym t_is)
 
-    kept : (answers : ℕ → Reply) (run : ℕ → Recovery) → run 0 ≡ t → ((n : ℕ) → Feeds (run n) (answers n) (run (suc n))) → (n : ℕ) → (ended (run n)).upto ≡ t.upto
+    kept : (answers : ℕ → Reply) (run : ℕ → Recovery) → run 0 ≡ t → ((n : ℕ) → Feeds (run n) (answers n) (run (suc n))) → (n : ℕ) → (recovery_end (run n)).upto ≡ t.upto
     kept answers run first next n = (all_stay answers run (subst (λ (x : Recovery). (x.step ≡ step.Settings) ⊎ (x.step ≡ step.Done)) (sym (first ∙ t_is)) (inl refl)) next n).1 ∙ ap (λ (x : Recovery). x.upto) first

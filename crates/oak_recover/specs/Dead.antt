@@ -10,8 +10,8 @@ use Rattle.oak_doc.specs.declared.document.Document.{Document}
 use Rattle.oak_read.specs.Meaning.{Documents, is_committed}
 
 -- the revisions of a document's entries, field by field, but for its collisions
-abbrev pub entries_in : Document → List (List Revision)
-entries_in d = keys_of d.deleted ∷ keys_of d.commit_root ∷ keys_of d.revisions ∷ keys_of d.touched ∷ keys_of d.guard ∷ map (λ p. keys_of p.1) d.props
+abbrev pub field_revisions : Document → List (List Revision)
+field_revisions d = keys_of d.deleted ∷ keys_of d.commit_root ∷ keys_of d.revisions ∷ keys_of d.touched ∷ keys_of d.guard ∷ map (λ p. keys_of p.1) d.props
 
 -- a set of revisions, ascending
 abbrev pub Revisions : Type 0
@@ -31,7 +31,7 @@ with_each k l set rs = fold (with_after k l) set rs
 
 -- the revisions of cluster node k behind l in the entries of a document
 abbrev pub revisions_after : ℕ → Revision → Document → Revisions
-revisions_after k l d = fold (with_each k l) [] (entries_in d)
+revisions_after k l d = fold (with_each k l) [] (field_revisions d)
 
 -- those of them that are dead: not committed as they stand in the document
 abbrev pub dead_in : Documents → RevVec → ℕ → Revision → Document → List Revision

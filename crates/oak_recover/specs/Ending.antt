@@ -20,24 +20,24 @@ use Rattle.oak_read.specs.Reading as reading
 use Rattle.oak_sync.specs.Upward.{AreUpward}
 use Rattle.oak_recover.specs.Dead.{committed_in, dead_in}
 use Rattle.oak_recover.specs.Reading.{with_later}
-use Rattle.oak_recover.specs.Recovering.{Feeds, begun, due, published_in, undo_id}
+use Rattle.oak_recover.specs.Recovering.{Feeds, begun, due, published_in, dead_id}
 use Rattle.oak_recover.specs.declared.recovery.Recovery.{Recovery}
 
 -- what documents at rest, and a memory, answer; an undo of a dead revision takes no status, and no entry of another document
-abbrev pub answer : List (DocId × Document) → Ask → Reply
-answer table (ask.Update op) = option_map_or (λ d. reply.Updated (Some d)) (documents_in table op.id) reply.Absent
-answer table (ask.Undo r) = reply.Undone
-answer table (ask.Memory m) = reply.Recovered
-answer table a = reading.answer table a
+abbrev pub recovery_answer : List (DocId × Document) → Ask → Reply
+recovery_answer table (ask.Update op) = option_map_or (λ d. reply.Updated (Some d)) (documents_in table op.id) reply.Absent
+recovery_answer table (ask.Undo r) = reply.Undone
+recovery_answer table (ask.Memory m) = reply.Recovered
+recovery_answer table a = reading.answer table a
 
 -- a recovery before each of its asks, where documents at rest answer them
-pub record IsRun (table : List (DocId × Document)) (first : Recovery) (run : ℕ → Recovery) : Type 0 where
+pub record IsRecoveryRun (table : List (DocId × Document)) (first : Recovery) (run : ℕ → Recovery) : Type 0 where
   pub begins : run 0 ≡ first
-  pub next : (n : ℕ) → Feeds (run n) (answer table (due (run n))) (run (suc n))
+  pub next : (n : ℕ) → Feeds (run n) (recovery_answer table (due (run n))) (run (suc n))
 
 -- what is undone where by what is asked, if a revision is
 abbrev pub undone_asked : Recovery → Ask → List (DocId × Revision)
-undone_asked s (ask.Undo r) = (undo_id s, r) ∷ []
+undone_asked s (ask.Undo r) = (dead_id s, r) ∷ []
 undone_asked s _ = []
 
 -- what a recovery undoes where by the ask that is due, if a revision is
@@ -50,8 +50,8 @@ undone_by run zero = []
 undone_by run (suc n) = undone_by run n ++ undone_at (run n)
 
 -- the greatest of some revisions
-abbrev pub greatest_of : List Revision → Option Revision
-greatest_of rs = fold with_later None rs
+abbrev pub greatest_found : List Revision → Option Revision
+greatest_found rs = fold with_later None rs
 
 module _ (table : List (DocId × Document)) (t : RevVec) (k : ℕ) where
   -- how far the stopped node has published
@@ -68,7 +68,7 @@ module _ (table : List (DocId × Document)) (t : RevVec) (k : ℕ) where
 
   -- the greatest committed revision of k in a document, behind what was published
   abbrev pub latest_in : Document → Option Revision
-  latest_in d = greatest_of (committed_in (documents_in table) t k published d)
+  latest_in d = greatest_found (committed_in (documents_in table) t k published d)
 
   -- the later of a revision and of that
   abbrev pub with_latest : Revision → Document → Revision
@@ -90,4 +90,4 @@ module _ (table : List (DocId × Document)) (t : RevVec) (k : ℕ) where
 -- every recovery over documents at rest ends so
 abbrev pub RecoversAll : Type 0
 RecoversAll = (table : List (DocId × Document)) (a : Global) (k : ℕ) (sessions : List ℕ) (t : RevVec) (run : ℕ → Recovery) → reading.IsTable table
-    → IsRun table (begun a k sessions t) run → (n : ℕ) × EndsBy table t k run n
+    → IsRecoveryRun table (begun a k sessions t) run → (n : ℕ) × EndsBy table t k run n

@@ -49,12 +49,12 @@ is_confirmed x None e = false
 is_confirmed x (Some d) e = eq_by_cmp id_cmp e.1 x && is_some (of_revision d.revisions e.0)
 
 -- before a document is read
-abbrev pub nothing_read : Reading
-nothing_read = record { at = id.Settings; doubts = []; committed = None; asked = id.Settings; left = [] }
+abbrev pub unread_document : Reading
+unread_document = record { at = id.Settings; doubts = []; committed = None; asked = id.Settings; left = [] }
 
 -- the commit root x, or none, was found: whatever it has is committed
-abbrev pub answered : Reading → DocId → Option Document → Reading
-answered s x found = record s {
+abbrev pub root_answered : Reading → DocId → Option Document → Reading
+root_answered s x found = record s {
   doubts = filter (λ e. not (is_confirmed x found e)) s.doubts;
   committed = fold with_later s.committed (keys_of (filter (is_confirmed x found) s.doubts));
 }
@@ -73,4 +73,4 @@ with_roots s = record s { left = roots_of s.at s.doubts }
 
 -- what is known of a document by itself: what the sweep vector sees is committed, and what it has as its own commit root
 abbrev pub read_of : RevVec → ℕ → Revision → Document → Reading
-read_of t k l d = with_roots (answered (swept_of t d (keys_of (revisions_after k l d))) d.id (Some d))
+read_of t k l d = with_roots (root_answered (swept_of t d (keys_of (revisions_after k l d))) d.id (Some d))

@@ -22,7 +22,7 @@ use Rattle.oak_doc.specs.declared.update.Change.TheVariants as change
 use Rattle.oak_checkpoint.specs.Settings.{drop_readers_op}
 use Rattle.oak_sync.specs.Publishing.{back_op}
 use Rattle.oak_sync.specs.Upward.{AreUpward}
-use Rattle.oak_recover.specs.Reading.{Doubts, answered, nothing_read, read_of, with_later, without_doubt}
+use Rattle.oak_recover.specs.Reading.{Doubts, root_answered, unread_document, read_of, with_later, without_doubt}
 use Rattle.oak_recover.specs.declared.recovery.Recovery.{Recovery}
 use Rattle.oak_recover.specs.declared.recovery.Step.{Step}
 use Rattle.oak_recover.specs.declared.recovery.Step.TheVariants as step
@@ -38,7 +38,7 @@ begun a k sessions t = record {
   after = record { cluster = k; last = start_of k };
   upto = start_of k;
   undone = 0;
-  reading = nothing_read;
+  reading = unread_document;
   noted = [];
   paths = [];
   written = 0;
@@ -73,8 +73,8 @@ due s = by s.step
     by step.Done = ask.Done
 
 -- the document in which a dead revision is to be undone
-abbrev pub undo_id : Recovery → DocId
-undo_id s = s.reading.at
+abbrev pub dead_id : Recovery → DocId
+dead_id s = s.reading.at
 
 -- the update of a document below the root, or of the root
 abbrev pub back_stage : Option Path → Stage
@@ -120,25 +120,25 @@ undoing s = by s.reading.doubts
     by (e ∷ es) = record s { step = step.Undo e.0 }
 
 -- next the first of the commit roots that are left is asked; behind them, what is in doubt is dead
-abbrev pub going_on : Recovery → Recovery
-going_on s = by s.reading.left
+abbrev pub on_next_status : Recovery → Recovery
+on_next_status s = by s.reading.left
   where
     by : List (DocId × Unit {0}) → Recovery
     by [] = undoing s
     by (x ∷ xs) = record s { reading = record s.reading { asked = x.0; left = xs }; step = step.Status }
 
 -- the document is that of a node
-abbrev pub of_node : Option Document → Option Document
-of_node found = option_and_then (λ d. option_map (λ p. d) (node_path d.id)) found
+abbrev pub node_document : Option Document → Option Document
+node_document found = option_and_then (λ d. option_map (λ p. d) (node_path d.id)) found
 
 -- the next document, or none
 abbrev pub fed_next : Recovery → Option Document → Recovery
 fed_next s None = record (passed s) { step = step.Memory }
-fed_next s (Some d) = going_on (record (passed s) { reading = read_of s.sweep s.after.cluster s.after.last d })
+fed_next s (Some d) = on_next_status (record (passed s) { reading = read_of s.sweep s.after.cluster s.after.last d })
 
 -- the commit root that was asked, or none
 abbrev pub fed_status : Recovery → Option Document → Recovery
-fed_status s found = going_on (record s { reading = answered s.reading s.reading.asked found })
+fed_status s found = on_next_status (record s { reading = root_answered s.reading s.reading.asked found })
 
 -- one undo more
 abbrev pub one_more : ℕ → ℕ
@@ -157,15 +157,15 @@ abbrev pub upto_after : Recovery → Option Document → Revision
 upto_after s before = option_map_or (λ p. cond (length p == 0) (upto_told s.after.cluster s.upto before) s.upto) (slice_get s.paths s.written) s.upto
 
 -- the update of a document, which was so before, is made, or there is none; behind the last one come the settings
-abbrev pub told : Recovery → Option Document → Recovery
-told s before = record s { upto = upto_after s before; written = s.written + 1; step = cond (nat_lt (s.written + 1) (length s.paths)) step.Back step.Settings }
+abbrev pub document_told : Recovery → Option Document → Recovery
+document_told s before = record s { upto = upto_after s before; written = s.written + 1; step = cond (nat_lt (s.written + 1) (length s.paths)) step.Back step.Settings }
 
 -- the update that was due is made, of a document or of the settings, or there was none
 abbrev pub fed_update : Recovery → Option Document → Recovery
 fed_update s before = by s.step
   where
     by : Step → Recovery
-    by step.Back = cond (nat_lt s.written (length s.paths)) (told s before) s
+    by step.Back = cond (nat_lt s.written (length s.paths)) (document_told s before) s
     by step.Settings = record s { step = step.Done }
     by _ = s
 
@@ -175,8 +175,8 @@ fed_found s found = by s.step
   where
     by : Step → Recovery
     by step.Root = fed_root s found
-    by step.First = fed_next s (of_node found)
-    by step.Next = fed_next s (of_node found)
+    by step.First = fed_next s (node_document found)
+    by step.Next = fed_next s (node_document found)
     by step.Status = fed_status s found
     by _ = s
 
@@ -198,19 +198,19 @@ fed up s reply.Absent = fed_update s None
 fed up s _ = s
 
 -- the memory is recovered
-abbrev pub is_recovered : Recovery → Reply → Bool
-is_recovered s reply.Recovered = by s.step
+abbrev pub is_memory_recovered : Recovery → Reply → Bool
+is_memory_recovered s reply.Recovered = by s.step
   where
     by : Step → Bool
     by step.Memory = true
     by _ = false
-is_recovered s _ = false
+is_memory_recovered s _ = false
 
 -- t is what s keeps after a reply: what is to be told are the noted documents and all that is above them
 pub record Feeds (s : Recovery) (r : Reply) (t : Recovery) : Type 0 where
   pub fed : t ≡ fed t.paths s r
-  pub upward : IsTrue (is_recovered s r) → AreUpward s.noted t.paths
+  pub upward : IsTrue (is_memory_recovered s r) → AreUpward s.noted t.paths
 
 -- how it ended
-abbrev pub ended : Recovery → Recovered
-ended s = record { upto = s.upto; undone = s.undone }
+abbrev pub recovery_end : Recovery → Recovered
+recovery_end s = record { upto = s.upto; undone = s.undone }

@@ -7,7 +7,7 @@ use Rattle.oak_doc.specs.declared.asks.Reply.{Reply}
 use Rattle.oak_doc.specs.declared.asks.Reply.TheVariants as reply
 use Rattle.oak_doc.specs.Updates.{after_changes}
 use Rattle.oak_sync.specs.Upward.{AreUpward}
-use Rattle.oak_recover.specs.Recovering.{Feeds, due, ended, publish_op, stage_of}
+use Rattle.oak_recover.specs.Recovering.{Feeds, due, recovery_end, publish_op, stage_of}
 use Rattle.oak_recover.specs.declared.recovery.Recovery.{Recovery}
 use Rattle.oak_recover.specs.declared.stage.Stage.TheVariants as stage
 
@@ -23,7 +23,7 @@ pub record IsAtRoot (s : Recovery) : Type 0 where
 pub record TellsTheRoot (s t : Recovery) (d : Document) : Type 0 where
   pub asked : due s ≡ ask.Update (publish_op s.upto)
   pub said : (number : ℕ) → entry (after_changes (Some d) (publish_op s.upto) number).last_rev s.after.cluster ≡ Some t.upto
-  pub kept : (answers : ℕ → Reply) (run : ℕ → Recovery) → run 0 ≡ t → ((n : ℕ) → Feeds (run n) (answers n) (run (suc n))) → (n : ℕ) → (ended (run n)).upto ≡ t.upto
+  pub kept : (answers : ℕ → Reply) (run : ℕ → Recovery) → run 0 ≡ t → ((n : ℕ) → Feeds (run n) (answers n) (run (suc n))) → (n : ℕ) → (recovery_end (run n)).upto ≡ t.upto
 
 -- every recovery that told the root does so
 abbrev pub AllTellTheRoot : Type 0

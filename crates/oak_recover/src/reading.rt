@@ -4,7 +4,7 @@ ghost use Rattle.std.specs.List.{filter, fold};
 ghost use Rattle.std.specs.Map.{keys_of};
 ghost use Rattle.std.specs.Option.{option_copied};
 ghost use Rattle.jr_rev.specs.Vectors.{sees};
-ghost use Rattle.oak_recover.specs.Reading.{answered, doubts_in, is_confirmed, nothing_read, read_of, roots_of, with_doubt, with_later, with_other, without_doubt};
+ghost use Rattle.oak_recover.specs.Reading.{root_answered, doubts_in, is_confirmed, unread_document, read_of, roots_of, with_doubt, with_later, with_other, without_doubt};
 
 use crate::entries::{After, revisions_after};
 use jr_path::{DeepCopy, DocId, Keyed};
@@ -46,7 +46,7 @@ impl Drop for Reading {
 impl Reading {
     // What is known before a document is read. It takes no memory.
     pub(crate) fn nothing(alloc: Global) -> Reading
-        ensures { result ≡ nothing_read }
+        ensures { result ≡ unread_document }
     {
         Reading {
             at: DocId::Settings,
@@ -81,7 +81,7 @@ impl Reading {
 
     // A commit root, or none, was found: whatever it has is committed.
     pub(crate) fn answer(&mut self, root: &DocId, found: Option<&Document>)
-        ensures { self.new ≡ answered self.old root.now (option_copied found.entry) }
+        ensures { self.new ≡ root_answered self.old root.now (option_copied found.entry) }
     {
         self.committed = confirmed_in(root, found, &self.doubts, self.committed);
         self.doubts
@@ -91,7 +91,7 @@ impl Reading {
 
     // The commit root that is asked was found, or there is none.
     pub(crate) fn answer_asked(&mut self, found: Option<&Document>)
-        ensures { self.new ≡ answered self.old self.old.asked (option_copied found.entry) }
+        ensures { self.new ≡ root_answered self.old self.old.asked (option_copied found.entry) }
     {
         let root = std::mem::replace(&mut self.asked, DocId::Settings);
         self.answer(&root, found);

@@ -6,7 +6,7 @@ ghost use Rattle.oak_doc.specs.declared.asks.Ask.TheVariants as ask;
 ghost use Rattle.oak_doc.specs.declared.asks.Reply.TheVariants as reply;
 ghost use Rattle.oak_doc.specs.declared.document.Document.{Document};
 ghost use Rattle.jr_rev.specs.declared.revision.Revision.{Revision};
-ghost use Rattle.oak_recover.specs.Recovering.{Feeds, back_stage, begun, due, ended, fed_found, fed_next, fed_root, fed_status, fed_undone, fed_update, going_on, of_node, passed, passed_with, publish_op, published_in, stage_of, told, told_op, undo_id, undoing, upto_after, upto_told};
+ghost use Rattle.oak_recover.specs.Recovering.{Feeds, back_stage, begun, due, recovery_end, fed_found, fed_next, fed_root, fed_status, fed_undone, fed_update, on_next_status, node_document, passed, passed_with, publish_op, published_in, stage_of, document_told, told_op, dead_id, undoing, upto_after, upto_told};
 ghost use Rattle.oak_recover.specs.declared.recovery.Step.TheVariants as step;
 ghost use Rattle.oak_sync.specs.Upward.{AreUpward};
 
@@ -155,7 +155,7 @@ impl Recovery {
     /// The document in which a dead revision is to be undone.
     pub fn undo_id(&self) -> &DocId
         requires { (r : Revision) × (due self.now ≡ ask.Undo r) }
-        ensures { result.now ≡ undo_id self.now }
+        ensures { result.now ≡ dead_id self.now }
     {
         &self.reading.at
     }
@@ -202,7 +202,7 @@ impl Recovery {
     /// Up to which revision the node is published, and how many undoings there were.
     pub fn end(&self) -> Recovered
         requires { due self.now ≡ ask.Done }
-        ensures { result ≡ ended self.now }
+        ensures { result ≡ recovery_end self.now }
     {
         Recovered {
             upto: self.upto,
@@ -300,7 +300,7 @@ impl Recovery {
 
     // The next node's document; where there is none, the memory is next.
     fn feed_next(&mut self, found: Option<&Document>) -> Result<(), AllocError>
-        ensures ok { OnOk result (self.new ≡ fed_next self.old (of_node (option_copied found.entry))) }
+        ensures ok { OnOk result (self.new ≡ fed_next self.old (node_document (option_copied found.entry))) }
         ensures err { OnErr result (self.new ≡ self.old) }
     {
         match found {
@@ -311,7 +311,7 @@ impl Recovery {
 
     // A document, which may be none of a node.
     fn feed_document(&mut self, document: &Document) -> Result<(), AllocError>
-        ensures ok { OnOk result (self.new ≡ fed_next self.old (of_node (Some document.now))) }
+        ensures ok { OnOk result (self.new ≡ fed_next self.old (node_document (Some document.now))) }
         ensures err { OnErr result (self.new ≡ self.old) }
     {
         match &document.id {
@@ -377,7 +377,7 @@ impl Recovery {
 
     // The first of the commit roots that are left, or else a dead revision.
     fn go_on(&mut self)
-        ensures { self.new ≡ going_on self.old }
+        ensures { self.new ≡ on_next_status self.old }
     {
         match self.reading.left.inner_mut().pop_first() {
             Some((asked, _)) => {

@@ -33,7 +33,7 @@ use Rattle.oak_machine.specs.declared.event.Event.{Event}
 use Rattle.oak_machine.specs.declared.event.Event.TheVariants as event
 use Rattle.oak_machine.specs.declared.event.StepKind.TheVariants as kind
 use Rattle.oak_store.specs.Tables.{Table, Updates, after_undo, found, next_number}
-use Rattle.oak_step.specs.Parts.{IsLast, IsLastFault, IsMade, IsMarked, IsRefusedBy, IsUndone, IsWritten, fed_made, op_due, refusal_at, result_of}
+use Rattle.oak_step.specs.Parts.{IsLast, IsLastFault, IsUpdateMade, IsMarked, IsRefusedBy, IsDocumentUndone, IsWritten, fed_made, op_due, mark_refusal, result_of}
 use Rattle.oak_step.proofs.Feeding.{op_last, op_mark, op_write}
 use Rattle.oak_step.proofs.Replies.{fed_lasted, fed_marked, fed_undone, fed_unmet, fed_written}
 use Rattle.oak_step.proofs.Stages.{IsLastStage, IsMarkStage, IsUndoStage, IsWriteStage, last_stage, mark_stage, undo_stage, write_stage}
@@ -147,13 +147,13 @@ module _ (t u : Table) (c : Committing) (op : UpdateOp) (asked : ask.Update op �
 
 -- ---- the event of a refusal
 
-at_due : (c : Committing) (e : Event) (ds : List Met) → c.writer.due ≡ ds → refusal_at (record c { writer = record c.writer { due = ds } }) e → refusal_at c e
-at_due c e ds is h = subst (λ (xs : List Met). refusal_at (record c { writer = record c.writer { due = xs } }) e) (sym is) h
+at_due : (c : Committing) (e : Event) (ds : List Met) → c.writer.due ≡ ds → mark_refusal (record c { writer = record c.writer { due = ds } }) e → mark_refusal c e
+at_due c e ds is h = subst (λ (xs : List Met). mark_refusal (record c { writer = record c.writer { due = xs } }) e) (sym is) h
 
-pub refusal_told : (c : Committing) (item : Item) (other : Revision) → option_map (λ f. f.mine) (slice_get c.writer.due 0) ≡ Some item → option_map (λ f. f.other) (slice_get c.writer.due 0) ≡ Some other → refusal_at c (event.Refuse c.revision item other)
+pub refusal_told : (c : Committing) (item : Item) (other : Revision) → option_map (λ f. f.mine) (slice_get c.writer.due 0) ≡ Some item → option_map (λ f. f.other) (slice_get c.writer.due 0) ≡ Some other → mark_refusal c (event.Refuse c.revision item other)
 refusal_told c item other mine theirs = by c.writer.due refl mine theirs
   where
-    by : (ds : List Met) → c.writer.due ≡ ds → option_map (λ f. f.mine) (slice_get ds 0) ≡ Some item → option_map (λ f. f.other) (slice_get ds 0) ≡ Some other → refusal_at c (event.Refuse c.revision item other)
+    by : (ds : List Met) → c.writer.due ≡ ds → option_map (λ f. f.mine) (slice_get ds 0) ≡ Some item → option_map (λ f. f.other) (slice_get ds 0) ≡ Some other → mark_refusal c (event.Refuse c.revision item other)
     by [] is m t = cc
     by (f ∷ fs) is m t = at_due c (event.Refuse c.revision item other) (f ∷ fs) is (let a : Some f.mine ≡ Some item = m in let b : Some f.other ≡ Some other = t in cc)
 
@@ -161,8 +161,8 @@ refusal_told c item other mine theirs = by c.writer.due refl mine theirs
 
 module _ (s : ℕ) (t u : Table) (es fs : List Event) (c d : Committing) (op : UpdateOp) (asked : ask.Update op ≡ due_of c) where
   module _ (due : due_of c ≡ ask.Update (op_due c)) where
-    made : (before : Option Document) → Updates t u op (Ok before) → IsMade t u (op_due c)
-    made before up = subst (λ (x : UpdateOp). IsMade t u x) (op_is c op asked due) (made_is t u op before up)
+    made : (before : Option Document) → Updates t u op (Ok before) → IsUpdateMade t u (op_due c)
+    made before up = subst (λ (x : UpdateOp). IsUpdateMade t u x) (op_is c op asked due) (made_is t u op before up)
 
     fed_is : (before : Option Document) → Updates t u op (Ok before) → fed c (reply.Updated before) ≡ fed_made t c
     fed_is before up = ap (λ (b : Option Document). fed c (reply.Updated b)) (up.0 ∙ ap (λ (x : UpdateOp). found t x.id) (op_is c op asked due))
@@ -173,7 +173,7 @@ module _ (s : ℕ) (t u : Table) (es fs : List Event) (c d : Committing) (op : U
   pub mark_made : stage_of c ≡ stage.Mark → (before : Option Document) → Updates t u op (Ok before) → fs ≡ es ++ event.Went s kind.Mark ∷ [] → (r : Result Unit AllocError) → OnOk r (d ≡ fed c (reply.Updated before)) → OnErr r (IsTrue (looks_at c (reply.Updated before))) → IsMarked s t u es fs c d
   mark_made h before up list r ok only = let due = mark_asks c h in inl (record { made = made due before up; list = list; committer = fed_marked r c d before h ok only ∙ fed_is due before up })
 
-  pub mark_refused : stage_of c ≡ stage.Mark → (k : Cond) (x : Kept) → Updates t u op (Err (fault.Unmet k x)) → (e : Event) → refusal_at c e → fs ≡ es ++ e ∷ [] → (r : Result Unit AllocError) → OnOk r (d ≡ fed c (reply.Unmet k x)) → OnErr r (IsTrue (looks_at c (reply.Unmet k x))) → IsMarked s t u es fs c d
+  pub mark_refused : stage_of c ≡ stage.Mark → (k : Cond) (x : Kept) → Updates t u op (Err (fault.Unmet k x)) → (e : Event) → mark_refusal c e → fs ≡ es ++ e ∷ [] → (r : Result Unit AllocError) → OnOk r (d ≡ fed c (reply.Unmet k x)) → OnErr r (IsTrue (looks_at c (reply.Unmet k x))) → IsMarked s t u es fs c d
   mark_refused h k x up e told list r ok only = let due = mark_asks c h in inr (record { cause = k; thing = x; result = unmet_is due k x up; table = up.0; refusal = e; told = told; list = list; committer = fed_unmet r c d k x ok only })
 
   pub write_made : stage_of c ≡ stage.Write → (before : Option Document) → Updates t u op (Ok before) → fs ≡ es ++ event.Went s kind.Write ∷ [] → (r : Result Unit AllocError) → OnOk r (d ≡ fed c (reply.Updated before)) → OnErr r (d ≡ wanting (fed c (reply.Updated before))) → IsWritten s t u es fs c d
@@ -210,10 +210,10 @@ undo_asks c h = by (undo_stage c h)
     by : IsUndoStage c → asks_undo (due_of c) ≡ true
     by m = ap asks_undo (undoing_due c c.outcome m.undoing ∙ ap (undo_due c) m.written)
 
-pub undo_made : (s : ℕ) (t u : Table) (es fs : List Event) (c d : Committing) (x : DocId) → stage_of c ≡ stage.Undo → undo_id c ≡ Some x → u ≡ after_undo t x c.revision → fs ≡ es ++ event.Went s kind.Undo ∷ [] → (r : Result Unit AllocError) → OnOk r (d ≡ fed c reply.Undone) → OnErr r (IsTrue (looks_at c reply.Undone)) → IsUndone s t u es fs c d
+pub undo_made : (s : ℕ) (t u : Table) (es fs : List Event) (c d : Committing) (x : DocId) → stage_of c ≡ stage.Undo → undo_id c ≡ Some x → u ≡ after_undo t x c.revision → fs ≡ es ++ event.Went s kind.Undo ∷ [] → (r : Result Unit AllocError) → OnOk r (d ≡ fed c reply.Undone) → OnErr r (IsTrue (looks_at c reply.Undone)) → IsDocumentUndone s t u es fs c d
 undo_made s t u es fs c d x h lent table list r ok only = by (undo_stage c h)
   where
-    by : IsUndoStage c → IsUndone s t u es fs c d
+    by : IsUndoStage c → IsDocumentUndone s t u es fs c d
     by m =
         let e : Some (id.Node m.first) ≡ Some x = sym (ap (λ (ps : List Path). option_map id.Node (slice_get ps 0)) m.written) ∙ lent in
         let same : x ≡ id.Node m.first = cc in

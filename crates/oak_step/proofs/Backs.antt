@@ -10,13 +10,13 @@ use Rattle.oak_node.specs.declared.pending.Pending.{Pending}
 use Rattle.oak_store.specs.Tables.{Table, found, next_number}
 use Rattle.core_world.specs.Steps.{after_update}
 use Rattle.oak_sync.specs.Learning as learning
-use Rattle.oak_sync.specs.Publishing.{IsBegun, back_op, due, fed, stage_of, went_on}
+use Rattle.oak_sync.specs.Publishing.{HasWrittenNothing, back_op, due, fed, stage_of, went_on}
 use Rattle.oak_sync.specs.declared.back_read.BackRead.{BackRead}
 use Rattle.oak_sync.specs.declared.back_write.BackWrite.{BackWrite}
 use Rattle.oak_sync.specs.declared.stage.Stage.TheVariants as stage
 use Rattle.oak_sync.proofs.Standing.{IsPathDue, begun_due, finds_root, path_due, reads_root}
 use Rattle.oak_acts.specs.Acts.{replied}
-use Rattle.oak_step.specs.Parts.{IsPublishing, after_ask, answered, learned_on, published_on}
+use Rattle.oak_step.specs.Parts.{IsPublishing, after_ask, answered_by, learned_on, published_on}
 
 -- ---- a background write
 
@@ -28,7 +28,7 @@ publishing_at b busy = let it = path_due b busy in subst IsPublishing (sym (it.1
     by true = tt
     by false = tt
 
-pub publishing_first : (a : Global) (n : Pending) (b : BackWrite) → IsBegun a n b → IsPublishing (stage_of b)
+pub publishing_first : (a : Global) (n : Pending) (b : BackWrite) → HasWrittenNothing a n b → IsPublishing (stage_of b)
 publishing_first a n b is = publishing_at b (begun_due a n b is)
 
 -- the table that a background write leaves
@@ -37,7 +37,7 @@ told_table t b p is = ap (after_ask t) is.asks
 
 -- whatever the document that is told is, the next one comes
 pub goes_on : (t : Table) (b : BackWrite) (p : Path) → IsPathDue b p → published_on t b ≡ went_on b
-goes_on t b p is = ap (λ a. fed b (answered t a)) is.asks ∙ by (found t (id.Node p))
+goes_on t b p is = ap (λ a. fed b (answered_by t a)) is.asks ∙ by (found t (id.Node p))
   where
     by : (o : Option Document) → fed b (replied o (updated o (back_op p b.upto) (next_number t))) ≡ went_on b
     by None = refl
@@ -50,4 +50,4 @@ pub read_table : (t : Table) (b : BackRead) → learning.stage_of b ≡ stage.Re
 read_table t b at = ap (after_ask t) (finds_root b at)
 
 pub reads_on : (t : Table) (b : BackRead) → learning.stage_of b ≡ stage.Read → learned_on t b ≡ learning.with_root b (found t (id.Node []))
-reads_on t b at = ap (λ a. learning.fed b (answered t a)) (finds_root b at) ∙ reads_root b (found t (id.Node [])) at
+reads_on t b at = ap (λ a. learning.fed b (answered_by t a)) (finds_root b at) ∙ reads_root b (found t (id.Node [])) at

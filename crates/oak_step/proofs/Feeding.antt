@@ -17,7 +17,7 @@ use Rattle.oak_doc.specs.declared.asks.Reply.TheVariants as reply
 use Rattle.oak_doc.specs.declared.update.Cond.{Cond}
 use Rattle.oak_doc.specs.declared.update.Kept.{Kept}
 use Rattle.oak_doc.specs.declared.update.Kept.TheVariants as kept
-use Rattle.oak_step.specs.Parts.{committed, marked, op_due}
+use Rattle.oak_step.specs.Parts.{committed, mark_made, op_due}
 
 module _ (c : Committing) (going : c.outcome ≡ None) where
   -- before its commit point
@@ -48,7 +48,7 @@ module _ (c : Committing) (going : c.outcome ≡ None) (looked : c.looking ≡ N
     pub op_mark : op_due c ≡ mark_op (first_path c.roots) f.other c.revision f.theirs
     op_mark = subst (λ (d : Committing). op_due d ≡ mark_op (first_path d.roots) f.other d.revision f.theirs) (sym at_mark) refl
 
-    pub fed_mark : (b : Option Document) → fed c (reply.Updated b) ≡ marked c rest
+    pub fed_mark : (b : Option Document) → fed c (reply.Updated b) ≡ mark_made c rest
     fed_mark b = fed_going_is b ∙ ap (λ (ds : List Met). advanced_by c ds b) due
 
     pub blocked_mark : (k : Cond) (x : Kept) → fed c (reply.Unmet k x) ≡ refused c f.mine f.other

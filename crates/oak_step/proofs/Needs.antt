@@ -14,7 +14,7 @@ use Rattle.oak_commit.specs.declared.stage.Stage.TheVariants as stage
 use Rattle.oak_doc.specs.declared.document.Document.{Document}
 use Rattle.oak_machine.specs.declared.event.Event.{Event}
 use Rattle.oak_store.specs.Tables.{Table, found}
-use Rattle.oak_step.specs.Parts.{fed_made, IsLast, IsMarked, IsUndone, IsWritten, marked, needed_by, needed_for, op_due}
+use Rattle.oak_step.specs.Parts.{fed_made, IsLast, IsMarked, IsDocumentUndone, IsWritten, mark_made, needed_by, needed_for, op_due}
 use Rattle.oak_step.proofs.Feeding.{blocked_last, blocked_mark, fed_last, fed_mark, fed_undo, fed_write}
 use Rattle.oak_step.proofs.Stages.{IsLastStage, IsMarkStage, IsUndoStage, IsWriteStage, last_stage, mark_stage, undo_stage, write_stage}
 
@@ -44,9 +44,9 @@ module _ (s : ℕ) (t u : Table) (es fs : List Event) (c d : Committing) where
     where
       by : IsMarkStage c → IsMarked s t u es fs c d → needed_by d ≤ needed_by c
       by at (inl m) =
-          let e : needed_by d ≡ needed_by (marked c at.rest) = ap needed_by (m.committer ∙ fed_mark c at.going at.looked at.first at.rest at.due (found t (op_due c).id)) in
+          let e : needed_by d ≡ needed_by (mark_made c at.rest) = ap needed_by (m.committer ∙ fed_mark c at.going at.looked at.first at.rest at.due (found t (op_due c).id)) in
           let n = going_needs c at.going in
-          let k : needed_by (marked c at.rest) ≡ 2 * length c.writer.left + length c.writer.written + 4 = ap (needed_for (marked c at.rest).writer) at.going in
+          let k : needed_by (mark_made c at.rest) ≡ 2 * length c.writer.left + length c.writer.written + 4 = ap (needed_for (mark_made c at.rest).writer) at.going in
           omega (arith, e, n, k)
       by at (inr m) =
           let e : needed_by d ≡ length c.writer.written + 2 = ap needed_by (m.committer ∙ blocked_mark c at.going at.looked at.first at.rest at.due m.cause m.thing) in
@@ -116,7 +116,7 @@ module _ (s : ℕ) (t u : Table) (es fs : List Event) (c d : Committing) where
           let n = going_needs c at.going in
           omega (arith, k, n)
 
-  pub undo_needs : stage_of c ≡ stage.Undo → IsUndone s t u es fs c d → needed_by d + 1 ≤ needed_by c
+  pub undo_needs : stage_of c ≡ stage.Undo → IsDocumentUndone s t u es fs c d → needed_by d + 1 ≤ needed_by c
   undo_needs h m = by (undo_stage c h)
     where
       undoing_needs : (w : Writer) (o : Option CommitEnd) → undoes o ≡ true → needed_for w o ≡ length w.written + 2

@@ -50,7 +50,7 @@ use Rattle.oak_sync.specs.declared.stage.Stage.TheVariants as syncing
 use Rattle.oak_store.specs.Tables.{Table, after_undo, found, next_number, with_document}
 use Rattle.core_nodes.specs.Nodes.{cursor_owner, without_session}
 use Rattle.core_world.specs.Steps.{after_update, setting_op}
-pub use Rattle.oak_acts.specs.Acts.{after_ask, answered, base_at, result_of}
+pub use Rattle.oak_acts.specs.Acts.{after_ask, answered_by, pinned_base, result_of}
 use Rattle.oak_step.specs.declared.upkeep.Upkeep.{Upkeep}
 use Rattle.oak_step.specs.declared.upkeep.Upkeep.TheVariants as upkeep
 use Rattle.oak_step.specs.Upkeeps.{set_checkpoint}
@@ -77,7 +77,7 @@ parts t m es = record { table = t; memory = m; list = es }
 -- ---- documents
 
 -- the update is made
-pub record IsMade (old new : Table) (op : UpdateOp) : Type 0 where
+pub record IsUpdateMade (old new : Table) (op : UpdateOp) : Type 0 where
   pub document : Document
   pub result : result_of old op ≡ Ok document
   pub table : new ≡ with_document old op.id document (next_number old)
@@ -105,12 +105,12 @@ read_on t r = fed_reader r (answer t.documents (due r))
 
 -- the reader is fed what the documents answer; where nothing more is due then, the task ends with
 -- what it gives
-abbrev pub ReadsOn : Table → Reader → Work → StepOut → Type 0
-ReadsOn t r v (answers.Went kind.Read) =
+abbrev pub ReadsNext : Table → Reader → Work → StepOut → Type 0
+ReadsNext t r v (answers.Went kind.Read) =
     (v ≡ work.Read (read_on t r)) × (due (read_on t r) ≢ ask.Done)
-ReadsOn t r v (answers.Ready e) = (v ≡ work.Rest) × (end_of_reading (read_on t r).step ≡ Some e)
-ReadsOn t r v answers.Memory = v ≡ work.Rest
-ReadsOn t r v _ = ⊥
+ReadsNext t r v (answers.Ready e) = (v ≡ work.Rest) × (end_of_reading (read_on t r).step ≡ Some e)
+ReadsNext t r v answers.Memory = v ≡ work.Rest
+ReadsNext t r v _ = ⊥
 
 -- ---- what commits changed
 
@@ -131,8 +131,8 @@ ReadsChangesOn t r v _ = ⊥
 -- ---- a commit
 
 -- the mark that was due is made, with `rest` to make still
-abbrev pub marked : Committing → List Met → Committing
-marked c rest = record c { writer = record c.writer { due = rest }; roots = drop 1 c.roots }
+abbrev pub mark_made : Committing → List Met → Committing
+mark_made c rest = record c { writer = record c.writer { due = rest }; roots = drop 1 c.roots }
 
 -- the last write is made
 abbrev pub committed : Committing → Committing
@@ -148,12 +148,12 @@ op_due c = by c.writer.due c.writer.left
     by [] [] = last_op c.revision c.marks
 
 -- an update is due
-abbrev pub IsDue : Committing → Type 0
-IsDue c = due_of c ≡ ask.Update (op_due c)
+abbrev pub IsUpdateDue : Committing → Type 0
+IsUpdateDue c = due_of c ≡ ask.Update (op_due c)
 
 -- the event of a refusal by the mark that is due
-abbrev pub refusal_at : Committing → Event → Type 0
-refusal_at c e = by c.writer.due
+abbrev pub mark_refusal : Committing → Event → Type 0
+mark_refusal c e = by c.writer.due
   where
     by : List Met → Type 0
     by (f ∷ fs) = e ≡ event.Refuse c.revision f.mine f.other
@@ -165,7 +165,7 @@ fed_made t c = fed c (reply.Updated (found t (op_due c).id))
 
 -- the mark is made; or the other is committed, and it is refused
 pub record IsMarkMade (s : ℕ) (t u : Table) (es fs : List Event) (c d : Committing) : Type 0 where
-  pub made : IsMade t u (op_due c)
+  pub made : IsUpdateMade t u (op_due c)
   pub list : fs ≡ es ++ event.Went s kind.Mark ∷ []
   pub committer : d ≡ fed_made t c
 
@@ -176,7 +176,7 @@ pub record IsMarkRefused (t u : Table) (es fs : List Event) (c d : Committing) :
   pub result : result_of t (op_due c) ≡ Err (fault.Unmet cause thing)
   pub table : u ≡ t
   pub refusal : Event
-  pub told : refusal_at c refusal
+  pub told : mark_refusal c refusal
   pub list : fs ≡ es ++ refusal ∷ []
   pub committer : d ≡ fed c (reply.Unmet cause thing)
 
@@ -187,7 +187,7 @@ IsMarked s t u es fs c d = IsMarkMade s t u es fs c d ⊎ IsMarkRefused t u es f
 -- the document is written; where memory is refused for what is found in it, the committer turns to
 -- undoing
 pub record IsWritten (s : ℕ) (t u : Table) (es fs : List Event) (c d : Committing) : Type 0 where
-  pub made : IsMade t u (op_due c)
+  pub made : IsUpdateMade t u (op_due c)
   pub list : fs ≡ es ++ event.Went s kind.Write ∷ []
   pub committer : (d ≡ fed_made t c) ⊎ (d ≡ wanting (fed_made t c))
 
@@ -199,7 +199,7 @@ IsLastFault _ = ⊥
 
 -- the last write commits; or the commit is refused for the collision that is noted there
 pub record IsLastMade (t u : Table) (es fs : List Event) (c d : Committing) : Type 0 where
-  pub made : IsMade t u (op_due c)
+  pub made : IsUpdateMade t u (op_due c)
   pub list : fs ≡ es ++ event.Commit c.revision ∷ []
   pub committer : d ≡ fed_made t c
 
@@ -227,7 +227,7 @@ abbrev pub IsLast : Table → Table → List Event → List Event → Committing
 IsLast t u es fs c d = IsLastMade t u es fs c d ⊎ IsLastRefused t u es fs c d
 
 -- the first document that is written and not undone is undone
-pub record IsUndone (s : ℕ) (t u : Table) (es fs : List Event) (c d : Committing) : Type 0 where
+pub record IsDocumentUndone (s : ℕ) (t u : Table) (es fs : List Event) (c d : Committing) : Type 0 where
   pub path : Path
   pub rest : List Path
   pub first : c.writer.written ≡ path ∷ rest
@@ -240,13 +240,13 @@ abbrev pub parts_ended : ℕ → Parts → Revision → Parts
 parts_ended k p r = parts p.table (finished p.memory r) (p.list ++ end_events k p.memory r)
 
 -- the operation of this kind that is due is made, or answered
-abbrev pub Updates : ℕ → Table → List Event → Committing → Table → List Event → Committing
+abbrev pub UpdatesDocument : ℕ → Table → List Event → Committing → Table → List Event → Committing
     → StepKind → Type 0
-Updates s t es c u fs d kind.Mark = (stage_of c ≡ stage.Mark) × IsMarked s t u es fs c d
-Updates s t es c u fs d kind.Write = (stage_of c ≡ stage.Write) × IsWritten s t u es fs c d
-Updates s t es c u fs d kind.Last = (stage_of c ≡ stage.Last) × IsLast t u es fs c d
-Updates s t es c u fs d kind.Undo = (stage_of c ≡ stage.Undo) × IsUndone s t u es fs c d
-Updates s t es c u fs d _ = ⊥
+UpdatesDocument s t es c u fs d kind.Mark = (stage_of c ≡ stage.Mark) × IsMarked s t u es fs c d
+UpdatesDocument s t es c u fs d kind.Write = (stage_of c ≡ stage.Write) × IsWritten s t u es fs c d
+UpdatesDocument s t es c u fs d kind.Last = (stage_of c ≡ stage.Last) × IsLast t u es fs c d
+UpdatesDocument s t es c u fs d kind.Undo = (stage_of c ≡ stage.Undo) × IsDocumentUndone s t u es fs c d
+UpdatesDocument s t es c u fs d _ = ⊥
 
 -- an operation on a document is due
 abbrev pub IsUpdating : Stage → Type 0
@@ -275,14 +275,14 @@ EndsSo c v (answers.Ready (ends.Commit e)) =
 EndsSo c v _ = ⊥
 
 -- its revision ends
-abbrev pub Ends : ℕ → Parts → Committing → Parts → Work → StepOut → Type 0
-Ends k p c q v o = (stage_of c ≡ stage.Finish) × (q ≡ parts_ended k p c.revision) × EndsSo c v o
+abbrev pub EndsCommit : ℕ → Parts → Committing → Parts → Work → StepOut → Type 0
+EndsCommit k p c q v o = (stage_of c ≡ stage.Finish) × (q ≡ parts_ended k p c.revision) × EndsSo c v o
 
 -- the operation that is due is made, or answered
-abbrev pub GoesOn : ℕ → Table → List Event → Committing → Table → List Event → Work → StepOut
+abbrev pub CommitGoesOn : ℕ → Table → List Event → Committing → Table → List Event → Work → StepOut
     → Type 0
-GoesOn s t es c u fs v o = (x : StepKind) × (o ≡ answers.Went x) × (d : Committing)
-    × (v ≡ work.Commit d) × Updates s t es c u fs d x
+CommitGoesOn s t es c u fs v o = (x : StepKind) × (o ≡ answers.Went x) × (d : Committing)
+    × (v ≡ work.Commit d) × UpdatesDocument s t es c u fs d x
 
 -- memory is refused for it: nothing changes, but that the commit turns to undoing
 pub record IsGivenUp (t : Table) (es : List Event) (c : Committing) (u : Table) (fs : List Event)
@@ -296,12 +296,12 @@ pub record IsGivenUp (t : Table) (es : List Event) (c : Committing) (u : Table) 
 -- a step of a committer's update goes on, or gives up for want of memory
 abbrev pub UpdatesOn : ℕ → Table → List Event → Committing → Table → List Event → Work → StepOut
     → Type 0
-UpdatesOn s t es c u fs v o = GoesOn s t es c u fs v o ⊎ IsGivenUp t es c u fs v o
+UpdatesOn s t es c u fs v o = CommitGoesOn s t es c u fs v o ⊎ IsGivenUp t es c u fs v o
 
 -- a step of a commit: its end, or an operation on a document, which leaves the memory
 abbrev pub CommitsOn : ℕ → ℕ → Parts → Committing → Parts → Work → StepOut → Type 0
 CommitsOn s k p c q v o =
-    Ends k p c q v o ⊎ ((q.memory ≡ p.memory) × UpdatesOn s p.table p.list c q.table q.list v o)
+    EndsCommit k p c q v o ⊎ ((q.memory ≡ p.memory) × UpdatesOn s p.table p.list c q.table q.list v o)
 
 -- the base moves to the head once that sees r, and awaits an earlier revision until then
 abbrev pub Moves : ℕ → NodeState → List Event → Revision → NodeState → List Event → Work → StepOut
@@ -321,7 +321,7 @@ Refused p q v = (q ≡ p) × (v ≡ work.Rest)
 
 -- a background write, once the documents have answered what it asked
 abbrev pub published_on : Table → BackWrite → BackWrite
-published_on t b = publishing.fed b (answered t (publishing.due b))
+published_on t b = publishing.fed b (answered_by t (publishing.due b))
 
 -- a background write makes the update that is due, and is fed the answer; where that is the root's,
 -- its revision is published, and the task ends
@@ -344,11 +344,11 @@ PublishesOn s k p b q v _ = ⊥
 abbrev pub PublishesFirst : ℕ → ℕ → Parts → Pending → Parts → Work → StepOut → Type 0
 PublishesFirst s k p n q v o =
     ((o ≡ answers.Memory) × Refused p q v)
-    ⊎ ((a : Global) × (b : BackWrite) × publishing.IsBegun a n b × PublishesOn s k p b q v o)
+    ⊎ ((a : Global) × (b : BackWrite) × publishing.HasWrittenNothing a n b × PublishesOn s k p b q v o)
 
 -- a background read, once the documents have answered what it asked
 abbrev pub learned_on : Table → BackRead → BackRead
-learned_on t b = learning.fed b (answered t (learning.due b))
+learned_on t b = learning.fed b (answered_by t (learning.due b))
 
 -- a background read is fed the root's document; then the memory learns the two vectors that it
 -- read, and the task ends
@@ -452,7 +452,7 @@ Steps s k p work.Refresh q v (answers.Ready (ends.Pinned pin)) =
     × (v ≡ work.Rest)
 Steps s k p work.Refresh q v answers.Memory = Refused p q v
 Steps s k p work.Refresh q v _ = ⊥
-Steps s k p (work.Read r) q v o = (q ≡ p) × ReadsOn p.table r v o
+Steps s k p (work.Read r) q v o = (q ≡ p) × ReadsNext p.table r v o
 Steps s k p (work.Changes r) q v o = (q ≡ p) × ReadsChangesOn p.table r v o
 Steps s k p (work.Plan edit marks) q v (answers.Went kind.Draw) =
     (q ≡ parts p.table (with_notes (next_draw p.memory) (with_draw p.memory (next_draw p.memory))
@@ -460,11 +460,11 @@ Steps s k p (work.Plan edit marks) q v (answers.Went kind.Draw) =
     (p.list ++ event.Draw (record {
       revision = next_draw p.memory;
       session = s;
-      base = base_at p.memory s;
+      base = pinned_base p.memory s;
       edit = edit;
       marks = marks;
     }) ∷ []))
-    × (v ≡ work.Commit (begun (next_draw p.memory) (base_at p.memory s) edit marks))
+    × (v ≡ work.Commit (begun (next_draw p.memory) (pinned_base p.memory s) edit marks))
 Steps s k p (work.Plan edit marks) q v answers.Memory = Refused p q v
 Steps s k p (work.Plan edit marks) q v _ = ⊥
 Steps s k p (work.Commit c) q v o = CommitsOn s k p c q v o
@@ -516,16 +516,16 @@ IsPublishing syncing.Publish = Unit {0}
 IsPublishing _ = ⊥
 
 -- a background read has the root to read, or the memory has to learn
-abbrev pub IsReading : Syncing → Type 0
-IsReading syncing.Read = Unit {0}
-IsReading syncing.Learn = Unit {0}
-IsReading _ = ⊥
+abbrev pub IsBackReading : Syncing → Type 0
+IsBackReading syncing.Read = Unit {0}
+IsBackReading syncing.Learn = Unit {0}
+IsBackReading _ = ⊥
 
 -- background work has something due; a checkpoint is made, a cursor pinned, and a session detached,
 -- where the session is pinned
 abbrev pub CanKeepUp : ℕ → NodeState → Upkeep → Type 0
 CanKeepUp s m (upkeep.Publish b) = IsPublishing (publishing.stage_of b)
-CanKeepUp s m (upkeep.Read b) = IsReading (learning.stage_of b)
+CanKeepUp s m (upkeep.Read b) = IsBackReading (learning.stage_of b)
 CanKeepUp s m (upkeep.Checkpoint i) = IsSome (pin_of m s)
 CanKeepUp s m upkeep.Detach = IsSome (pin_of m s)
 CanKeepUp s m upkeep.Observe = (s < 64) × IsSome (pin_of m s)

@@ -52,14 +52,14 @@ CanBegin pin (task.Recover k) = ⊥
 CanBegin pin _ = Unit {0}
 
 -- the kind of the next step of a committer that stands in a stage
-abbrev pub kind_of : Stage → Option StepKind
-kind_of stage.Mark = Some kind.Mark
-kind_of stage.Write = Some kind.Write
-kind_of stage.Look = Some kind.Read
-kind_of stage.Last = Some kind.Last
-kind_of stage.Undo = Some kind.Undo
-kind_of stage.Finish = Some kind.Finish
-kind_of stage.Done = None
+abbrev pub kind_of_stage : Stage → Option StepKind
+kind_of_stage stage.Mark = Some kind.Mark
+kind_of_stage stage.Write = Some kind.Write
+kind_of_stage stage.Look = Some kind.Read
+kind_of_stage stage.Last = Some kind.Last
+kind_of_stage stage.Undo = Some kind.Undo
+kind_of_stage stage.Finish = Some kind.Finish
+kind_of_stage stage.Done = None
 
 -- the kind of the step that is due, if a step is
 abbrev pub kind_due : Work → Option StepKind
@@ -70,6 +70,6 @@ kind_due work.Refresh = Some kind.Pin
 kind_due (work.Read r) = Some kind.Read
 kind_due (work.Changes r) = Some kind.Read
 kind_due (work.Plan edit marks) = Some kind.Draw
-kind_due (work.Commit c) = kind_of (stage_of c)
+kind_due (work.Commit c) = kind_of_stage (stage_of c)
 kind_due (work.Move r) = Some kind.Pin
 kind_due (work.Upkeep u) = Some (kind_kept u)

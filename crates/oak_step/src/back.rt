@@ -10,7 +10,7 @@ ghost use Rattle.oak_store.specs.Tables.{Table};
 ghost use Rattle.oak_sync.specs.Learning as learning;
 ghost use Rattle.oak_sync.specs.Publishing as publishing;
 ghost use Rattle.oak_sync.specs.declared.stage.Stage.TheVariants as stage;
-ghost use Rattle.oak_step.specs.Parts.{IsPublishing, IsReading, KeepsUp, LearnsOn, PublishesOn, parts};
+ghost use Rattle.oak_step.specs.Parts.{IsPublishing, IsBackReading, KeepsUp, LearnsOn, PublishesOn, parts};
 ghost use Rattle.oak_step.specs.declared.upkeep.Upkeep.TheVariants as upkeep;
 ghost use Rattle.oak_step.specs.declared.work.Work.TheVariants as work;
 
@@ -131,7 +131,7 @@ pub(crate) fn read(
     read: BackRead,
 ) -> (Work, StepOut)
     requires table { IsTable table.old.documents }
-    requires due { IsReading (learning.stage_of read) }
+    requires due { IsBackReading (learning.stage_of read) }
     ensures made { LearnsOn s node (parts table.old memory.old events.old.list) read
         (parts table.new memory.new events.new.list) result.0 result.1 }
     ensures places { events.new.places ≡ events.old.places }

@@ -9,7 +9,7 @@ ghost use Rattle.oak_machine.specs.declared.event.Event.TheVariants as event;
 ghost use Rattle.oak_node.specs.Heads.{IsInFlight, finished, known_time, next_draw, with_draw};
 ghost use Rattle.oak_node.specs.Notes.{with_notes};
 ghost use Rattle.oak_read.specs.Reading.{IsTable};
-ghost use Rattle.oak_step.specs.Parts.{IsDue, IsLast, IsLastFault, IsMarked, IsRefusedBy, IsUndone, IsWritten, base_at, end_events, needed_by, refusal_at};
+ghost use Rattle.oak_step.specs.Parts.{IsUpdateDue, IsLast, IsLastFault, IsMarked, IsRefusedBy, IsDocumentUndone, IsWritten, pinned_base, end_events, needed_by, mark_refusal};
 
 use jr_path::{DeepCopy, Item, List};
 use jr_rev::{RevVec, Revision};
@@ -36,13 +36,13 @@ pub(crate) fn begin(
 ) -> Result<Committer, AllocError>
     requires { known_time memory.old < 2 ^ 64 - 1 }
     ensures committer { IfOk result
-        (λ committer. committer ≡ begun (next_draw memory.old) (base_at memory.old s) edit marks) }
+        (λ committer. committer ≡ begun (next_draw memory.old) (pinned_base memory.old s) edit marks) }
     ensures memory { OnOk result (memory.new ≡ with_notes (next_draw memory.old)
         (with_draw memory.old (next_draw memory.old)) (marked_paths marks)) }
     ensures list { OnOk result (events.new.list ≡ events.old.list ++ event.Draw (record {
       revision = next_draw memory.old;
       session = s;
-      base = base_at memory.old s;
+      base = pinned_base memory.old s;
       edit = edit;
       marks = marks;
     }) ∷ []) }
@@ -137,7 +137,7 @@ fn draw(
 
 // The update that is due.
 fn next_update(committer: &Committer) -> Result<UpdateOp, AllocError>
-    requires { IsDue committer.now }
+    requires { IsUpdateDue committer.now }
     ensures { IfOk result (λ op. ask.Update op ≡ due_of committer.now) }
 {
     match committer.next()? {
@@ -191,7 +191,7 @@ fn mark_by(
     requires table { IsTable table.old.documents }
     requires stage { stage_of committer.old ≡ stage.Mark }
     requires due { ask.Update op.now ≡ due_of committer.old }
-    requires refusal { refusal_at committer.old (event.Refuse committer.old.revision item other) }
+    requires refusal { mark_refusal committer.old (event.Refuse committer.old.revision item other) }
     requires place { 0 < events.old.places }
     ensures made { OnOk result (IsMarked s table.old table.new events.old.list events.new.list
         committer.old committer.new) }
@@ -228,7 +228,7 @@ fn mark_by(
 fn met(committer: &Committer) -> Result<(Item, Revision), AllocError>
     requires { IsSome (slice_get committer.now.writer.due 0) }
     ensures { IfOk result
-        (λ met. refusal_at committer.now (event.Refuse committer.now.revision met.0 met.1)) }
+        (λ met. mark_refusal committer.now (event.Refuse committer.now.revision met.0 met.1)) }
 {
     match (committer.due_item(), committer.due_other()) {
         (Some(item), Some(other)) => Ok((item.copy()?, other)),
@@ -351,7 +351,7 @@ pub(crate) fn undo(table: &mut DocTable, events: &mut Events, committer: &mut Co
     requires table { IsTable table.old.documents }
     requires stage { stage_of committer.old ≡ stage.Undo }
     requires place { 0 < events.old.places }
-    ensures made { IsUndone s table.old table.new events.old.list events.new.list
+    ensures made { IsDocumentUndone s table.old table.new events.old.list events.new.list
         committer.old committer.new }
     ensures needs { needed_by committer.new + 1 ≤ needed_by committer.old }
     ensures places { events.new.places + 1 ≡ events.old.places }

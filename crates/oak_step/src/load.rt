@@ -3,7 +3,7 @@ ghost use Rattle.std.specs.Prelude.{◌≡◌, OnErr, OnOk};
 ghost use Rattle.oak_doc.specs.declared.asks.Ask.TheVariants as ask;
 ghost use Rattle.oak_read.specs.Reading.{answer, due, fed};
 ghost use Rattle.oak_changes.specs.Reading as changes;
-ghost use Rattle.oak_step.specs.Parts.{ReadsChangesOn, ReadsOn, end_of_reading};
+ghost use Rattle.oak_step.specs.Parts.{ReadsChangesOn, ReadsNext, end_of_reading};
 
 use crate::work::Work;
 use oak_acts::answer;
@@ -17,7 +17,7 @@ use std::alloc::AllocError;
 // The reader is fed what the documents answer to what is due, and where it is done then it gives
 // what it read.
 pub(crate) fn read(table: &DocTable, reader: Reader) -> (Work, StepOut)
-    ensures { ReadsOn table.now reader result.0 result.1 }
+    ensures { ReadsNext table.now reader result.0 result.1 }
 {
     let mut reader = reader;
     if read_once(table, &mut reader).is_err() {

@@ -3,7 +3,7 @@ ghost use Rattle.std.specs.Prelude.{◌≡◌, ◌≤◌, ◌+◌, ◌++◌, IfO
 ghost use Rattle.oak_commit.specs.Stages.{stage_of};
 ghost use Rattle.oak_node.specs.Heads.{finished};
 ghost use Rattle.oak_read.specs.Reading.{IsTable};
-ghost use Rattle.oak_step.specs.Parts.{CanCommit, CanMove, CanStep, CommitsOn, EndsSo, IsOver, IsUpdating, Moves, Steps, Updates, UpdatesOn, end_events, needed, needed_by, parts};
+ghost use Rattle.oak_step.specs.Parts.{CanCommit, CanMove, CanStep, CommitsOn, EndsSo, IsOver, IsUpdating, Moves, Steps, UpdatesDocument, UpdatesOn, end_events, needed, needed_by, parts};
 
 use crate::commit;
 use crate::load::{read, read_changes};
@@ -127,7 +127,7 @@ fn update(
     requires updating { IsUpdating (stage_of committer.old) }
     requires places { needed_by committer.old ≤ events.old.places }
     requires table { IsTable table.old.documents }
-    ensures made { IfOk result (λ kind. Updates s table.old events.old.list committer.old table.new
+    ensures made { IfOk result (λ kind. UpdatesDocument s table.old events.old.list committer.old table.new
         events.new.list committer.new kind) }
     ensures going { OnErr result (committer.old.outcome ≡ None) }
     ensures table { OnErr result (table.new ≡ table.old) }

@@ -1,6 +1,6 @@
 // What a session does, and the kind of its next step.
 ghost use Rattle.std.specs.Prelude.{◌≡◌, IfOk};
-ghost use Rattle.oak_step.specs.Works.{Begins, CanBegin, kind_due, kind_of};
+ghost use Rattle.oak_step.specs.Works.{Begins, CanBegin, kind_due, kind_of_stage};
 
 use crate::upkeep::Upkeep;
 use jr_path::List;
@@ -92,7 +92,7 @@ impl Work {
 
 // The kind of the step of a committer.
 fn kind_of(stage: Stage) -> Option<StepKind>
-    ensures { result ≡ kind_of stage }
+    ensures { result ≡ kind_of_stage stage }
 {
     match stage {
         Stage::Mark => Some(StepKind::Mark),

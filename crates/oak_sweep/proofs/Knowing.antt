@@ -18,7 +18,7 @@ use Rattle.oak_doc.specs.declared.document.Document.{Document}
 use Rattle.oak_doc.specs.declared.asks.Ask.{Ask}
 use Rattle.oak_doc.specs.declared.asks.Ask.TheVariants as ask
 use Rattle.oak_doc.specs.declared.asks.Reply.TheVariants as reply
-use Rattle.oak_sweep.specs.Ending.{IsUpTo, KnowsOf, TablesKnow, answer}
+use Rattle.oak_sweep.specs.Ending.{IsUpTo, KnowsOf, TablesKnow, sweeper_answer}
 use Rattle.oak_sweep.proofs.Passing.{Entries, behind, passes, passes_if}
 
 abbrev Named : Entries → Type 0
@@ -73,7 +73,7 @@ tables_know table is y d there a = by a
     named : Named table
     named = recursion_from_All (λ e. e.1.id ≡ e.0) table is.named
 
-    by : (a : Ask) → KnowsOf y a (answer table a)
+    by : (a : Ask) → KnowsOf y a (sweeper_answer table a)
     by (ask.NextAfter None) = λ h. let f = all_upto y d table is.ordered named there in (f.0, ap reply.Found f.1, f.2)
     by (ask.NextAfter (Some x)) = λ less. let f = behind_upto x y d table is.ordered named less there in (f.0, ap reply.Found f.1, f.2)
     by (ask.Find x) = tt

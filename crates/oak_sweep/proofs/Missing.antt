@@ -14,7 +14,7 @@ use Rattle.oak_doc.specs.declared.document.Document.{Document}
 use Rattle.oak_doc.specs.declared.asks.Ask.TheVariants as ask
 use Rattle.oak_doc.specs.declared.asks.Reply.{Reply}
 use Rattle.oak_doc.specs.declared.asks.Reply.TheVariants as reply
-use Rattle.oak_sweep.specs.Sweeping.{begun, due, fed, node_of, passed, sweep_op, target_in}
+use Rattle.oak_sweep.specs.Sweeping.{begun, due, fed, node_found, node_passed, sweep_op, target_in}
 use Rattle.oak_sweep.specs.Ending.{AllKnow, IsUpTo, MissesNone, WasShown}
 use Rattle.oak_sweep.specs.declared.sweeper.Sweeper.{Sweeper}
 use Rattle.oak_sweep.specs.declared.sweeper.Step.{Step}
@@ -52,12 +52,12 @@ module _ (p : Path) (a : Global) (cluster : ℕ) where
   none_due t step.Done h r e = h
 
   -- the document that was found is y, or the sweep goes on short of it
-  on_found : (t : Revision) (s : Step) (d : Document) (rs : List Reply) → IsUpTo (id.Node p) d → Shows rs → (e : Sweeper) → e ≡ passed (at t s) (node_of (Some d)) → AllKnow (id.Node p) e rs → (r : Revision) → due (fold fed e rs) ≡ ask.Update (sweep_op r) → WasShown (id.Node p) (reply.Found (Some d) ∷ rs)
+  on_found : (t : Revision) (s : Step) (d : Document) (rs : List Reply) → IsUpTo (id.Node p) d → Shows rs → (e : Sweeper) → e ≡ node_passed (at t s) (node_found (Some d)) → AllKnow (id.Node p) e rs → (r : Revision) → due (fold fed e rs) ≡ ask.Update (sweep_op r) → WasShown (id.Node p) (reply.Found (Some d) ∷ rs)
   on_found t s d rs upto go e is know r asks = by d.id refl
     where
       at_node : (q : Path) → d.id ≡ id.Node q → (o : Ordering) → id_cmp (id.Node q) (id.Node p) ≡ o → WasShown (id.Node p) (reply.Found (Some d) ∷ rs)
       at_node q same Less order =
-          let goes : e ≡ at t (step.Behind q) = is ∙ ap (λ x. passed (at t s) (node_path x)) same in
+          let goes : e ≡ at t (step.Behind q) = is ∙ ap (λ x. node_passed (at t s) (node_path x)) same in
           shown_behind (id.Node p) (reply.Found (Some d)) rs (go t (step.Behind q) order (subst (λ (e : Sweeper). AllKnow (id.Node p) e rs) goes know) r (ap (λ (e : Sweeper). due (fold fed e rs)) (sym goes) ∙ asks))
       at_node q same Equal order = shown_first (id.Node p) d rs (same ∙ id_exact (id.Node q) (id.Node p) order)
       at_node q same Greater order = absurd (upto (ap (λ x. id_cmp x (id.Node p)) same ∙ order))

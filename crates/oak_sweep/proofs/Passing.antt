@@ -25,8 +25,8 @@ use Rattle.oak_doc.specs.declared.asks.Ask.TheVariants as ask
 use Rattle.oak_doc.specs.declared.asks.Reply.TheVariants as reply
 use Rattle.oak_read.specs.Meaning.{documents_in}
 use Rattle.oak_read.specs.Reading.{IsTable}
-use Rattle.oak_sweep.specs.Sweeping.{begun, due, fed, node_of, passed, sweep_op, target_in}
-use Rattle.oak_sweep.specs.Ending.{SweepsAll, after_replies, answer, asked, asks_behind, nodes_of}
+use Rattle.oak_sweep.specs.Sweeping.{begun, due, fed, node_found, node_passed, sweep_op, target_in}
+use Rattle.oak_sweep.specs.Ending.{SweepsAll, sweeper_after, sweeper_answer, asked_first, asks_behind, nodes_of}
 use Rattle.oak_sweep.specs.declared.sweeper.Sweeper.{Sweeper}
 use Rattle.oak_sweep.specs.declared.sweeper.Step.{Step}
 use Rattle.oak_sweep.specs.declared.sweeper.Step.TheVariants as step
@@ -97,14 +97,14 @@ module _ (table : Entries) (is : IsTable table) (a : Global) (cluster : ℕ) whe
 
   -- it asks for these, and ends
   abbrev Walks : Sweeper → List Ask → Type 0
-  Walks s asks = (n : ℕ) × (asked table n s ≡ asks) × (due (after_replies table n s) ≡ ask.Done) × ((after_replies table n s).target ≡ target)
+  Walks s asks = (n : ℕ) × (asked_first table n s ≡ asks) × (due (sweeper_after table n s) ≡ ask.Done) × ((sweeper_after table n s).target ≡ target)
 
-  one_more : (s e : Sweeper) (asks : List Ask) → fed s (answer table (due s)) ≡ e → Walks e asks → Walks s (due s ∷ asks)
+  one_more : (s e : Sweeper) (asks : List Ask) → fed s (sweeper_answer table (due s)) ≡ e → Walks e asks → Walks s (due s ∷ asks)
   one_more s e asks is w =
-      let v : Walks (fed s (answer table (due s))) asks = subst (λ e. Walks e asks) (sym is) w in
+      let v : Walks (fed s (sweeper_answer table (due s))) asks = subst (λ e. Walks e asks) (sym is) w in
       (suc v.0, ap (λ (rest : List Ask). due s ∷ rest) v.1, v.2, v.3)
 
-  tells : fed (at step.Publish) (answer table (ask.Update (sweep_op target))) ≡ at step.Learn
+  tells : fed (at step.Publish) (sweeper_answer table (ask.Update (sweep_op target))) ≡ at step.Learn
   tells = by (documents_in table (id.Node []))
     where
       by : (o : Option Document) → fed (at step.Publish) (option_map_or (λ d. reply.Updated (Some d)) o reply.Absent) ≡ at step.Learn
@@ -132,24 +132,24 @@ module _ (table : Entries) (is : IsTable table) (a : Global) (cluster : ℕ) whe
       by [] h = h
       by (f ∷ front) h = by front h.1
 
-  step_behind : (q : Path) (d : Document) (front more : Entries) → table ≡ front ++ (id.Node q, d) ∷ more → fed (at (step.Behind q)) (answer table (ask.NextAfter (Some (id.Node q)))) ≡ passed (at (step.Behind q)) (node_of (first_found more))
-  step_behind q d front more split = ap (λ (es : Entries). passed (at (step.Behind q)) (node_of (first_found es))) (subst (λ (es : Entries). behind (id.Node q) es ≡ more) (sym split) (behind_front front more (id.Node q, d) (subst (λ (es : Entries). IsStrictlySortedBy id_cmp (keys_of es)) split is.ordered)))
+  step_behind : (q : Path) (d : Document) (front more : Entries) → table ≡ front ++ (id.Node q, d) ∷ more → fed (at (step.Behind q)) (sweeper_answer table (ask.NextAfter (Some (id.Node q)))) ≡ node_passed (at (step.Behind q)) (node_found (first_found more))
+  step_behind q d front more split = ap (λ (es : Entries). node_passed (at (step.Behind q)) (node_found (first_found es))) (subst (λ (es : Entries). behind (id.Node q) es ≡ more) (sym split) (behind_front front more (id.Node q, d) (subst (λ (es : Entries). IsStrictlySortedBy id_cmp (keys_of es)) split is.ordered)))
 
   -- behind the last node's document
-  no_more : (x : DocId) (d : Document) (more front : Entries) (s : Step) → node_path x ≡ None → table ≡ front ++ (x, d) ∷ more → fed (at s) (answer table (due (at s))) ≡ passed (at s) (node_of (Some d)) → Walks (at s) (due (at s) ∷ asks_behind target (nodes_of more))
+  no_more : (x : DocId) (d : Document) (more front : Entries) (s : Step) → node_path x ≡ None → table ≡ front ++ (x, d) ∷ more → fed (at s) (sweeper_answer table (due (at s))) ≡ node_passed (at s) (node_found (Some d)) → Walks (at s) (due (at s) ∷ asks_behind target (nodes_of more))
   unfolding IsStrictlySortedBy
   no_more x d more front s other split fed_is =
       subst (λ ps. Walks (at s) (due (at s) ∷ asks_behind target ps)) (sym (none_after x other more (rest_above (sorted_from front ((x, d) ∷ more) split))))
-      (one_more (at s) (at step.Publish) (asks_behind target []) (fed_is ∙ ap (passed (at s)) (ap node_path (named_in front more (x, d) split) ∙ other)) ends)
+      (one_more (at s) (at step.Publish) (asks_behind target []) (fed_is ∙ ap (node_passed (at s)) (ap node_path (named_in front more (x, d) split) ∙ other)) ends)
     where
       rest_above : IsStrictlySortedBy id_cmp (keys_of ((x, d) ∷ more)) → AllByRecursion (λ y. id_cmp x y ≡ Less) (keys_of more)
       rest_above h = h.0
 
   -- from a step at which these documents are left
-  from : (more front : Entries) (s : Step) → table ≡ front ++ more → fed (at s) (answer table (due (at s))) ≡ passed (at s) (node_of (first_found more)) → Walks (at s) (due (at s) ∷ asks_behind target (nodes_of more))
+  from : (more front : Entries) (s : Step) → table ≡ front ++ more → fed (at s) (sweeper_answer table (due (at s))) ≡ node_passed (at s) (node_found (first_found more)) → Walks (at s) (due (at s) ∷ asks_behind target (nodes_of more))
   from [] front s split fed_is = one_more (at s) (at step.Publish) (asks_behind target []) fed_is ends
   from ((id.Node q, d) ∷ more) front s split fed_is =
-      one_more (at s) (at (step.Behind q)) _ (fed_is ∙ ap (λ x. passed (at s) (node_path x)) (named_in front more (id.Node q, d) split))
+      one_more (at s) (at (step.Behind q)) _ (fed_is ∙ ap (λ x. node_passed (at s) (node_path x)) (named_in front more (id.Node q, d) split))
       (from more (front ++ (id.Node q, d) ∷ []) (step.Behind q) (split ∙ sym (append_assoc front ((id.Node q, d) ∷ []) more)) (step_behind q d front more split))
   from ((id.Prev n q, d) ∷ more) front s split fed_is = no_more (id.Prev n q) d more front s refl split fed_is
   from ((id.Settings, d) ∷ more) front s split fed_is = no_more id.Settings d more front s refl split fed_is

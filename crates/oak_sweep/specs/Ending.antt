@@ -25,20 +25,20 @@ use Rattle.oak_sweep.specs.declared.sweeper.Sweeper.{Sweeper}
 -- ---- over documents at rest
 
 -- what documents at rest, and a memory, answer
-abbrev pub answer : List (DocId × Document) → Ask → Reply
-answer table (ask.Update op) = option_map_or (λ d. reply.Updated (Some d)) (documents_in table op.id) reply.Absent
-answer table (ask.Memory m) = reply.Learnt
-answer table a = reading.answer table a
+abbrev pub sweeper_answer : List (DocId × Document) → Ask → Reply
+sweeper_answer table (ask.Update op) = option_map_or (λ d. reply.Updated (Some d)) (documents_in table op.id) reply.Absent
+sweeper_answer table (ask.Memory m) = reply.Learnt
+sweeper_answer table a = reading.answer table a
 
 -- a sweep after n replies of documents at rest, each to what is due
-abbrev pub after_replies : List (DocId × Document) → ℕ → Sweeper → Sweeper
-after_replies table zero s = s
-after_replies table (suc n) s = after_replies table n (fed s (answer table (due s)))
+abbrev pub sweeper_after : List (DocId × Document) → ℕ → Sweeper → Sweeper
+sweeper_after table zero s = s
+sweeper_after table (suc n) s = sweeper_after table n (fed s (sweeper_answer table (due s)))
 
 -- the first n things that it asks for
-abbrev pub asked : List (DocId × Document) → ℕ → Sweeper → List Ask
-asked table zero s = []
-asked table (suc n) s = due s ∷ asked table n (fed s (answer table (due s)))
+abbrev pub asked_first : List (DocId × Document) → ℕ → Sweeper → List Ask
+asked_first table zero s = []
+asked_first table (suc n) s = due s ∷ asked_first table n (fed s (sweeper_answer table (due s)))
 
 -- the nodes of a table, in store order of their documents
 abbrev pub nodes_of : List (DocId × Document) → List Path
@@ -53,15 +53,15 @@ asks_behind target nodes = map (λ p. ask.NextAfter (Some (id.Node p))) nodes ++
 abbrev pub SweepsAll : Type 0
 SweepsAll = (table : List (DocId × Document)) (a : Global) (cluster : ℕ) → reading.IsTable table
     → let target = target_in cluster (documents_in table (id.Node [])) in
-    (n : ℕ) × (asked table n (begun a cluster) ≡ ask.Find (id.Node []) ∷ ask.NextAfter None ∷ asks_behind target (nodes_of table))
-    × (due (after_replies table n (begun a cluster)) ≡ ask.Done) × ((after_replies table n (begun a cluster)).target ≡ target)
+    (n : ℕ) × (asked_first table n (begun a cluster) ≡ ask.Find (id.Node []) ∷ ask.NextAfter None ∷ asks_behind target (nodes_of table))
+    × (due (sweeper_after table n (begun a cluster)) ≡ ask.Done) × ((sweeper_after table n (begun a cluster)).target ≡ target)
 
 -- ---- over documents that come and go
 
 -- the id is behind the one that is asked from
-abbrev pub IsBehind : Option DocId → DocId → Type 0
-IsBehind None y = Unit {0}
-IsBehind (Some x) y = id_cmp x y ≡ Less
+abbrev pub IsIdBehind : Option DocId → DocId → Type 0
+IsIdBehind None y = Unit {0}
+IsIdBehind (Some x) y = id_cmp x y ≡ Less
 
 -- the document is y, or one before it
 abbrev pub IsUpTo : DocId → Document → Type 0
@@ -69,12 +69,12 @@ IsUpTo y d = id_cmp d.id y ≢ Greater
 
 -- where y is there: whoever asks for the first document behind an id that y is behind is answered with one, and it isn't behind y
 abbrev pub KnowsOf : DocId → Ask → Reply → Type 0
-KnowsOf y (ask.NextAfter x) r = IsBehind x y → (d : Document) × (r ≡ reply.Found (Some d)) × IsUpTo y d
+KnowsOf y (ask.NextAfter x) r = IsIdBehind x y → (d : Document) × (r ≡ reply.Found (Some d)) × IsUpTo y d
 KnowsOf y _ r = Unit {0}
 
 -- documents at rest know of each document among them
 abbrev pub TablesKnow : Type 0
-TablesKnow = (table : List (DocId × Document)) → reading.IsTable table → (y : DocId) (d : Document) → documents_in table y ≡ Some d → (a : Ask) → KnowsOf y a (answer table a)
+TablesKnow = (table : List (DocId × Document)) → reading.IsTable table → (y : DocId) (d : Document) → documents_in table y ≡ Some d → (a : Ask) → KnowsOf y a (sweeper_answer table a)
 
 -- each reply to what was due then knows of y
 abbrev pub AllKnow : DocId → Sweeper → List Reply → Type 0

@@ -31,8 +31,8 @@ abbrev pub target_in : ℕ → Option Document → Revision
 target_in cluster root = unwrap_or (option_and_then (λ d. entry d.last_rev cluster) root) (start_of cluster)
 
 -- the path of the node whose document was found
-abbrev pub node_of : Option Document → Option Path
-node_of found = option_and_then (λ d. node_path d.id) found
+abbrev pub node_found : Option Document → Option Path
+node_found found = option_and_then (λ d. node_path d.id) found
 
 -- the update of the root's document: it raises the entry of `_sweepRev`, and makes no document
 abbrev pub sweep_op : Revision → UpdateOp
@@ -63,8 +63,8 @@ stage_of s = by s.step
     by step.Done = stage.Done
 
 -- a node's document is passed; behind the last one the root is told
-abbrev pub passed : Sweeper → Option Path → Sweeper
-passed s node = record s { step = option_map_or step.Behind node step.Publish }
+abbrev pub node_passed : Sweeper → Option Path → Sweeper
+node_passed s node = record s { step = option_map_or step.Behind node step.Publish }
 
 -- the update of the root's document is made, or there is none
 abbrev pub told : Sweeper → Sweeper
@@ -80,8 +80,8 @@ fed s (reply.Found found) = by s.step
   where
     by : Step → Sweeper
     by step.Root = record s { target = target_in s.cluster found; step = step.First }
-    by step.First = passed s (node_of found)
-    by (step.Behind p) = passed s (node_of found)
+    by step.First = node_passed s (node_found found)
+    by (step.Behind p) = node_passed s (node_found found)
     by _ = s
 fed s (reply.Updated before) = told s
 fed s reply.Absent = told s

@@ -4,7 +4,7 @@ ghost use Rattle.std.specs.Option.{option_copied};
 ghost use Rattle.oak_doc.specs.declared.asks.Ask.TheVariants as ask;
 ghost use Rattle.oak_doc.specs.declared.asks.Reply.TheVariants.{Found, Learnt};
 ghost use Rattle.jr_rev.specs.Vectors.{no_entries, raised};
-ghost use Rattle.oak_sweep.specs.Sweeping.{begun, due, fed, node_of, passed, stage_of, sweep_op, target_in, told};
+ghost use Rattle.oak_sweep.specs.Sweeping.{begun, due, fed, node_found, node_passed, stage_of, sweep_op, target_in, told};
 
 use crate::Stage;
 use jr_path::{DeepCopy, DocId, List, Path};
@@ -167,7 +167,7 @@ impl Sweeper {
 
     // Passes over a node's document; behind the last one the root is told.
     fn pass(&mut self, found: Option<Document>)
-        ensures { self.new ≡ passed self.old (node_of found) }
+        ensures { self.new ≡ node_passed self.old (node_found found) }
     {
         self.step = match node_of(found) {
             Some(path) => Step::Behind(path),
@@ -210,7 +210,7 @@ impl Sweeper {
 
 // The path of the node whose document it is.
 fn node_of(found: Option<Document>) -> Option<Path>
-    ensures { result ≡ node_of found }
+    ensures { result ≡ node_found found }
 {
     let mut document = found?;
     std::mem::replace(&mut document.id, DocId::Settings).into_node_path()

@@ -26,7 +26,7 @@ use Rattle.oak_doc.specs.declared.asks.Reply.TheVariants as reply
 use Rattle.oak_doc.specs.Updates.{updated}
 use Rattle.oak_sync.specs.Upward.{AreUpward, backward_cmp}
 use Rattle.oak_sync.specs.Publishing.{back_op, due, fed, went_on}
-use Rattle.oak_sync.specs.Ending.{Learns, Alone, AsksUpward, Documents, Publishes, after_ask, after_result, answer, after_steps, is_made_or_gone, told}
+use Rattle.oak_sync.specs.Ending.{Learns, Alone, AsksUpward, DocumentsById, Publishes, after_due, after_result, back_answer, after_steps, is_made_or_gone, with_last_rev}
 use Rattle.oak_sync.specs.Learning as learning
 use Rattle.oak_sync.specs.Learning.{with_root}
 use Rattle.oak_sync.specs.declared.back_read.BackRead.{BackRead}
@@ -175,7 +175,7 @@ asks_upward a pending b is rs made =
 
 pub record Stepped (p : Path) (upto : Revision) (s e : Alone) : Type 0 where
   pub writer : e.writer ≡ went_on s.writer
-  pub raised : (d : Document) → s.documents (id.Node p) ≡ Some d → (number : ℕ) × (e.documents (id.Node p) ≡ Some (told upto number d))
+  pub raised : (d : Document) → s.documents (id.Node p) ≡ Some d → (number : ℕ) × (e.documents (id.Node p) ≡ Some (with_last_rev upto number d))
   pub gone : s.documents (id.Node p) ≡ None → e.documents (id.Node p) ≡ None
   pub others : (x : DocId) → x ≢ id.Node p → e.documents x ≡ s.documents x
 
@@ -188,9 +188,9 @@ no_document p upto s none = record { writer = refl; raised = λ d h. absurd (som
 a_document : (p : Path) (upto : Revision) (s : Alone) (d : Document) → s.documents (id.Node p) ≡ Some d → Stepped p upto s (after_result s (id.Node p) (updated (Some d) (back_op p upto) (s.number + 1)))
 a_document p upto s d there = record {
   writer = refl;
-  raised = λ d' h. (s.number + 1, ap (λ b. cond b (Some (told upto (s.number + 1) d)) (s.documents (id.Node p))) (itself (id.Node p)) ∙ ap (λ (o : Option Document). option_map (told upto (s.number + 1)) o) (sym there ∙ h));
+  raised = λ d' h. (s.number + 1, ap (λ b. cond b (Some (with_last_rev upto (s.number + 1) d)) (s.documents (id.Node p))) (itself (id.Node p)) ∙ ap (λ (o : Option Document). option_map (with_last_rev upto (s.number + 1)) o) (sym there ∙ h));
   gone = λ h. absurd (some_none d (sym there ∙ h));
-  others = λ x apart. ap (λ b. cond b (Some (told upto (s.number + 1) d)) (s.documents x)) (another x (id.Node p) apart);
+  others = λ x apart. ap (λ b. cond b (Some (with_last_rev upto (s.number + 1) d)) (s.documents x)) (another x (id.Node p) apart);
 }
   where
     some_none : (d : Document) → ◌≡◌ {A = Option Document} (Some d) None → ⊥
@@ -206,15 +206,15 @@ a_document p upto s d there = record {
         by true e = absurd (apart ((tested id_total id_exact x y).0 e))
         by false e = refl
 
-one_step : (p : Path) (upto : Revision) (s : Alone) → Stepped p upto s (after_ask s (ask.Update (back_op p upto)))
+one_step : (p : Path) (upto : Revision) (s : Alone) → Stepped p upto s (after_due s (ask.Update (back_op p upto)))
 one_step p upto s = by (s.documents (id.Node p)) refl
   where
     by : (o : Option Document) → s.documents (id.Node p) ≡ o → Stepped p upto s (after_result s (id.Node p) (updated (s.documents (id.Node p)) (back_op p upto) (s.number + 1)))
     by None is = subst (λ o. Stepped p upto s (after_result s (id.Node p) (updated o (back_op p upto) (s.number + 1)))) (sym is) (no_document p upto s is)
     by (Some d) is = subst (λ o. Stepped p upto s (after_result s (id.Node p) (updated o (back_op p upto) (s.number + 1)))) (sym is) (a_document p upto s d is)
 
-pub record ToldAmong (ps : List Path) (upto : Revision) (before after : Documents) : Type 0 where
-  pub raised : (p : Path) (d : Document) → Contains ps p → before (id.Node p) ≡ Some d → (number : ℕ) × (after (id.Node p) ≡ Some (told upto number d))
+pub record ToldAmong (ps : List Path) (upto : Revision) (before after : DocumentsById) : Type 0 where
+  pub raised : (p : Path) (d : Document) → Contains ps p → before (id.Node p) ≡ Some d → (number : ℕ) × (after (id.Node p) ≡ Some (with_last_rev upto number d))
   pub gone : (p : Path) → Contains ps p → before (id.Node p) ≡ None → after (id.Node p) ≡ None
   pub others : (x : DocId) → ((p : Path) → Contains ps p → x ≡ id.Node p → ⊥) → after x ≡ before x
 
@@ -222,7 +222,7 @@ abbrev writing : Global → Revision → List Path → ℕ → BackWrite
 writing a upto paths w = record { alloc = a; upto = upto; paths = paths; written = w }
 
 -- one document, and then the others
-told_first : (p : Path) (ps : List Path) (upto : Revision) (s e : Alone) (after : Documents) → (Contains ps p → ⊥) → Stepped p upto s e → ToldAmong ps upto e.documents after → ToldAmong (p ∷ ps) upto s.documents after
+told_first : (p : Path) (ps : List Path) (upto : Revision) (s e : Alone) (after : DocumentsById) → (Contains ps p → ⊥) → Stepped p upto s e → ToldAmong ps upto e.documents after → ToldAmong (p ∷ ps) upto s.documents after
 told_first p ps upto s e after once step rest = record {
   raised = λ q d t h. raises q d h (contains_cases p q ps t);
   gone = λ q t h. goes q h (contains_cases p q ps t);
@@ -238,7 +238,7 @@ told_first p ps upto s e after once step rest = record {
     apart_from : (q : Path) → Contains ps q → id.Node q ≢ id.Node p
     apart_from q t same = once (subst (λ x. Contains ps x) (same_path q p same) t)
 
-    raises : (q : Path) (d : Document) → s.documents (id.Node q) ≡ Some d → (p ≡ q) ⊎ Contains ps q → (number : ℕ) × (after (id.Node q) ≡ Some (told upto number d))
+    raises : (q : Path) (d : Document) → s.documents (id.Node q) ≡ Some d → (p ≡ q) ⊎ Contains ps q → (number : ℕ) × (after (id.Node q) ≡ Some (with_last_rev upto number d))
     raises q d h (inl same) = let r = step.raised d (ap (λ x. s.documents (id.Node x)) same ∙ h) in (r.0, ap (λ x. after (id.Node x)) (sym same) ∙ (still ∙ r.1))
     raises q d h (inr t) = rest.raised q d t (step.others (id.Node q) (apart_from q t) ∙ h)
 
@@ -257,9 +257,9 @@ published [] a upto paths w s is left ordered = (
 published (p ∷ ps) a upto paths w s is left ordered =
     let here = at_place paths w p ps left in
     let asks : due s.writer ≡ ask.Update (back_op p upto) = ap due is ∙ ap (λ o. option_map_or (λ p. ask.Update (back_op p upto)) o ask.Done) here.0 in
-    let step : Stepped p upto s (after_ask s (due s.writer)) = subst (λ q. Stepped p upto s (after_ask s q)) (sym asks) (one_step p upto s) in
-    let rest = published ps a upto paths (w + 1) (after_ask s (due s.writer)) (step.writer ∙ (ap went_on is ∙ went (writing a upto paths w) here.1)) here.2 ordered.1 in
-    (rest.0, rest.1, told_first p ps upto s (after_ask s (due s.writer)) _ (λ t. not_before_itself p (before_member p p ps ordered.0 t)) step rest.2)
+    let step : Stepped p upto s (after_due s (due s.writer)) = subst (λ q. Stepped p upto s (after_due s q)) (sym asks) (one_step p upto s) in
+    let rest = published ps a upto paths (w + 1) (after_due s (due s.writer)) (step.writer ∙ (ap went_on is ∙ went (writing a upto paths w) here.1)) here.2 ordered.1 in
+    (rest.0, rest.1, told_first p ps upto s (after_due s (due s.writer)) _ (λ t. not_before_itself p (before_member p p ps ordered.0 t)) step rest.2)
 
 pub publishes : Publishes
 publishes a pending b is ds number =
@@ -285,7 +285,7 @@ learns a ds root there =
     let read = read_root a root (ds (id.Node [])) there in record {
       first = refl;
       second = ap learning.due read;
-      done = ap (λ (b : BackRead). learning.due (learning.fed b (answer ds (learning.due b)))) read;
-      last = ap (λ (b : BackRead). (learning.fed b (answer ds (learning.due b))).last) read;
-      sweep = ap (λ (b : BackRead). (learning.fed b (answer ds (learning.due b))).sweep) read;
+      done = ap (λ (b : BackRead). learning.due (learning.fed b (back_answer ds (learning.due b)))) read;
+      last = ap (λ (b : BackRead). (learning.fed b (back_answer ds (learning.due b))).last) read;
+      sweep = ap (λ (b : BackRead). (learning.fed b (back_answer ds (learning.due b))).sweep) read;
     }

@@ -23,33 +23,33 @@ use Rattle.jr_path.proofs.Maps.{lookup-insert_entry}
 use Rattle.jr_path.proofs.Orders.{id_exact, id_total, tested}
 use Rattle.jr_path.proofs.Parts.{below_is_prefix}
 use Rattle.oak_sync.specs.Upward.{AreUpward, backward_cmp, is_upward, node_paths}
-use Rattle.oak_sync.specs.Sets.{Adds, HasUpward, Ids, has}
+use Rattle.oak_sync.specs.Sets.{Adds, HasUpward, IdSet, has_id}
 
 -- the prefixes of a path that have fewer than k names are added
-pub record AddsBelow (path : Path) (k : ℕ) (before after : Ids) : Type 0 where
-  pub kept : (x : DocId) → IsTrue (has before x) → IsTrue (has after x)
-  pub put : (d : ℕ) → d < k → IsTrue (has after (id.Node (take d path)))
-  pub only : (x : DocId) → IsTrue (has after x) → IsTrue (has before x) ⊎ ((p : Path) × (x ≡ id.Node p) × IsTrue (is_under path p))
+pub record AddsBelow (path : Path) (k : ℕ) (before after : IdSet) : Type 0 where
+  pub kept : (x : DocId) → IsTrue (has_id before x) → IsTrue (has_id after x)
+  pub put : (d : ℕ) → d < k → IsTrue (has_id after (id.Node (take d path)))
+  pub only : (x : DocId) → IsTrue (has_id after x) → IsTrue (has_id before x) ⊎ ((p : Path) × (x ≡ id.Node p) × IsTrue (is_under path p))
 
-abbrev with_id : Ids → DocId → Ids
+abbrev with_id : IdSet → DocId → IdSet
 with_id ids x = insert_entry id_cmp ids x tt
 
-abbrev pub with_node : Ids → Path → Ids
+abbrev pub with_node : IdSet → Path → IdSet
 with_node ids p = with_id ids (id.Node p)
 
 -- what a set has with one more id
-has_with : (ids : Ids) (x y : DocId) → has (with_id ids x) y ≡ (eq_by_cmp id_cmp y x || has ids y)
+has_with : (ids : IdSet) (x y : DocId) → has_id (with_id ids x) y ≡ (eq_by_cmp id_cmp y x || has_id ids y)
 has_with ids x y = ap is_some (lookup-insert_entry id_cmp id_total y x tt ids) ∙ by (eq_by_cmp id_cmp y x)
   where
-    by : (b : Bool) → is_some (cond b (Some tt) (lookup (is_at (id_cmp y)) ids)) ≡ (b || has ids y)
+    by : (b : Bool) → is_some (cond b (Some tt) (lookup (is_at (id_cmp y)) ids)) ≡ (b || has_id ids y)
     by true = refl
     by false = refl
 
 same_id : (x y : DocId) → eq_by_cmp id_cmp y x ≡ true → y ≡ x
 same_id x y h = (tested id_total id_exact y x).0 h
 
-has_it : (ids : Ids) (x : DocId) → IsTrue (has (with_id ids x) x)
-has_it ids x = has_with ids x x ∙ ap (λ b. b || has ids x) ((tested id_total id_exact x x).1 refl)
+has_it : (ids : IdSet) (x : DocId) → IsTrue (has_id (with_id ids x) x)
+has_it ids x = has_with ids x x ∙ ap (λ b. b || has_id ids x) ((tested id_total id_exact x x).1 refl)
 
 or_right : (a b : Bool) → b ≡ true → (a || b) ≡ true
 or_right true b h = refl
@@ -59,36 +59,36 @@ or_cases : (a b : Bool) → (a || b) ≡ true → (a ≡ true) ⊎ (b ≡ true)
 or_cases true b h = inl refl
 or_cases false b h = inr h
 
-has_still : (ids : Ids) (x y : DocId) → IsTrue (has ids y) → IsTrue (has (with_id ids x) y)
-has_still ids x y h = has_with ids x y ∙ or_right (eq_by_cmp id_cmp y x) (has ids y) h
+has_still : (ids : IdSet) (x y : DocId) → IsTrue (has_id ids y) → IsTrue (has_id (with_id ids x) y)
+has_still ids x y h = has_with ids x y ∙ or_right (eq_by_cmp id_cmp y x) (has_id ids y) h
 
-has_which : (ids : Ids) (x y : DocId) → IsTrue (has (with_id ids x) y) → (y ≡ x) ⊎ IsTrue (has ids y)
-has_which ids x y h = by (or_cases (eq_by_cmp id_cmp y x) (has ids y) (sym (has_with ids x y) ∙ h))
+has_which : (ids : IdSet) (x y : DocId) → IsTrue (has_id (with_id ids x) y) → (y ≡ x) ⊎ IsTrue (has_id ids y)
+has_which ids x y h = by (or_cases (eq_by_cmp id_cmp y x) (has_id ids y) (sym (has_with ids x y) ∙ h))
   where
-    by : (eq_by_cmp id_cmp y x ≡ true) ⊎ (has ids y ≡ true) → (y ≡ x) ⊎ IsTrue (has ids y)
+    by : (eq_by_cmp id_cmp y x ≡ true) ⊎ (has_id ids y ≡ true) → (y ≡ x) ⊎ IsTrue (has_id ids y)
     by (inl e) = inl (same_id x y e)
     by (inr e) = inr e
 
-pub none_below : (path : Path) (ids : Ids) → AddsBelow path 0 ids ids
+pub none_below : (path : Path) (ids : IdSet) → AddsBelow path 0 ids ids
 none_below path ids = record { kept = λ x h. h; put = λ d less. absurd (omega (arith, less)); only = λ x h. inl h }
 
 pub prefix_under : (path : Path) (d : ℕ) → IsTrue (is_under path (take d path))
 prefix_under path d = (below_is_prefix path (take d path)).1 (drop d path, sym (take-append-drop d path))
 
 -- one more prefix
-pub one_more : (path : Path) (k : ℕ) (before ids after : Ids) → AddsBelow path k before ids → after ≡ with_id ids (id.Node (take k path)) → AddsBelow path (k + 1) before after
+pub one_more : (path : Path) (k : ℕ) (before ids after : IdSet) → AddsBelow path k before ids → after ≡ with_id ids (id.Node (take k path)) → AddsBelow path (k + 1) before after
 one_more path k before ids after is e = subst (AddsBelow path (k + 1) before) (sym e) (record { kept = λ x h. has_still ids (id.Node (take k path)) x (is.kept x h); put = puts; only = onlys })
   where
-    puts : (d : ℕ) → d < k + 1 → IsTrue (has (with_id ids (id.Node (take k path))) (id.Node (take d path)))
+    puts : (d : ℕ) → d < k + 1 → IsTrue (has_id (with_id ids (id.Node (take k path))) (id.Node (take d path)))
     puts d less = elim (cases_lt d k) [
       | inl below ↦ has_still ids (id.Node (take k path)) (id.Node (take d path)) (is.put d below)
       | inr above ↦ (let same : d ≡ k = omega (arith, less, above) in rw same (has_it ids (id.Node (take k path))))
     ]
 
-    onlys : (x : DocId) → IsTrue (has (with_id ids (id.Node (take k path))) x) → IsTrue (has before x) ⊎ ((p : Path) × (x ≡ id.Node p) × IsTrue (is_under path p))
+    onlys : (x : DocId) → IsTrue (has_id (with_id ids (id.Node (take k path))) x) → IsTrue (has_id before x) ⊎ ((p : Path) × (x ≡ id.Node p) × IsTrue (is_under path p))
     onlys x h = by (has_which ids (id.Node (take k path)) x h)
       where
-        by : (x ≡ id.Node (take k path)) ⊎ IsTrue (has ids x) → IsTrue (has before x) ⊎ ((p : Path) × (x ≡ id.Node p) × IsTrue (is_under path p))
+        by : (x ≡ id.Node (take k path)) ⊎ IsTrue (has_id ids x) → IsTrue (has_id before x) ⊎ ((p : Path) × (x ≡ id.Node p) × IsTrue (is_under path p))
         by (inl same) = inr (take k path, same, prefix_under path k)
         by (inr there) = is.only x there
 
@@ -97,7 +97,7 @@ whole [] more = refl
 whole (n ∷ p) more = ap (λ q. n ∷ q) (whole p more)
 
 -- all prefixes, the path itself last
-pub all_added : (path : Path) (k : ℕ) (before ids after : Ids) → k ≡ length path → AddsBelow path k before ids → after ≡ with_id ids (id.Node path) → Adds path before after
+pub all_added : (path : Path) (k : ℕ) (before ids after : IdSet) → k ≡ length path → AddsBelow path k before ids → after ≡ with_id ids (id.Node path) → Adds path before after
 all_added path k before ids after size is e = record { kept = last.kept; put = λ p h. puts p ((below_is_prefix path p).0 h); only = last.only }
   where
     last : AddsBelow path (k + 1) before after
@@ -106,10 +106,10 @@ all_added path k before ids after size is e = record { kept = last.kept; put = �
         take_all_of : (p : Path) → take (length p) p ≡ p
         take_all_of p = ap (take (length p)) (sym (append-nil p)) ∙ whole p []
 
-    puts : (p : Path) → (more : Path) × (path ≡ p ++ more) → IsTrue (has after (id.Node p))
+    puts : (p : Path) → (more : Path) × (path ≡ p ++ more) → IsTrue (has_id after (id.Node p))
     puts p below =
         let short : length p + length below.0 ≡ length path = sym (length-append p below.0) ∙ sym (ap length below.1) in
-        subst (λ q. IsTrue (has after (id.Node q))) (ap (take (length p)) below.1 ∙ whole p below.0) (last.put (length p) (omega (arith, short, size)))
+        subst (λ q. IsTrue (has_id after (id.Node q))) (ap (take (length p)) below.1 ∙ whole p below.0) (last.put (length p) (omega (arith, short, size)))
 
 -- ---- several paths
 
@@ -125,13 +125,13 @@ under_itself : (p : Path) → IsTrue (is_under p p)
 under_itself p = (below_is_prefix p p).1 ([], sym (append-nil p))
 
 -- the root alone
-pub root_upward : (ids : Ids) → Adds [] [] ids → HasUpward [] ids
+pub root_upward : (ids : IdSet) → Adds [] [] ids → HasUpward [] ids
 root_upward ids is = record {
   there = λ p h. by p (or_cases (length p == 0) false h);
   only = λ x h. which x (is.only x h);
 }
   where
-    by : (p : Path) → ((length p == 0) ≡ true) ⊎ (false ≡ true) → IsTrue (has ids (id.Node p))
+    by : (p : Path) → ((length p == 0) ≡ true) ⊎ (false ≡ true) → IsTrue (has_id ids (id.Node p))
     by p (inl e) = rw (root_is p e) (is.put [] (under_itself []))
     by p (inr e) = absurd (false≢true e)
 
@@ -139,7 +139,7 @@ root_upward ids is = record {
     prefix_of_root [] more e = refl
     prefix_of_root (n ∷ p) more e = cc
 
-    which : (x : DocId) → IsTrue (has [] x) ⊎ ((p : Path) × (x ≡ id.Node p) × IsTrue (is_under [] p)) → (p : Path) × (x ≡ id.Node p) × IsTrue (is_upward [] p)
+    which : (x : DocId) → IsTrue (has_id [] x) ⊎ ((p : Path) × (x ≡ id.Node p) × IsTrue (is_under [] p)) → (p : Path) × (x ≡ id.Node p) × IsTrue (is_upward [] p)
     which x (inl h) = absurd (false≢true h)
     which x (inr h) = let below = (below_is_prefix [] h.0).0 h.2 in (h.0, h.1, or_left (length h.0 == 0) false (prefix_of_root h.0 below.0 below.1))
 
@@ -151,17 +151,17 @@ any_last f ps q = list_any-append f ps (q ∷ []) ∙ ap (λ b. list_any f ps ||
     or_false false = refl
 
 -- one more path
-more_upward : (ps : List Path) (q : Path) (ids new : Ids) → HasUpward ps ids → Adds q ids new → HasUpward (ps ++ q ∷ []) new
+more_upward : (ps : List Path) (q : Path) (ids new : IdSet) → HasUpward ps ids → Adds q ids new → HasUpward (ps ++ q ∷ []) new
 more_upward ps q ids new is adds = record {
   there = λ p h. by p (or_cases (length p == 0) (list_any (λ q. is_under q p) (ps ++ q ∷ [])) h);
   only = λ x h. which x (adds.only x h);
 }
   where
-    among : (p : Path) → (list_any (λ q. is_under q p) ps ≡ true) ⊎ (is_under q p ≡ true) → IsTrue (has new (id.Node p))
+    among : (p : Path) → (list_any (λ q. is_under q p) ps ≡ true) ⊎ (is_under q p ≡ true) → IsTrue (has_id new (id.Node p))
     among p (inl e) = adds.kept (id.Node p) (is.there p (or_right (length p == 0) (list_any (λ q. is_under q p) ps) e))
     among p (inr e) = adds.put p e
 
-    by : (p : Path) → ((length p == 0) ≡ true) ⊎ (list_any (λ q. is_under q p) (ps ++ q ∷ []) ≡ true) → IsTrue (has new (id.Node p))
+    by : (p : Path) → ((length p == 0) ≡ true) ⊎ (list_any (λ q. is_under q p) (ps ++ q ∷ []) ≡ true) → IsTrue (has_id new (id.Node p))
     by p (inl e) = adds.kept (id.Node p) (is.there p (or_left (length p == 0) (list_any (λ q. is_under q p) ps) e))
     by p (inr e) = among p (or_cases (list_any (λ q. is_under q p) ps) (is_under q p) (sym (any_last (λ q. is_under q p) ps q) ∙ e))
 
@@ -169,11 +169,11 @@ more_upward ps q ids new is adds = record {
     still p (inl e) = or_left (length p == 0) (list_any (λ q. is_under q p) (ps ++ q ∷ [])) e
     still p (inr e) = or_right (length p == 0) (list_any (λ q. is_under q p) (ps ++ q ∷ [])) (any_last (λ q. is_under q p) ps q ∙ or_left (list_any (λ q. is_under q p) ps) (is_under q p) e)
 
-    which : (x : DocId) → IsTrue (has ids x) ⊎ ((p : Path) × (x ≡ id.Node p) × IsTrue (is_under q p)) → (p : Path) × (x ≡ id.Node p) × IsTrue (is_upward (ps ++ q ∷ []) p)
+    which : (x : DocId) → IsTrue (has_id ids x) ⊎ ((p : Path) × (x ≡ id.Node p) × IsTrue (is_under q p)) → (p : Path) × (x ≡ id.Node p) × IsTrue (is_upward (ps ++ q ∷ []) p)
     which x (inl h) = let old = is.only x h in (old.0, old.1, still old.0 (or_cases (length old.0 == 0) (list_any (λ q. is_under q old.0) ps) old.2))
     which x (inr h) = (h.0, h.1, or_right (length h.0 == 0) (list_any (λ q. is_under q h.0) (ps ++ q ∷ [])) (any_last (λ q. is_under q h.0) ps q ∙ or_right (list_any (λ q. is_under q h.0) ps) (is_under q h.0) h.2))
 
-pub next_upward : (ps : List Path) (i : ℕ) (q : Path) (ids new : Ids) → i < length ps → q ≡ get_or ps i q → HasUpward (take i ps) ids → Adds q ids new → HasUpward (take (i + 1) ps) new
+pub next_upward : (ps : List Path) (i : ℕ) (q : Path) (ids new : IdSet) → i < length ps → q ≡ get_or ps i q → HasUpward (take i ps) ids → Adds q ids new → HasUpward (take (i + 1) ps) new
 next_upward ps i q ids new less is upward adds = subst (λ qs. HasUpward qs new) (sym (take_more ps i q less ∙ ap (λ p. take i ps ++ p ∷ []) (sym is))) (more_upward (take i ps) q ids new upward adds)
 
 -- ---- the list of them
@@ -262,7 +262,7 @@ sorted_turned [] h = tt
 sorted_turned (x ∷ xs) h = subst (IsStrictlySortedBy backward_cmp) (sym (turned x xs)) (sorted_last (reverse xs) x (sorted_turned xs h.1) (all_turned (λ y. forward_cmp x y ≡ Less) xs h.0))
 
 -- the paths of the ids, turned
-pub is_upward_list : (paths up : List Path) (ids : Ids) → up ≡ reverse (node_paths (keys_of ids)) → IsStrictlySortedBy id_cmp (keys_of ids) → HasUpward paths ids → AreUpward paths up
+pub is_upward_list : (paths up : List Path) (ids : IdSet) → up ≡ reverse (node_paths (keys_of ids)) → IsStrictlySortedBy id_cmp (keys_of ids) → HasUpward paths ids → AreUpward paths up
 is_upward_list paths up ids e ordered is = subst (AreUpward paths) (sym e) (record {
   which = λ p. (λ h. to p h, λ h. from p h);
   ordered = sorted_turned (node_paths (keys_of ids)) (sorted_paths (keys_of ids) ordered);

@@ -14,7 +14,7 @@ use Rattle.oak_doc.specs.declared.asks.Reply.TheVariants as reply
 use Rattle.oak_doc.specs.declared.document.Document.{Document}
 use Rattle.oak_node.specs.declared.pending.Pending.{Pending}
 use Rattle.oak_sync.specs.Learning as learning
-use Rattle.oak_sync.specs.Publishing.{IsBegun, back_op, due, stage_of, write_stage}
+use Rattle.oak_sync.specs.Publishing.{HasWrittenNothing, back_op, due, stage_of, write_stage}
 use Rattle.oak_sync.specs.declared.back_read.BackRead.{BackRead}
 use Rattle.oak_sync.specs.declared.back_read.Step.{Step}
 use Rattle.oak_sync.specs.declared.back_read.Step.TheVariants as step
@@ -79,7 +79,7 @@ root_due b at = let it = path_due b (λ done. apart (sym at ∙ done)) in path_t
     none (n ∷ p) h = absurd (omega (arith, eqb-true (length (n ∷ p)) 0 h))
 
 -- one that has begun has a document due
-pub begun_due : (a : Global) (pending : Pending) (b : BackWrite) → IsBegun a pending b → stage_of b ≢ stage.Done
+pub begun_due : (a : Global) (pending : Pending) (b : BackWrite) → HasWrittenNothing a pending b → stage_of b ≢ stage.Done
 begun_due a pending b is done =
     let root = root_last pending.paths b.paths is.paths in
     by root.0 (ap (λ (ps : List Path). option_map_or write_stage (slice_get ps zero) stage.Done) (sym root.1) ∙ (ap (λ (c : BackWrite). option_map_or write_stage (slice_get b.paths c.written) stage.Done) (sym is.state) ∙ done))

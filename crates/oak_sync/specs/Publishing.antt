@@ -18,7 +18,7 @@ use Rattle.oak_sync.specs.declared.stage.Stage.{Stage}
 use Rattle.oak_sync.specs.declared.stage.Stage.TheVariants as stage
 
 -- a background write that has written nothing, of the pending paths with all that is above them
-pub record IsBegun (alloc : Global) (pending : Pending) (b : BackWrite) : Type 0 where
+pub record HasWrittenNothing (alloc : Global) (pending : Pending) (b : BackWrite) : Type 0 where
   pub paths : AreUpward pending.paths b.paths
   pub state : b ≡ record { alloc = alloc; upto = pending.upto; paths = b.paths; written = 0 }
 

@@ -10,20 +10,20 @@ use Rattle.jr_path.specs.declared.path.DocId.TheVariants as id
 use Rattle.oak_sync.specs.Upward.{is_upward}
 
 -- a set of ids, in store order
-abbrev pub Ids : Type 0
-Ids = List (DocId × Unit {0})
+abbrev pub IdSet : Type 0
+IdSet = List (DocId × Unit {0})
 
 -- the document id is in the set
-abbrev pub has : Ids → DocId → Bool
-has ids x = is_some (lookup (is_at (id_cmp x)) ids)
+abbrev pub has_id : IdSet → DocId → Bool
+has_id ids x = is_some (lookup (is_at (id_cmp x)) ids)
 
 -- the ids of the documents of a path and of all that is above it are added, and no others
-pub record Adds (path : Path) (before after : Ids) : Type 0 where
-  pub kept : (x : DocId) → IsTrue (has before x) → IsTrue (has after x)
-  pub put : (p : Path) → IsTrue (is_under path p) → IsTrue (has after (id.Node p))
-  pub only : (x : DocId) → IsTrue (has after x) → IsTrue (has before x) ⊎ ((p : Path) × (x ≡ id.Node p) × IsTrue (is_under path p))
+pub record Adds (path : Path) (before after : IdSet) : Type 0 where
+  pub kept : (x : DocId) → IsTrue (has_id before x) → IsTrue (has_id after x)
+  pub put : (p : Path) → IsTrue (is_under path p) → IsTrue (has_id after (id.Node p))
+  pub only : (x : DocId) → IsTrue (has_id after x) → IsTrue (has_id before x) ⊎ ((p : Path) × (x ≡ id.Node p) × IsTrue (is_under path p))
 
 -- the ids of the documents of the paths and of all that is above them
-pub record HasUpward (paths : List Path) (ids : Ids) : Type 0 where
-  pub there : (p : Path) → IsTrue (is_upward paths p) → IsTrue (has ids (id.Node p))
-  pub only : (x : DocId) → IsTrue (has ids x) → (p : Path) × (x ≡ id.Node p) × IsTrue (is_upward paths p)
+pub record HasUpward (paths : List Path) (ids : IdSet) : Type 0 where
+  pub there : (p : Path) → IsTrue (is_upward paths p) → IsTrue (has_id ids (id.Node p))
+  pub only : (x : DocId) → IsTrue (has_id ids x) → (p : Path) × (x ≡ id.Node p) × IsTrue (is_upward paths p)

@@ -2,7 +2,7 @@
 ghost use Rattle.std.specs.Prelude.{◌≡◌, ◌↔◌, IfOk, IsOk, IsTrue, slice_get};
 ghost use Rattle.std.specs.Option.{option_copied};
 ghost use Rattle.oak_doc.specs.declared.asks.Ask.TheVariants as ask;
-ghost use Rattle.oak_sync.specs.Publishing.{IsBegun, back_op, due, fed, stage_of, went_on, write_stage};
+ghost use Rattle.oak_sync.specs.Publishing.{HasWrittenNothing, back_op, due, fed, stage_of, went_on, write_stage};
 
 use crate::{Stage, upward};
 use jr_path::{DeepCopy, DocId, List, Path};
@@ -40,7 +40,7 @@ impl Drop for BackWrite {
 impl BackWrite {
     /// Begins to publish what was taken from the node's memory.
     pub fn new(alloc: Global, pending: Pending) -> Result<BackWrite, AllocError>
-        ensures { IfOk result (IsBegun alloc pending) }
+        ensures { IfOk result (HasWrittenNothing alloc pending) }
     {
         Ok(BackWrite {
             alloc,

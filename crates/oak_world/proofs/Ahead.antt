@@ -8,7 +8,7 @@ use Rattle.std.specs.Ordering.{eq_by_cmp}
 use Rattle.jr_path.specs.Names.{path_cmp}
 use Rattle.jr_path.specs.declared.path.Path.{Path}
 use Rattle.oak_node.specs.declared.pending.Pending.{Pending}
-use Rattle.oak_sync.specs.Publishing.{IsBegun, stage_of, went_on, write_stage}
+use Rattle.oak_sync.specs.Publishing.{HasWrittenNothing, stage_of, went_on, write_stage}
 use Rattle.oak_sync.specs.declared.back_write.BackWrite.{BackWrite}
 use Rattle.oak_sync.specs.declared.stage.Stage.{Stage}
 use Rattle.oak_sync.specs.declared.stage.Stage.TheVariants as stage
@@ -56,7 +56,7 @@ goes_ahead b at is = record { front = is.front; paths = is.paths; ahead = by (na
     by true = let less = before in let k : b.written + 1 ≤ length is.front = omega (arith, less) in k
     by false = is.ahead
 
-pub begins_ahead : (a : Global) (n : Pending) (b : BackWrite) → IsBegun a n b → EndsInRoot b
+pub begins_ahead : (a : Global) (n : Pending) (b : BackWrite) → HasWrittenNothing a n b → EndsInRoot b
 begins_ahead a n b is =
     let root = root_last n.paths b.paths is.paths in
     let none : b.written ≡ 0 = ap (λ (c : BackWrite). c.written) is.state in

@@ -20,7 +20,7 @@ use Rattle.oak_machine.specs.History.{History, Past}
 use Rattle.oak_machine.specs.Laws.{Asks, Says, Starts, StartsProper, StartsWrite, after, is_revision_of}
 use Rattle.oak_machine.specs.Runs.{IsRunOf, StartsLast}
 use Rattle.oak_machine.specs.Sessions.{is_stopped, next_index}
-use Rattle.oak_machine.specs.Steps.{is_appended_by, is_kind, is_moving, is_on, kinds_for, leaves_went, where_test}
+use Rattle.oak_machine.specs.Steps.{is_appended_by, is_kind, moves_head, is_on, kinds_for, leaves_went, where_test}
 use Rattle.core_heads.proofs.Passing.{next_stays}
 use Rattle.core_world.proofs.Flights.{same_number}
 use Rattle.core_world.proofs.Logged.{IsDrawnBy, drawn_by}
@@ -214,8 +214,8 @@ module _ (asks : Asks) (starts : Starts) (says : Says) (clusters : ℕ) (session
 
   two_kept : (k : StepKind) (r : Revision) (c : ℕ) (v : RevVec) → is_appended_by h s k (event.End r ∷ event.Head c v ∷ []) ≡ true → MayAppend work (event.End r) → MayAppend work (event.Head c v) → Keeps (event.Head c v ∷ event.End r ∷ [])
   two_kept k r c v appended ends moves =
-      let all = and_parts (is_revision_of past s r && is_moving h r) (r.cluster == c) (tested k _ _ (of_kind h s k (event.End r) (event.Head c v ∷ []) appended)) in
-      let theirs : is_revision_of past s r ≡ true = (and_parts (is_revision_of past s r) (is_moving h r) all.0).0 in (
+      let all = and_parts (is_revision_of past s r && moves_head h r) (r.cluster == c) (tested k _ _ (of_kind h s k (event.End r) (event.Head c v ∷ []) appended)) in
+      let theirs : is_revision_of past s r ≡ true = (and_parts (is_revision_of past s r) (moves_head h r) all.0).0 in (
         (
           record { session = s; made = revision_on starts says clusters sessions past run s r c theirs all.1; asked = coming (event.Head c v) moves },
           (record { session = s; made = or_left _ _ theirs; asked = coming (event.End r) ends }, still_asked asks h (event.Head c v ∷ event.End r ∷ past) past asked),

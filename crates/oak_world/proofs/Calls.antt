@@ -27,7 +27,7 @@ use Rattle.oak_step.specs.declared.work.Work.{Work}
 use Rattle.oak_step.specs.declared.work.Work.TheVariants as work
 use Rattle.oak_world.specs.Kept.{ArePlaced, IsPlaced, IsWorld, May}
 use Rattle.oak_step.specs.Parts.{CanStep, Parts, Steps, needed, parts}
-use Rattle.oak_world.specs.Steps.{Makes, StepsIn, attached_after, reads_after}
+use Rattle.oak_world.specs.Steps.{MakesState, StepsIn, attached_after, reads_after}
 use Rattle.oak_world.specs.Seen.{shown_at}
 use Rattle.oak_world.specs.Worlds.{ActorState, WorldOf, actor_in, idle, live, node_in, parts_at, said_in, shown_actor, shown_world, state_of, with_parts, with_reply, with_work, work_in}
 use Rattle.oak_world.proofs.Keeping.{can_step, seat, step_keeps, step_seen}
@@ -124,8 +124,8 @@ module _ (starts : Starts) (says : Says) (proper : StartsProper starts) (writes 
             (subst (λ (p : Parts). Steps s k p (work_in w.actors s) after b.work o) (sym parts_are)
             (subst (λ (v : Work). Steps s k (parts t m j.events.list) v after b.work o) (sym work_is) made))
 
-        makes_now : Makes s (state_of w) (work_in w.actors s) (state_of now) b.work o
-        makes_now = subst (λ (x : WorldOf L). Makes s (state_of w) (work_in w.actors s) (state_of x) b.work o) same_world
+        makes_now : MakesState s (state_of w) (work_in w.actors s) (state_of now) b.work o
+        makes_now = subst (λ (x : WorldOf L). MakesState s (state_of w) (work_in w.actors s) (state_of x) b.work o) same_world
             (makes w s seated after b.work (shown_actor b) refl is.unsplit (work_in w.actors s) refl (λ e. busy (sym work_is ∙ e)) roots o made_there)
 
         pub steps_in : b.began ≡ a.began → b.reply ≡ a.reply → b.reads ≡ reads_after a.work o a.reads → b.attached ≡ attached_after a.work o a.attached → StepsIn w s now o

@@ -54,11 +54,11 @@ use Rattle.oak_step.proofs.Backs.{publishing_at}
 use Rattle.oak_step.specs.declared.upkeep.Upkeep.{Upkeep}
 use Rattle.oak_step.specs.declared.upkeep.Upkeep.TheVariants as upkeep
 use Rattle.oak_world.proofs.Ahead.{still_due}
-use Rattle.oak_world.specs.Kept.{IsWorld, May, MayKeepUp, MayLearn}
-use Rattle.oak_step.specs.Parts.{CanKeepUp, CanStep, IsReading, needed}
+use Rattle.oak_world.specs.Kept.{IsWorld, May, MayKeepUp, MayReadOn}
+use Rattle.oak_step.specs.Parts.{CanKeepUp, CanStep, IsBackReading, needed}
 use Rattle.oak_world.specs.Seen.{no_seat, seat_of, shown_at, shown_by, shown_read, shown_upkeep, shown_work}
-use Rattle.oak_step.specs.Works.{Begins, CanBegin, kind_due, kind_of}
-use Rattle.oak_world.specs.Steps.{HasCome, StepsIn, attached_after}
+use Rattle.oak_step.specs.Works.{Begins, CanBegin, kind_due, kind_of_stage}
+use Rattle.oak_world.specs.Steps.{IsPresent, StepsIn, attached_after}
 use Rattle.oak_world.specs.Worlds.{ActorState, Story, WorldOf, actor_in, live, node_in, observing_of, reading_of, running_as, running_of, said_in, state_of, state_with, with_reply, with_work, work_in}
 use Rattle.oak_world.proofs.States.{SameReaders, actor_other, actor_set, readers_same, readers_set, same_readers, session_same, session_set, with_readers}
 use Rattle.oak_step.proofs.Stages.{counted_stage, done_stage}
@@ -174,7 +174,7 @@ idle_shown (work.Move r) h = cc
 idle_shown (work.Upkeep u) h = absurd (upkeep_shown u h)
 
 -- what is due of a commit that hasn't ended
-staged : (c : Committing) → c.ended ≡ false → (x : Stage) → stage_of c ≡ x → is_some (kind_of x) ≡ true
+staged : (c : Committing) → c.ended ≡ false → (x : Stage) → stage_of c ≡ x → is_some (kind_of_stage x) ≡ true
 staged c unended stage.Mark e = refl
 staged c unended stage.Write e = refl
 staged c unended stage.Look e = refl
@@ -229,7 +229,7 @@ module _ (starts : Starts) (says : Says) (proper : StartsProper starts) (writes 
 
   -- ---- what a step takes
 
-  come_pinned : HasCome (live w.history) s → IsSome (pin_of (memory_of (state_of w) s) s)
+  come_pinned : IsPresent (live w.history) s → IsSome (pin_of (memory_of (state_of w) s) s)
   come_pinned come = subst (λ (o : Option Pin). IsSome o) (sym (pin_there starts says proper (state_of w) is.kept.sessions s (none_stopped w.history.sessions w.history.past is.unstopped s) come.login come.stays).1) refl
 
   on : slice_get w.history.sessions s ≡ Some (node_in w.history s)
@@ -250,12 +250,12 @@ module _ (starts : Starts) (says : Says) (proper : StartsProper starts) (writes 
       let few : length w.history.sessions ≤ 64 = is.few in
       omega arith
 
-  can_read : (b : BackRead) (at : Syncing) → MayLearn (live w.history) b at → IsReading at
+  can_read : (b : BackRead) (at : Syncing) → MayReadOn (live w.history) b at → IsBackReading at
   can_read b syncing.Read may = tt
   can_read b syncing.Learn may = tt
   can_read b _ may = absurd may
 
-  can_keep_up : (u : Upkeep) → HasCome (live w.history) s → MayKeepUp (live w.history) s u → CanKeepUp s (memory_of (state_of w) s) u
+  can_keep_up : (u : Upkeep) → IsPresent (live w.history) s → MayKeepUp (live w.history) s u → CanKeepUp s (memory_of (state_of w) s) u
   can_keep_up (upkeep.Publish b) come may = publishing_at b (still_due b may.1)
   can_keep_up (upkeep.Read b) come may = can_read b (stage_of_read b) may
   can_keep_up (upkeep.Checkpoint i) come may = come_pinned come
@@ -403,17 +403,17 @@ module _ (starts : Starts) (says : Says) (proper : StartsProper starts) (writes 
     quiet_keeps : (v : Work) → running_of s v ≡ None → SameReaders work.Rest v → May starts (live w.history) s v → IsWorld starts says (with_work w s v)
     quiet_keeps v running same may = set_keeps (begun v) refl (subst (λ (t : State). IsKept starts says t) (sym (same_state (begun v) (ap (running_of s) idle ∙ sym running) (same_readers (work_in w.actors s) v work.Rest v idle refl same))) is.kept) may
 
-    reads_keeps : (r : Reader) → IsKept starts says (with_reader (state_of w) s (Some r)) → HasCome (live w.history) s → IsWorld starts says (with_work w s (work.Read r))
+    reads_keeps : (r : Reader) → IsKept starts says (with_reader (state_of w) s (Some r)) → IsPresent (live w.history) s → IsWorld starts says (with_work w s (work.Read r))
     reads_keeps r kept come = set_keeps (begun (work.Read r)) refl (subst (λ (t : State). IsKept starts says t) (sym (reader_state (begun (work.Read r)) (ap (running_of s) idle) (ap observing_of idle))) kept) come
 
-    observes_keeps : (r : ChangesReader) → IsKept starts says (with_observer (state_of w) s (Some r)) → HasCome (live w.history) s → is_attached w.history.past s ≡ false → IsWorld starts says (with_work w s (work.Changes r))
+    observes_keeps : (r : ChangesReader) → IsKept starts says (with_observer (state_of w) s (Some r)) → IsPresent (live w.history) s → is_attached w.history.past s ≡ false → IsWorld starts says (with_work w s (work.Changes r))
     observes_keeps r kept come detached = set_keeps (begun (work.Changes r)) refl (subst (λ (t : State). IsKept starts says t) (sym (observer_state (begun (work.Changes r)) (ap (running_of s) idle) (ap reading_of idle))) kept) (come, detached)
 
     -- a session that isn't attached reads at its own pin
     own_pin : (pin : Pin) → is_attached w.history.past s ≡ false → actor_pin (state_of w) s ≡ Some pin → pin_of (memory_of (state_of w) s) s ≡ Some pin
     own_pin pin detached has = sym (ap (λ (b : Bool). cond b (reader_pin w.table s) (pin_of (memory_of (state_of w) s) s)) detached) ∙ has
 
-    upkeep_keeps : (u : Upkeep) (v : Work) → v ≡ work.Upkeep u → HasCome (live w.history) s → MayKeepUp (live w.history) s u → IsWorld starts says (with_work w s v)
+    upkeep_keeps : (u : Upkeep) (v : Work) → v ≡ work.Upkeep u → IsPresent (live w.history) s → MayKeepUp (live w.history) s u → IsWorld starts says (with_work w s v)
     upkeep_keeps u v is come may = subst (λ (x : Work). IsWorld starts says (with_work w s x)) (sym is) (quiet_keeps (work.Upkeep u) refl (refl, refl) (come, may))
 
     pub start_keeps : (t : Task) (v : Work) → MayBegin starts (live w.history) s t → Begins (actor_pin (state_of w) s) t v → IsWorld starts says (with_work w s v)

@@ -18,7 +18,7 @@ use Rattle.oak_sync.specs.declared.stage.Stage.{Stage as Syncing}
 use Rattle.oak_sync.specs.declared.stage.Stage.TheVariants as syncing
 use Rattle.oak_step.specs.declared.upkeep.Upkeep.{Upkeep}
 use Rattle.oak_step.specs.declared.upkeep.Upkeep.TheVariants as upkeep
-use Rattle.oak_world.specs.Kept.{IsOwn, MayKeepUp, MayLearn}
+use Rattle.oak_world.specs.Kept.{IsOwn, MayKeepUp, MayReadOn}
 use Rattle.oak_world.specs.Worlds.{Story, live}
 use Rattle.oak_world.proofs.Others.{attached_left, reader_left}
 
@@ -43,7 +43,7 @@ module _ (starts : Starts) (says : Says) (h : Story) (nodes : AreNodes h.cluster
     pub still : (b : Bool) → is_attached h.past q ≡ b → is_attached (own ++ h.past) q ≡ b
     still b m = attached_left q own h.past others ∙ m
 
-    learn_lasts : (b : BackRead) (at : Syncing) → MayLearn (live h) b at → MayLearn (after own (live h)) b at
+    learn_lasts : (b : BackRead) (at : Syncing) → MayReadOn (live h) b at → MayReadOn (after own (live h)) b at
     learn_lasts b syncing.Read m = tt
     learn_lasts b syncing.Learn m = were_lasts None h.clusters own h.past b.last b.sweep m
     learn_lasts b _ m = absurd m

@@ -35,7 +35,7 @@ use Rattle.core_clash.specs.Core.{root_of}
 use Rattle.core_world.specs.States.{State, base_in, memory_of, nodes_in}
 use Rattle.core_world.specs.Steps.{after_mark, after_update, after_write, marked_by, with_result}
 use Rattle.oak_step.proofs.Stages.{finish_stage}
-use Rattle.oak_step.specs.Parts.{EndsSo, changes_on, committed, marked, read_on}
+use Rattle.oak_step.specs.Parts.{EndsSo, changes_on, committed, mark_made, read_on}
 use Rattle.oak_node.specs.declared.pending.Pending.{Pending}
 use Rattle.oak_sync.specs.Learning as learning
 use Rattle.oak_sync.specs.declared.back_read.BackRead.{BackRead}
@@ -52,8 +52,8 @@ use Rattle.oak_world.proofs.Observing.{changes_lower}
 use Rattle.oak_world.proofs.Reading.{read_lowers}
 use Rattle.oak_world.proofs.States.{actor_set}
 use Rattle.oak_world.specs.Kept.{EndsInRoot, IsWorld, May, MayKeepUp}
-use Rattle.oak_world.specs.Left.{changes_left, commit_left, learn_left, left_in, left_of, marks_left, names_in, reads_left, upkeep_left, writes_left}
-use Rattle.oak_world.specs.Steps.{BeginsBackWrite, Makes, MakesBackRead, MakesBackWrite, MakesCommit, MakesUpdate, MakesUpkeep, StepsIn}
+use Rattle.oak_world.specs.Left.{changes_left, commit_left, learn_left, left_in, steps_left, marks_left, names_in, reads_left, upkeep_left, writes_left}
+use Rattle.oak_world.specs.Steps.{BeginsBackWrite, MakesState, MakesBackRead, MakesBackWrite, MakesCommit, MakesUpdate, MakesUpkeep, StepsIn}
 use Rattle.oak_world.specs.Worlds.{ActorState, WorldOf, idle, live, running_as, state_of, work_in}
 
 -- ---- basics
@@ -85,7 +85,7 @@ set_work actors xs s a is seat = ap (λ (ys : List ActorState). work_in ys s) is
 
 -- a session without a task takes no step
 rests_on : {L : Type 0} (w : WorldOf L) (s : ℕ) (u : WorldOf L) (o : StepOut) → StepsIn w s u o → work_in w.actors s ≡ work.Rest → ⊥
-rests_on w s u o m rest = subst (λ (v : Work). Makes s (state_of w) v (state_of u) m.does o) rest m.makes
+rests_on w s u o m rest = subst (λ (v : Work). MakesState s (state_of w) v (state_of u) m.does o) rest m.makes
 
 -- what a session does after its step
 does_now : {L : Type 0} (w : WorldOf L) (s : ℕ) (u : WorldOf L) (o : StepOut) (m : StepsIn w s u o) → work_in u.actors s ≡ m.does
@@ -118,11 +118,11 @@ settled_step s t u c e x o is (inl m) = by m.0 m.4
 settled_step s t u c e x o is (inr (inl m)) = ends_so c x o m.2
 settled_step s t u c e x o is (inr (inr m)) = absurd (none_some c.outcome e m.1 is)
 
-settled_less : (s : ℕ) (t : Table) (m : NodeState) (c : Committing) (e : CommitEnd) (x : Work) → c.outcome ≡ Some e → GoesDown c x → left_of s t m x < suc (suc (length c.writer.written))
-settled_less s t m c e x is (inl k) = let n : left_of s t m x ≡ 0 = ap (left_of s t m) k in omega (arith, n)
-settled_less s t m c e x is (inr (inl k)) = let n : left_of s t m x ≡ 1 = ap (left_of s t m) k in omega (arith, n)
+settled_less : (s : ℕ) (t : Table) (m : NodeState) (c : Committing) (e : CommitEnd) (x : Work) → c.outcome ≡ Some e → GoesDown c x → steps_left s t m x < suc (suc (length c.writer.written))
+settled_less s t m c e x is (inl k) = let n : steps_left s t m x ≡ 0 = ap (steps_left s t m) k in omega (arith, n)
+settled_less s t m c e x is (inr (inl k)) = let n : steps_left s t m x ≡ 1 = ap (steps_left s t m) k in omega (arith, n)
 settled_less s t m c e x is (inr (inr k)) =
-    let n : left_of s t m x ≡ suc (suc (length (drop 1 c.writer.written))) = ap (left_of s t m) k.0 ∙ ap (λ (o : Option CommitEnd). commit_left t (with_undone c) o) is in
+    let n : steps_left s t m x ≡ suc (suc (length (drop 1 c.writer.written))) = ap (steps_left s t m) k.0 ∙ ap (λ (o : Option CommitEnd). commit_left t (with_undone c) o) is in
     let l : length c.writer.written ≡ suc (length k.2) = ap length k.3 in
     let d : length (drop 1 c.writer.written) ≡ length k.2 = ap (λ (ps : List Path). length (drop 1 ps)) k.3 in
     omega (arith, n, l, d)
@@ -133,9 +133,9 @@ settled_less s t m c e x is (inr (inr k)) =
 abbrev Turns : Committing → Work → Type 0
 Turns c x = (d : Committing) × (e : CommitEnd) × (x ≡ work.Commit d) × (d.outcome ≡ Some e) × (length d.writer.written ≤ suc (length c.writer.written))
 
-turned_less : (s : ℕ) (t : Table) (m : NodeState) (c : Committing) (x : Work) → Turns c x → left_of s t m x < length c.writer.written + 4
+turned_less : (s : ℕ) (t : Table) (m : NodeState) (c : Committing) (x : Work) → Turns c x → steps_left s t m x < length c.writer.written + 4
 turned_less s t m c x k =
-    let n : left_of s t m x ≡ suc (suc (length k.0.writer.written)) = ap (left_of s t m) k.2 ∙ ap (λ (o : Option CommitEnd). commit_left t k.0 o) k.3 in
+    let n : steps_left s t m x ≡ suc (suc (length k.0.writer.written)) = ap (steps_left s t m) k.2 ∙ ap (λ (o : Option CommitEnd). commit_left t k.0 o) k.3 in
     let few = k.4 in
     omega (arith, n, few)
 
@@ -165,11 +165,11 @@ module _ (s : ℕ) (t u : State) (c : Committing) (x : Work) (going : c.outcome 
   finishes_not h = none_settled c.outcome going (finish_stage c h).settled
 
   -- the next mark is due
-  marks_next : (o : StepOut) (f : Met) (rest : List Met) → c.writer.due ≡ f ∷ rest → MakesCommit s t c u x o → ((u ≡ after_mark t s (running_as s c) f rest) × (x ≡ work.Commit (marked c rest))) ⊎ Turns c x
+  marks_next : (o : StepOut) (f : Met) (rest : List Met) → c.writer.due ≡ f ∷ rest → MakesCommit s t c u x o → ((u ≡ after_mark t s (running_as s c) f rest) × (x ≡ work.Commit (mark_made c rest))) ⊎ Turns c x
   marks_next o f rest due (inl m) = by m.0 m.4
     where
       Next : Met → List Met → Type 0
-      Next f rest = ((u ≡ after_mark t s (running_as s c) f rest) × (x ≡ work.Commit (marked c rest))) ⊎ Turns c x
+      Next f rest = ((u ≡ after_mark t s (running_as s c) f rest) × (x ≡ work.Commit (mark_made c rest))) ⊎ Turns c x
 
       by : (k : StepKind) → MakesUpdate s t c u m.2 k → Next f rest
       by kind.Mark g = of_cons Next g.0 f g.1 rest (sym g.3 ∙ due)
@@ -226,7 +226,7 @@ GoingLeft t c fs roots ps =
     marks_left c.revision (writes_left c.revision c.base c.edit.writes c.marks ps) fs roots t
     + length c.writer.written + length ps + 4
 
-going_left : (s : ℕ) (t : Table) (m : NodeState) (c : Committing) (fs : List Met) (ps : List Path) → c.outcome ≡ None → c.writer.due ≡ fs → c.writer.left ≡ ps → left_of s t m (work.Commit c) ≡ GoingLeft t c fs c.roots ps
+going_left : (s : ℕ) (t : Table) (m : NodeState) (c : Committing) (fs : List Met) (ps : List Path) → c.outcome ≡ None → c.writer.due ≡ fs → c.writer.left ≡ ps → steps_left s t m (work.Commit c) ≡ GoingLeft t c fs c.roots ps
 going_left s t m c fs ps going due left =
     ap (λ (o : Option CommitEnd). commit_left t c o) going
     ∙ (ap (λ (xs : List Met). GoingLeft t c xs c.roots c.writer.left) due
@@ -246,56 +246,56 @@ at_most_one a b h = omega (arith, h)
 
 module _ (s : ℕ) (w u : State) (c : Committing) (x : Work) (o : StepOut) (m n : NodeState) (going : c.outcome ≡ None) (makes : MakesCommit s w c u x o) where
   -- the commit turns to its end
-  turned : (fs : List Met) (ps : List Path) → c.writer.due ≡ fs → c.writer.left ≡ ps → Turns c x → left_of s u.table n x < left_of s w.table m (work.Commit c)
+  turned : (fs : List Met) (ps : List Path) → c.writer.due ≡ fs → c.writer.left ≡ ps → Turns c x → steps_left s u.table n x < steps_left s w.table m (work.Commit c)
   turned fs ps due left k =
       turns_less (marks_left c.revision (writes_left c.revision c.base c.edit.writes c.marks ps) fs c.roots w.table) (length c.writer.written) (length ps) _ _
       (turned_less s u.table n c x k) (going_left s w.table m c fs ps going due left)
 
-  mark_less : (f : Met) (rest : List Met) → c.writer.due ≡ f ∷ rest → first_path c.roots ≡ root_of w.past f.other → left_of s u.table n x < left_of s w.table m (work.Commit c)
+  mark_less : (f : Met) (rest : List Met) → c.writer.due ≡ f ∷ rest → first_path c.roots ≡ root_of w.past f.other → steps_left s u.table n x < steps_left s w.table m (work.Commit c)
   mark_less f rest due root = by (marks_next s w u c x going o f rest due makes)
     where
-      by : ((u ≡ after_mark w s (running_as s c) f rest) × (x ≡ work.Commit (marked c rest))) ⊎ Turns c x → left_of s u.table n x < left_of s w.table m (work.Commit c)
+      by : ((u ≡ after_mark w s (running_as s c) f rest) × (x ≡ work.Commit (mark_made c rest))) ⊎ Turns c x → steps_left s u.table n x < steps_left s w.table m (work.Commit c)
       by (inl k) =
           let table : u.table ≡ after_update w.table (mark_op (first_path c.roots) f.other c.revision f.theirs) =
           ap (λ (v : State). v.table) k.0 ∙ (marked_table s w c f rest ∙ ap (λ (p : Path). after_update w.table (mark_op p f.other c.revision f.theirs)) (sym root)) in
-          let now : left_of s u.table n x ≡ GoingLeft (after_update w.table (mark_op (first_path c.roots) f.other c.revision f.theirs)) c rest (drop 1 c.roots) c.writer.left =
-          ap (λ (v : Work). left_of s u.table n v) k.1
-          ∙ (going_left s u.table n (marked c rest) rest c.writer.left going refl refl
+          let now : steps_left s u.table n x ≡ GoingLeft (after_update w.table (mark_op (first_path c.roots) f.other c.revision f.theirs)) c rest (drop 1 c.roots) c.writer.left =
+          ap (λ (v : Work). steps_left s u.table n v) k.1
+          ∙ (going_left s u.table n (mark_made c rest) rest c.writer.left going refl refl
           ∙ ap (λ (t : Table). GoingLeft t c rest (drop 1 c.roots) c.writer.left) table) in
           fewer_marks (marks_left c.revision (writes_left c.revision c.base c.edit.writes c.marks c.writer.left) rest (drop 1 c.roots) (after_update w.table (mark_op (first_path c.roots) f.other c.revision f.theirs))) (length c.writer.written) (length c.writer.left) _ _
           now (going_left s w.table m c (f ∷ rest) c.writer.left going due refl)
       by (inr k) = turned (f ∷ rest) c.writer.left due refl k
 
-  write_less : (p : Path) (rest : List Path) → c.writer.due ≡ [] → c.writer.left ≡ p ∷ rest → left_of s u.table n x < left_of s w.table m (work.Commit c)
+  write_less : (p : Path) (rest : List Path) → c.writer.due ≡ [] → c.writer.left ≡ p ∷ rest → steps_left s u.table n x < steps_left s w.table m (work.Commit c)
   write_less p rest due left = by (writes_next s w u c x going o p rest due left makes)
     where
-      by : ((u ≡ after_write w s (running_as s c) p rest) × (x ≡ work.Commit (written_alone c p rest (nodes_in w.table p)))) ⊎ Turns c x → left_of s u.table n x < left_of s w.table m (work.Commit c)
+      by : ((u ≡ after_write w s (running_as s c) p rest) × (x ≡ work.Commit (written_alone c p rest (nodes_in w.table p)))) ⊎ Turns c x → steps_left s u.table n x < steps_left s w.table m (work.Commit c)
       by (inl k) =
           let d : Committing = written_alone c p rest (nodes_in w.table p) in
-          let now : left_of s u.table n x ≡ GoingLeft (after_write w s (running_as s c) p rest).table d d.writer.due d.roots rest =
-          ap (λ (v : Work). left_of s u.table n v) k.1
+          let now : steps_left s u.table n x ≡ GoingLeft (after_write w s (running_as s c) p rest).table d d.writer.due d.roots rest =
+          ap (λ (v : Work). steps_left s u.table n v) k.1
           ∙ (going_left s u.table n d d.writer.due rest going refl refl
           ∙ ap (λ (v : State). GoingLeft v.table d d.writer.due d.roots rest) k.0) in
           fewer_writes (marks_left c.revision (writes_left c.revision c.base c.edit.writes c.marks rest) d.writer.due d.roots (after_write w s (running_as s c) p rest).table) (length c.writer.written) (length rest) (length (c.writer.written ++ p ∷ [])) (length (p ∷ rest)) _ _
           now (going_left s w.table m c [] (p ∷ rest) going due left) (length-append c.writer.written (p ∷ [])) refl
       by (inr k) = turned [] (p ∷ rest) due left k
 
-  last_less : c.writer.due ≡ [] → c.writer.left ≡ [] → left_of s u.table n x < left_of s w.table m (work.Commit c)
+  last_less : c.writer.due ≡ [] → c.writer.left ≡ [] → steps_left s u.table n x < steps_left s w.table m (work.Commit c)
   last_less due left = turned [] [] due left (lasts_next s w u c x going o due left makes)
 
 -- the marks that are due go to the commit roots that are kept
 abbrev HasRoots : Past → Committing → Type 0
 HasRoots past c = c.roots ≡ map (λ f. root_of past f.other) c.writer.due
 
-commit_less : (s : ℕ) (w u : State) (c : Committing) (x : Work) (o : StepOut) (m n : NodeState) → HasRoots w.past c → MakesCommit s w c u x o → left_of s u.table n x < left_of s w.table m (work.Commit c)
+commit_less : (s : ℕ) (w u : State) (c : Committing) (x : Work) (o : StepOut) (m n : NodeState) → HasRoots w.past c → MakesCommit s w c u x o → steps_left s u.table n x < steps_left s w.table m (work.Commit c)
 commit_less s w u c x o m n roots makes = by c.outcome refl
   where
-    by : (e : Option CommitEnd) → c.outcome ≡ e → left_of s u.table n x < left_of s w.table m (work.Commit c)
+    by : (e : Option CommitEnd) → c.outcome ≡ e → steps_left s u.table n x < steps_left s w.table m (work.Commit c)
     by (Some e) is =
-        subst (λ (k : ℕ). left_of s u.table n x < k) (sym (ap (λ (o : Option CommitEnd). commit_left w.table c o) is)) (settled_less s u.table n c e x is (settled_step s w u c e x o is makes))
+        subst (λ (k : ℕ). steps_left s u.table n x < k) (sym (ap (λ (o : Option CommitEnd). commit_left w.table c o) is)) (settled_less s u.table n c e x is (settled_step s w u c e x o is makes))
     by None going = on c.writer.due c.writer.left refl refl
       where
-        on : (fs : List Met) (ps : List Path) → c.writer.due ≡ fs → c.writer.left ≡ ps → left_of s u.table n x < left_of s w.table m (work.Commit c)
+        on : (fs : List Met) (ps : List Path) → c.writer.due ≡ fs → c.writer.left ≡ ps → steps_left s u.table n x < steps_left s w.table m (work.Commit c)
         on (f ∷ fs) ps due left = mark_less s w u c x o m n going makes f fs due (ap first_path roots ∙ ap (λ (xs : List Met). first_path (map (λ f. root_of w.past f.other) xs)) due)
         on [] (p ∷ ps) due left = write_less s w u c x o m n going makes p ps due left
         on [] [] due left = last_less s w u c x o m n going makes due left
@@ -341,14 +341,14 @@ rooted starts h s (work.Move r) may = tt
 
 module _ (s : ℕ) (w u : State) (m n : NodeState) (x : Work) where
   abbrev now : ℕ
-  now = left_of s u.table n x
+  now = steps_left s u.table n x
 
   rest_less : (k : ℕ) → x ≡ work.Rest → now < suc k
-  rest_less k is = let z : now ≡ 0 = ap (left_of s u.table n) is in omega (arith, z)
+  rest_less k is = let z : now ≡ 0 = ap (steps_left s u.table n) is in omega (arith, z)
 
   out_less : (b : BackWrite) → EndsInRoot b → x ≡ work.Rest → now < length b.paths - b.written
   out_less b ahead is =
-      let z : now ≡ 0 = ap (left_of s u.table n) is in
+      let z : now ≡ 0 = ap (steps_left s u.table n) is in
       let less = is_within b ahead in
       omega (arith, z, less)
 
@@ -361,7 +361,7 @@ module _ (s : ℕ) (w u : State) (m n : NodeState) (x : Work) where
 
   publish_less : (b : BackWrite) → EndsInRoot b → (o : StepOut) → MakesBackWrite s w b u x o → now < length b.paths - b.written
   publish_less b ahead (answers.Went kind.Back) h =
-      let z : now ≡ length b.paths - cond (nat_lt b.written (length b.paths)) (b.written + 1) b.written = ap (left_of s u.table n) h.4 in
+      let z : now ≡ length b.paths - cond (nat_lt b.written (length b.paths)) (b.written + 1) b.written = ap (steps_left s u.table n) h.4 in
       let less = is_within b ahead in
       let next : cond (nat_lt b.written (length b.paths)) (b.written + 1) b.written ≡ b.written + 1 = ap (λ c. cond c (b.written + 1) b.written) (lt-ltb b.written (length b.paths) less) in
       omega (arith, z, less, next)
@@ -380,7 +380,7 @@ module _ (s : ℕ) (w u : State) (m n : NodeState) (x : Work) where
   learn_less : (b : BackRead) (o : StepOut) → MakesBackRead s w b u x o → now < learn_left (learning.stage_of b)
   learn_less b (answers.Went kind.Back) h =
       subst (λ (at : Stage). now < learn_left at) (sym h.0)
-      (let z : now ≡ 1 = ap (left_of s u.table n) h.2 ∙ one (nodes_in w.table []) in let less : now < 2 = omega (arith, z) in less)
+      (let z : now ≡ 1 = ap (steps_left s u.table n) h.2 ∙ one (nodes_in w.table []) in let less : now < 2 = omega (arith, z) in less)
     where
       one : (o : Option Document) → learn_left (learning.stage_of (learning.with_root b o)) ≡ 1
       one None = refl
@@ -391,7 +391,7 @@ module _ (s : ℕ) (w u : State) (m n : NodeState) (x : Work) where
 
   upkeep_less : (k : Upkeep) → IsGoing k → (o : StepOut) → MakesUpkeep s w k u x o → now < upkeep_left (memory_of w s) k
   upkeep_less upkeep.Write going (answers.Went kind.Back) h =
-      let z : now ≡ suc (names_in (h.0).paths) = ap (left_of s u.table n) h.3 in
+      let z : now ≡ suc (names_in (h.0).paths) = ap (steps_left s u.table n) h.3 in
       let few = noted_few (memory_of w s) h.0 h.1 in
       omega (arith, z, few)
   upkeep_less upkeep.Write going answers.Memory h = rest_less _ h.1
@@ -410,7 +410,7 @@ module _ (s : ℕ) (w u : State) (m n : NodeState) (x : Work) where
   upkeep_less (upkeep.Attach i) going (answers.Ready ends.NoCheckpoint) h = rest_less 0 h.2
   upkeep_less (upkeep.Attach i) going answers.Memory h = rest_less 0 h.1
   upkeep_less (upkeep.Attach i) going _ h = absurd h
-  upkeep_less upkeep.Detach going (answers.Went kind.Pin) h = let z : now ≡ 1 = ap (left_of s u.table n) h.1 in omega (arith, z)
+  upkeep_less upkeep.Detach going (answers.Went kind.Pin) h = let z : now ≡ 1 = ap (steps_left s u.table n) h.1 in omega (arith, z)
   upkeep_less upkeep.Detach going answers.Memory h = rest_less 1 h.1
   upkeep_less upkeep.Detach going _ h = absurd h
   upkeep_less (upkeep.Detaching pin) going (answers.Ready (ends.Pinned o)) h = rest_less 0 h.2
@@ -422,7 +422,7 @@ module _ (s : ℕ) (w u : State) (m n : NodeState) (x : Work) where
 
   -- ---- all
 
-  less : IsTable w.table.documents → (v : Work) (o : StepOut) → Rooted w.past v → Makes s w v u x o → IsWait o ⊎ (now < left_of s w.table (memory_of w s) v)
+  less : IsTable w.table.documents → (v : Work) (o : StepOut) → Rooted w.past v → MakesState s w v u x o → IsWait o ⊎ (now < steps_left s w.table (memory_of w s) v)
   less table work.Login (answers.Ready (ends.Pinned pin)) roots h = inr (rest_less 0 h.1)
   less table work.Login answers.Memory roots h = inr (rest_less 0 h.1)
   less table work.Login _ roots h = absurd h
@@ -435,7 +435,7 @@ module _ (s : ℕ) (w u : State) (m n : NodeState) (x : Work) where
   less table (work.Read r) (answers.Went kind.Read) roots h =
       let lower = read_lowers w.table table r h.2 in
       let z : now ≡ suc (reads_left w.table (read_on w.table r)) =
-      ap (λ (v : Work). left_of s u.table n v) h.1 ∙ ap (λ (y : State). suc (reads_left y.table (read_on w.table r))) h.0 in
+      ap (λ (v : Work). steps_left s u.table n v) h.1 ∙ ap (λ (y : State). suc (reads_left y.table (read_on w.table r))) h.0 in
       inr (omega (arith, z, lower))
   less table (work.Read r) (answers.Ready e) roots h = inr (rest_less _ h.1)
   less table (work.Read r) answers.Memory roots h = inr (rest_less _ h.1)
@@ -443,14 +443,14 @@ module _ (s : ℕ) (w u : State) (m n : NodeState) (x : Work) where
   less table (work.Changes r) (answers.Went kind.Read) roots h =
       let lower = changes_lower w.table table r h.2 in
       let z : now ≡ suc (changes_left w.table (changes_on w.table r)) =
-      ap (λ (v : Work). left_of s u.table n v) h.1 ∙ ap (λ (y : State). suc (changes_left y.table (changes_on w.table r))) h.0 in
+      ap (λ (v : Work). steps_left s u.table n v) h.1 ∙ ap (λ (y : State). suc (changes_left y.table (changes_on w.table r))) h.0 in
       inr (omega (arith, z, lower))
   less table (work.Changes r) (answers.Ready (ends.Changes commits)) roots h = inr (rest_less _ h.1)
   less table (work.Changes r) answers.Memory roots h = inr (rest_less _ h.1)
   less table (work.Changes r) _ roots h = absurd h
   less table (work.Plan edit marks) (answers.Went kind.Draw) roots h =
       let d : Committing = begun (next_draw (memory_of w s)) (base_in w s) edit marks in
-      let z : now ≡ commit_left w.table d None = ap (λ (v : Work). left_of s u.table n v) h.1 ∙ ap (λ (y : State). commit_left y.table d None) h.0 in
+      let z : now ≡ commit_left w.table d None = ap (λ (v : Work). steps_left s u.table n v) h.1 ∙ ap (λ (y : State). commit_left y.table d None) h.0 in
       inr (at_most_one now (commit_left w.table d None) z)
   less table (work.Plan edit marks) answers.Memory roots h = inr (rest_less _ h.1)
   less table (work.Plan edit marks) _ roots h = absurd h
@@ -464,11 +464,11 @@ module _ (s : ℕ) (w u : State) (m n : NodeState) (x : Work) where
 -- a step lowers the number, or it waits
 pub lowers : {L : Type 0} (starts : Starts) (says : Says) (w u : WorldOf L) (s : ℕ) (o : StepOut) → IsWorld starts says w → StepsIn w s u o → IsWait o ⊎ (left_in u s < left_in w s)
 lowers {L} starts says w u s o is m =
-    subst (λ (v : Work). IsWait o ⊎ (left_of s u.table (memory_of (state_of u) s) v < left_in w s)) (sym (does_now w s u o m))
+    subst (λ (v : Work). IsWait o ⊎ (steps_left s u.table (memory_of (state_of u) s) v < left_in w s)) (sym (does_now w s u o m))
     (less s (state_of w) (state_of u) (memory_of (state_of w) s) (memory_of (state_of u) s) m.does is.table (work_in w.actors s) o (rooted starts (live w.history) s (work_in w.actors s) (is.may s)) m.makes)
 
 -- nothing is left only where nothing is done
-pub over : (starts : Starts) (h : History) (s : ℕ) (t : Table) (m : NodeState) (v : Work) → May starts h s v → left_of s t m v ≡ 0 → v ≡ work.Rest
+pub over : (starts : Starts) (h : History) (s : ℕ) (t : Table) (m : NodeState) (v : Work) → May starts h s v → steps_left s t m v ≡ 0 → v ≡ work.Rest
 over starts past s t m work.Rest may h = refl
 over starts past s t m work.Login may h = absurd (omega (arith, h))
 over starts past s t m work.End may h = absurd (omega (arith, h))
@@ -505,4 +505,4 @@ over starts past s t m (work.Upkeep u) may h = absurd (by u (rooted starts past 
 
 -- in worlds with the same documents and memories a session that does one thing has as many steps left
 pub same_left : {L : Type 0} (w u : WorldOf L) (s : ℕ) → state_of u ≡ state_of w → work_in u.actors s ≡ work_in w.actors s → left_in u s ≡ left_in w s
-same_left w u s state does = ap (λ (x : State). left_of s x.table (memory_of x s) (work_in u.actors s)) state ∙ ap (λ (v : Work). left_of s w.table (memory_of (state_of w) s) v) does
+same_left w u s state does = ap (λ (x : State). steps_left s x.table (memory_of x s) (work_in u.actors s)) state ∙ ap (λ (v : Work). steps_left s w.table (memory_of (state_of w) s) v) does

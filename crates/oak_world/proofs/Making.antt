@@ -31,7 +31,7 @@ use Rattle.core_clash.specs.Sessions.{Running}
 use Rattle.core_world.specs.States.{State, memory_at, nodes_in, with_memory, with_session}
 use Rattle.core_world.specs.Steps.{after_last, after_mark, after_update, after_write, after_write_in_want, lasted_by, marked_by, moved_head, with_observer, with_reader, with_result}
 use Rattle.oak_step.specs.declared.work.Work.TheVariants as work
-use Rattle.oak_step.specs.Parts.{IsLast, IsMade, IsMarked, IsUndone, IsWritten, Parts, committed, end_events, fed_made, marked, op_due, parts, refusal_at, result_of}
+use Rattle.oak_step.specs.Parts.{IsLast, IsUpdateMade, IsMarked, IsDocumentUndone, IsWritten, Parts, committed, end_events, fed_made, mark_made, op_due, parts, mark_refusal, result_of}
 use Rattle.oak_world.specs.Steps.{MakesUpdate}
 use Rattle.oak_world.specs.Worlds.{ActorState, WorldOf, node_in, observing_of, parts_at, reading_of, running_as, running_of, state_of, with_parts, work_in}
 use Rattle.oak_step.proofs.Feeding.{blocked_last, blocked_mark, fed_last, fed_mark, fed_undo, fed_write, op_last, op_mark, op_write}
@@ -152,12 +152,12 @@ module _ {L : Type 0} (w : WorldOf L) (s : ℕ) (there : s < length w.actors) wh
       op_is : op_due c ≡ op
       op_is = op_mark c at.going at.looked at.first at.rest at.due ∙ ap (λ (p : Path). mark_op p at.first.other c.revision at.first.theirs) roots
 
-      refusal_is : (e : Event) → refusal_at c e → e ≡ event.Refuse c.revision at.first.mine at.first.other
-      refusal_is e is = subst (λ (ds : List Met). refusal_at (record c { writer = record c.writer { due = ds } }) e) at.due is
+      refusal_is : (e : Event) → mark_refusal c e → e ≡ event.Refuse c.revision at.first.mine at.first.other
+      refusal_is e is = subst (λ (ds : List Met). mark_refusal (record c { writer = record c.writer { due = ds } }) e) at.due is
 
       marks_is : IsMarked s w.table q.table (reverse w.history.past) q.list c d → now ≡ after_mark (state_of w) s (running_as s c) at.first at.rest
       marks_is (inl m) =
-          update_is (event.Went s kind.Mark) (with_document w.table op.id m.made.document (next_number w.table)) (marked c at.rest) m.list
+          update_is (event.Went s kind.Mark) (with_document w.table op.id m.made.document (next_number w.table)) (mark_made c at.rest) m.list
           (m.made.table ∙ ap (λ (o : UpdateOp). with_document w.table o.id m.made.document (next_number w.table)) op_is)
           (m.committer ∙ fed_mark c at.going at.looked at.first at.rest at.due (found_in w.table (op_due c).id))
           ∙ sym (ap (marked_by (state_of w) s (running_as s c) at.first at.rest) (sym (ap (result_of w.table) op_is) ∙ m.made.result))
@@ -172,7 +172,7 @@ module _ {L : Type 0} (w : WorldOf L) (s : ℕ) (there : s < length w.actors) wh
       makes_mark m = (at.first, at.rest, at.going, at.due, marks_is m, by m)
         where
           by : IsMarked s w.table q.table (reverse w.history.past) q.list c d
-              → ((now.past ≡ event.Went s kind.Mark ∷ w.history.past) × (d ≡ marked c at.rest)) ⊎ ((now.past ≡ event.Refuse c.revision at.first.mine at.first.other ∷ w.history.past) × (d ≡ refused_as c at.first.mine at.first.other))
+              → ((now.past ≡ event.Went s kind.Mark ∷ w.history.past) × (d ≡ mark_made c at.rest)) ⊎ ((now.past ≡ event.Refuse c.revision at.first.mine at.first.other ∷ w.history.past) × (d ≡ refused_as c at.first.mine at.first.other))
           by (inl m) = inl (told (event.Went s kind.Mark) m.list, m.committer ∙ fed_mark c at.going at.looked at.first at.rest at.due (found_in w.table (op_due c).id))
           by (inr m) = inr (told (event.Refuse c.revision at.first.mine at.first.other) (m.list ∙ ap (λ (e : Event). reverse w.history.past ++ e ∷ []) (refusal_is m.refusal m.told)), m.committer ∙ blocked_mark c at.going at.looked at.first at.rest at.due m.cause m.thing)
 
@@ -181,7 +181,7 @@ module _ {L : Type 0} (w : WorldOf L) (s : ℕ) (there : s < length w.actors) wh
       op_written : op_due c ≡ write_op c.revision c.edit.writes c.marks at.first
       op_written = op_write c at.going at.looked at.first at.rest at.unmet at.left
 
-      table_written : IsMade w.table q.table (op_due c) → q.table ≡ after_update w.table (write_op c.revision c.edit.writes c.marks at.first)
+      table_written : IsUpdateMade w.table q.table (op_due c) → q.table ≡ after_update w.table (write_op c.revision c.edit.writes c.marks at.first)
       table_written m = m.table ∙ (sym (ap (with_result w.table (op_due c).id) m.result) ∙ ap (after_update w.table) op_written)
 
       abbrev stands : Committing
@@ -241,7 +241,7 @@ module _ {L : Type 0} (w : WorldOf L) (s : ℕ) (there : s < length w.actors) wh
 
     -- an undoing
     module _ (at : IsUndoStage c) where
-      pub makes_undo : IsUndone s w.table q.table (reverse w.history.past) q.list c d → MakesUpdate s (state_of w) c now d kind.Undo
+      pub makes_undo : IsDocumentUndone s w.table q.table (reverse w.history.past) q.list c d → MakesUpdate s (state_of w) c now d kind.Undo
       makes_undo m = (m.path, m.rest, at.undoing, m.first, update_is (event.Went s kind.Undo) (after_undo w.table (id.Node m.path) c.revision) (with_undone c) m.list m.table fed_so ∙ ap (λ (ps : List Path). record (state_of w) { past = event.Went s kind.Undo ∷ w.history.past; table = after_undo w.table (id.Node m.path) c.revision; running = with_session (state_of w).running s (Some (running_as s (record c { writer = record c.writer { written = ps } }))) }) (ap (drop 1) m.first), fed_so)
         where
           fed_so : d ≡ with_undone c

@@ -14,7 +14,7 @@ use Rattle.jr_path.specs.declared.path.DocId.TheVariants as id
 use Rattle.jr_path.specs.declared.path.Path.{Path}
 use Rattle.jr_rev.specs.declared.vector.Pin.{Pin}
 use Rattle.jr_rev.specs.declared.vector.RevVec.{RevVec}
-use Rattle.oak_changes.specs.Reading.{due, fed_next, noted, on_main, on_previous, on_roots, with_document}
+use Rattle.oak_changes.specs.Reading.{due, fed_next, noted, changes_on_main, changes_on_previous, changes_on_roots, with_document}
 use Rattle.oak_changes.specs.declared.changes.ChangesReader.{ChangesReader}
 use Rattle.oak_changes.specs.declared.changes.Step.{Step}
 use Rattle.oak_changes.specs.declared.changes.Step.TheVariants as step
@@ -53,24 +53,24 @@ module _ (t : Table) where
   abbrev IsPast : ℕ → Path → ChangesReader → Type 0
   IsPast n p r = (rank (phase_told r) ≤ n) × (documents_ahead t r ≡ documents_behind t p)
 
-  roots_past : (r : ChangesReader) → IsPast 1 r.at (on_roots r)
+  roots_past : (r : ChangesReader) → IsPast 1 r.at (changes_on_roots r)
   roots_past r = (omega arith, refl)
 
   past_more : (m n : ℕ) (p : Path) (r : ChangesReader) → m ≤ n → IsPast m p r → IsPast n p r
   past_more m n p r le h = let k = h.0 in (omega (arith, le, k), h.1)
 
-  previous_past : (r : ChangesReader) → IsPast 2 r.at (on_previous r)
+  previous_past : (r : ChangesReader) → IsPast 2 r.at (changes_on_previous r)
   previous_past r = by (left_of (roots_wanted r.pin.sweep r.pin.base r.known true r.at))
     where
-      by : (o : Option Left) → IsPast 2 r.at (option_map_or (λ left. record r { step = step.Roots left }) o (on_roots r))
-      by None = past_more 1 2 r.at (on_roots r) (omega arith) (roots_past r)
+      by : (o : Option Left) → IsPast 2 r.at (option_map_or (λ left. record r { step = step.Roots left }) o (changes_on_roots r))
+      by None = past_more 1 2 r.at (changes_on_roots r) (omega arith) (roots_past r)
       by (Some left) = (omega arith, refl)
 
-  main_past : (r : ChangesReader) → IsPast 3 r.at (on_main r)
+  main_past : (r : ChangesReader) → IsPast 3 r.at (changes_on_main r)
   main_past r = by (left_of (previous_wanted r.known r.at))
     where
-      by : (o : Option Left) → IsPast 3 r.at (option_map_or (λ left. record r { step = step.Previous left }) o (on_previous r))
-      by None = past_more 2 3 r.at (on_previous r) (omega arith) (previous_past r)
+      by : (o : Option Left) → IsPast 3 r.at (option_map_or (λ left. record r { step = step.Previous left }) o (changes_on_previous r))
+      by None = past_more 2 3 r.at (changes_on_previous r) (omega arith) (previous_past r)
       by (Some left) = (omega arith, refl)
 
   -- ---- a step

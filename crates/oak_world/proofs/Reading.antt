@@ -18,7 +18,7 @@ use Rattle.jr_rev.specs.declared.vector.Pin.{Pin}
 use Rattle.oak_doc.specs.declared.asks.Ask.TheVariants as ask
 use Rattle.oak_doc.specs.declared.document.Document.{Document}
 use Rattle.oak_read.specs.Meaning.{documents_in}
-use Rattle.oak_read.specs.Reading.{IsTable, child_at, due, ended, fed_main, fed_next, noted, on_main, on_previous, on_roots, settled}
+use Rattle.oak_read.specs.Reading.{IsTable, child_path_in, due, ended, fed_main, fed_next, noted, on_main, on_previous, on_roots, settled}
 use Rattle.oak_read.specs.Wanted.{Ids, Known, left_of, previous_wanted, roots_wanted}
 use Rattle.oak_read.specs.declared.reader.Reader.{Reader}
 use Rattle.oak_read.specs.declared.reader.Step.{Step}
@@ -27,7 +27,7 @@ use Rattle.oak_read.specs.declared.wanted.Left.{Left}
 use Rattle.oak_store.specs.Tables.{Table}
 use Rattle.core_watch.proofs.Ending.{next_rises}
 use Rattle.core_watch.proofs.Finite.{fewer_behind}
-use Rattle.core_watch.specs.Moments.{IsDone}
+use Rattle.core_watch.specs.Moments.{IsReaderDone}
 use Rattle.core_watch.specs.Standing.{Child}
 use Rattle.oak_step.specs.Parts.{read_on}
 use Rattle.oak_world.specs.Left.{documents_behind, phase_of, reads_left}
@@ -123,33 +123,33 @@ module _ (t : Table) where
       where
         by : (o : Option (DocId × Document)) → rank (phase_of (fed_next (reader step.Next) (option_map (λ e. e.1) o))) ≤ 3
         by None = omega arith
-        by (Some e) = child (child_at parent e.1.id)
+        by (Some e) = child (child_path_in parent e.1.id)
           where
             child : (o : Option Path) → rank (phase_of (option_map_or (λ q. settled (noted (record (reader step.Next) { at = q }) e.1.id (Some e.1))) o (ended (reader step.Next)))) ≤ 3
             child None = omega arith
             child (Some q) = (main_past (noted (record (reader step.Next) { at = q }) e.1.id (Some e.1))).0
 
-    next_lowers : IsTable t.documents → (IsDone (next step.Next).step → ⊥) → Lowers (reader step.Next)
+    next_lowers : IsTable t.documents → (IsReaderDone (next step.Next).step → ⊥) → Lowers (reader step.Next)
     next_lowers table undone = by (next_rises (record { table = t.documents; past = [] }) (reader step.Next) table refl)
       where
-        by : IsDone (next step.Next).step ⊎ ((id_cmp (id.Node at) (id.Node (next step.Next).at) ≡ Less) × (is_some (documents_in t.documents (id.Node (next step.Next).at)) ≡ true)) → Lowers (reader step.Next)
+        by : IsReaderDone (next step.Next).step ⊎ ((id_cmp (id.Node at) (id.Node (next step.Next).at) ≡ Less) × (is_some (documents_in t.documents (id.Node (next step.Next).at)) ≡ true)) → Lowers (reader step.Next)
         by (inl done) = absurd (undone done)
         by (inr risen) =
             next_less (read_on t) phase_of (reader step.Next) (documents_behind t at) (behind (next step.Next))
             (fewer_behind (id.Node at) (id.Node (next step.Next).at) risen.0 (keys_of t.documents) (ids_known t.documents (id.Node (next step.Next).at) risen.1))
             refl next_past
 
-    step_lowers : IsTable t.documents → (s : Step) → (IsDone (next s).step → ⊥) → Lowers (reader s)
+    step_lowers : IsTable t.documents → (s : Step) → (IsReaderDone (next s).step → ⊥) → Lowers (reader s)
     step_lowers table step.Main undone = main_lowers
     step_lowers table (step.Previous left) undone = previous_lowers left.first left.rest
     step_lowers table (step.Roots left) undone = roots_lower left.first left.rest
     step_lowers table step.Next undone = next_lowers table undone
     step_lowers table (step.Done o) undone = absurd (undone tt)
 
-  done_due : (r : Reader) → IsDone r.step → due r ≡ ask.Done
+  done_due : (r : Reader) → IsReaderDone r.step → due r ≡ ask.Done
   done_due r = by r.alloc r.pin r.parent r.at r.known r.names r.step
     where
-      by : (a : Global) (pin : Pin) (parent : Option Path) (at : Path) (known : Known) (names : List Child) (s : Step) → IsDone s → due (record { alloc = a; pin = pin; parent = parent; at = at; known = known; names = names; step = s }) ≡ ask.Done
+      by : (a : Global) (pin : Pin) (parent : Option Path) (at : Path) (known : Known) (names : List Child) (s : Step) → IsReaderDone s → due (record { alloc = a; pin = pin; parent = parent; at = at; known = known; names = names; step = s }) ≡ ask.Done
       by a pin parent at known names (step.Done o) done = refl
       by a pin parent at known names step.Main done = absurd done
       by a pin parent at known names step.Next done = absurd done

@@ -20,7 +20,7 @@ use Rattle.oak_node.specs.Memory.{NodeState, begun}
 use Rattle.oak_store.specs.Tables.{AreStored, Table, by_id}
 use Rattle.core_nodes.proofs.Events.{start_entry}
 use Rattle.core_world.specs.Kept.{IsKept}
-use Rattle.core_world.specs.Start.{start_documents, start_state, start_table}
+use Rattle.core_world.specs.Start.{documents_of_start, start_state, start_table}
 use Rattle.core_world.specs.States.{State}
 use Rattle.core_world.proofs.Whole.{start_whole}
 use Rattle.core_world.proofs.Named.{start_in_order}
@@ -42,14 +42,14 @@ idle_actor = record { work = work.Rest; began = 0; reply = None; places = 0; rea
 
 -- ---- documents
 
-stored : (clusters sessions : ℕ) → AreStored (start_documents clusters sessions) 4
+stored : (clusters sessions : ℕ) → AreStored (documents_of_start clusters sessions) 4
 unfolding IsStrictlySortedBy
 stored clusters sessions = record {
   ordered = ((refl, (refl, (refl, tt))), ((refl, (refl, tt)), ((refl, tt), (tt, tt))));
-  drawn = All-from_recursion (λ d. d.mod_count ≤ 4) (start_documents clusters sessions) (omega arith, (omega arith, (omega arith, (omega arith, tt))));
+  drawn = All-from_recursion (λ d. d.mod_count ≤ 4) (documents_of_start clusters sessions) (omega arith, (omega arith, (omega arith, (omega arith, tt))));
 }
 
-pub start_stored : (ds : List Document) (clusters sessions : ℕ) → ds ≡ start_documents clusters sessions → AreStored ds 4
+pub start_stored : (ds : List Document) (clusters sessions : ℕ) → ds ≡ documents_of_start clusters sessions → AreStored ds 4
 start_stored ds clusters sessions is = subst (λ (xs : List Document). AreStored xs 4) (sym is) (stored clusters sessions)
 
 -- ---- sessions
@@ -132,7 +132,7 @@ module _ {L : Type 0} (law : L) (clusters : ℕ) (sessions numbers : List ℕ) (
   )
 
 -- the table of the documents of the start
-pub table_is : (t : Table) (ds : List Document) (clusters n m : ℕ) → t ≡ record { documents = by_id ds; number = 4 } → ds ≡ start_documents clusters n → n ≡ m → t ≡ start_table clusters m
+pub table_is : (t : Table) (ds : List Document) (clusters n m : ℕ) → t ≡ record { documents = by_id ds; number = 4 } → ds ≡ documents_of_start clusters n → n ≡ m → t ≡ start_table clusters m
 table_is t ds clusters n m is documents same = is ∙ (ap (λ (xs : List Document). record { documents = by_id xs; number = 4 }) documents ∙ ap (λ (k : ℕ). start_table clusters k) same)
 
 -- ---- the memories of the start

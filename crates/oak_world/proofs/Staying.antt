@@ -24,7 +24,7 @@ use Rattle.oak_step.specs.declared.work.Work.TheVariants as work
 use Rattle.oak_world.specs.Kept.{May}
 use Rattle.oak_world.proofs.Lasting.{upkeep_lasts}
 use Rattle.oak_world.proofs.Others.{attached_left}
-use Rattle.oak_world.specs.Steps.{HasCome}
+use Rattle.oak_world.specs.Steps.{IsPresent}
 use Rattle.oak_world.specs.Worlds.{Story, live}
 
 -- ---- events of others
@@ -50,7 +50,7 @@ login_left q own before others = left_by (own ++ before) q is_login_of (login_is
 pub stay_left : (q : ℕ) (own before : Past) → AreOthers q own before → has_left (own ++ before) q ≡ has_left before q
 stay_left q own before others = left_by (own ++ before) q is_end_of_session (end_is (own ++ before) q) own before others
 
-pub come_left : (h : History) (q : ℕ) (own : Past) → AreOthers q own h.past → HasCome h q → HasCome (after own h) q
+pub come_left : (h : History) (q : ℕ) (own : Past) → AreOthers q own h.past → IsPresent h q → IsPresent (after own h) q
 come_left h q own others come = record { login = login_left q own h.past others ∙ come.login; stays = stay_left q own h.past others ∙ come.stays }
 
 -- ---- what lasts

@@ -41,8 +41,8 @@ use Rattle.oak_sync.proofs.Standing.{below_due, root_due}
 use Rattle.oak_step.specs.declared.upkeep.Upkeep.{Upkeep}
 use Rattle.oak_step.specs.declared.upkeep.Upkeep.TheVariants as upkeep
 use Rattle.oak_step.proofs.Backs.{goes_on, read_table, reads_on, told_table}
-use Rattle.oak_step.specs.Parts.{CommitsOn, EndsSo, IsGivenUp, KeepsUp, LearnsOn, Parts, PublishesFirst, PublishesOn, Steps, UpdatesOn, Updates, after_ask, base_at, changes_on, learned_on, parts, parts_ended, published_on, read_on}
-use Rattle.oak_world.specs.Steps.{BeginsBackWrite, Makes, MakesBackRead, MakesBackWrite, MakesCommit, MakesUpdate, MakesUpkeep}
+use Rattle.oak_step.specs.Parts.{CommitsOn, EndsSo, IsGivenUp, KeepsUp, LearnsOn, Parts, PublishesFirst, PublishesOn, Steps, UpdatesOn, UpdatesDocument, after_ask, pinned_base, changes_on, learned_on, parts, parts_ended, published_on, read_on}
+use Rattle.oak_world.specs.Steps.{BeginsBackWrite, MakesState, MakesBackRead, MakesBackWrite, MakesCommit, MakesUpdate, MakesUpkeep}
 use Rattle.oak_world.specs.Worlds.{ActorState, WorldOf, node_in, observing_of, parts_at, reading_of, running_as, running_of, state_of, with_parts, work_in}
 use Rattle.oak_world.proofs.Making.{begins_is, ended_is, makes_last, makes_mark, makes_undo, makes_write, observes_is, reads_is, runs_is, same_is, sets_is, told_is}
 use Rattle.oak_world.proofs.States.{SameReaders, same_readers}
@@ -88,17 +88,17 @@ module _ {L : Type 0} (w : WorldOf L) (s : ℕ) (there : s < length w.actors) (q
     sets : (e : Event) (t : Table) → q ≡ parts t memory (reverse w.history.past ++ e ∷ []) → now ≡ record (state_of w) { past = e ∷ w.history.past; table = t }
     sets e t alike = ap (λ (p : Parts). state_of (with_parts w s p a)) alike ∙ sets_is w s there e t a runs reads
 
-  login_makes : work_in w.actors s ≡ work.Login → (o : StepOut) → Steps s node (parts_at w s) work.Login q v o → Makes s (state_of w) work.Login now v o
+  login_makes : work_in w.actors s ≡ work.Login → (o : StepOut) → Steps s node (parts_at w s) work.Login q v o → MakesState s (state_of w) work.Login now v o
   login_makes here (answers.Ready (ends.Pinned pin)) h = (tells work.Login work.Rest here h.2 refl (refl, refl) (event.Login s memory.head) (with_pin memory s (pin_now memory)) h.1, h.2, h.0)
   login_makes here answers.Memory h = (still work.Login work.Rest here h.1 refl (refl, refl) h.0, h.1)
   login_makes here _ h = absurd h
 
-  end_makes : work_in w.actors s ≡ work.End → (o : StepOut) → Steps s node (parts_at w s) work.End q v o → Makes s (state_of w) work.End now v o
+  end_makes : work_in w.actors s ≡ work.End → (o : StepOut) → Steps s node (parts_at w s) work.End q v o → MakesState s (state_of w) work.End now v o
   end_makes here (answers.Ready ends.Ended) h = (tells work.End work.Rest here h.1 refl (refl, refl) (event.Went s kind.End) (without_session memory s) h.0, h.1)
   end_makes here answers.Memory h = (still work.End work.Rest here h.1 refl (refl, refl) h.0, h.1)
   end_makes here _ h = absurd h
 
-  refresh_makes : work_in w.actors s ≡ work.Refresh → (o : StepOut) → Steps s node (parts_at w s) work.Refresh q v o → Makes s (state_of w) work.Refresh now v o
+  refresh_makes : work_in w.actors s ≡ work.Refresh → (o : StepOut) → Steps s node (parts_at w s) work.Refresh q v o → MakesState s (state_of w) work.Refresh now v o
   refresh_makes here (answers.Ready (ends.Pinned pin)) h = (tells work.Refresh work.Rest here h.2 refl (refl, refl) (event.Refresh s memory.head) (with_pin memory s (pin_now memory)) h.1, h.2, h.0)
   refresh_makes here answers.Memory h = (still work.Refresh work.Rest here h.1 refl (refl, refl) h.0, h.1)
   refresh_makes here _ h = absurd h
@@ -111,7 +111,7 @@ module _ {L : Type 0} (w : WorldOf L) (s : ℕ) (there : s < length w.actors) (q
         ∙ (reads_is w s there a (ap (running_of s) here ∙ sym (running_now y is ∙ none)) (ap observing_of here ∙ sym (observing_now y is ∙ unobserved))
         ∙ ap (λ (x : Option Reader). with_reader (state_of w) s x) (reading_now y is))
 
-    read_makes : (o : StepOut) → Steps s node (parts_at w s) (work.Read r) q v o → Makes s (state_of w) (work.Read r) now v o
+    read_makes : (o : StepOut) → Steps s node (parts_at w s) (work.Read r) q v o → MakesState s (state_of w) (work.Read r) now v o
     read_makes (answers.Went kind.Read) h = (reader_on (work.Read (read_on w.table r)) h.1.0 refl refl h.0, h.1.0, h.1.1)
     read_makes (answers.Ready e) h = (reader_on work.Rest h.1.0 refl refl h.0, h.1.0, h.1.1)
     read_makes answers.Memory h = (reader_on work.Rest h.1 refl refl h.0, h.1)
@@ -127,23 +127,23 @@ module _ {L : Type 0} (w : WorldOf L) (s : ℕ) (there : s < length w.actors) (q
         ∙ (observes_is w s there a (ap (running_of s) here ∙ sym (running_now y is ∙ none)) (ap reading_of here ∙ sym (reading_now y is ∙ unread))
         ∙ ap (λ (x : Option ChangesReader). with_observer (state_of w) s x) (observing_now y is))
 
-    changes_make : (o : StepOut) → Steps s node (parts_at w s) (work.Changes r) q v o → Makes s (state_of w) (work.Changes r) now v o
+    changes_make : (o : StepOut) → Steps s node (parts_at w s) (work.Changes r) q v o → MakesState s (state_of w) (work.Changes r) now v o
     changes_make (answers.Went kind.Read) h = (observes_on (work.Changes (changes_on w.table r)) h.1.0 refl refl h.0, h.1.0, h.1.1)
     changes_make (answers.Ready (ends.Changes commits)) h = (observes_on work.Rest h.1.0 refl refl h.0, h.1.0, h.1.1)
     changes_make answers.Memory h = (observes_on work.Rest h.1 refl refl h.0, h.1)
     changes_make _ h = absurd h.1
 
-  plan_makes : (edit : Edit) (marks : List MarkAt) → work_in w.actors s ≡ work.Plan edit marks → (o : StepOut) → Steps s node (parts_at w s) (work.Plan edit marks) q v o → Makes s (state_of w) (work.Plan edit marks) now v o
+  plan_makes : (edit : Edit) (marks : List MarkAt) → work_in w.actors s ≡ work.Plan edit marks → (o : StepOut) → Steps s node (parts_at w s) (work.Plan edit marks) q v o → MakesState s (state_of w) (work.Plan edit marks) now v o
   plan_makes edit marks here (answers.Went kind.Draw) h = (
     ap (λ (p : Parts). state_of (with_parts w s p a)) h.0
-        ∙ begins_is w s there (event.Draw (record { revision = next_draw memory; session = s; base = base_at memory s; edit = edit; marks = marks })) (with_notes (next_draw memory) (with_draw memory (next_draw memory)) (marked_paths marks)) a
-        (Some (running_as s (begun (next_draw memory) (base_at memory s) edit marks))) (running_now _ h.1) (same_readers (work_in w.actors s) a.work (work.Plan edit marks) _ here (does ∙ h.1) (refl, refl)),
+        ∙ begins_is w s there (event.Draw (record { revision = next_draw memory; session = s; base = pinned_base memory s; edit = edit; marks = marks })) (with_notes (next_draw memory) (with_draw memory (next_draw memory)) (marked_paths marks)) a
+        (Some (running_as s (begun (next_draw memory) (pinned_base memory s) edit marks))) (running_now _ h.1) (same_readers (work_in w.actors s) a.work (work.Plan edit marks) _ here (does ∙ h.1) (refl, refl)),
     h.1,
   )
   plan_makes edit marks here answers.Memory h = (still (work.Plan edit marks) work.Rest here h.1 refl (refl, refl) h.0, h.1)
   plan_makes edit marks here _ h = absurd h
 
-  move_makes : (r : Revision) → work_in w.actors s ≡ work.Move r → (o : StepOut) → Steps s node (parts_at w s) (work.Move r) q v o → Makes s (state_of w) (work.Move r) now v o
+  move_makes : (r : Revision) → work_in w.actors s ≡ work.Move r → (o : StepOut) → Steps s node (parts_at w s) (work.Move r) q v o → MakesState s (state_of w) (work.Move r) now v o
   move_makes r here (answers.Wait o) h = (still (work.Move r) (work.Move r) here h.1.2 refl (refl, refl) (same_parts q (parts_at w s) h.0 h.1.0 h.1.1), h.1.2, h.1.3)
   move_makes r here (answers.Ready (ends.Commit (end.Committed o))) h =
       (tells (work.Move r) work.Rest here h.1.4 refl (refl, refl) (event.Refresh s memory.head) (with_pin memory s (pin_now memory)) (same_parts q (parts w.table (with_pin memory s (pin_now memory)) (reverse w.history.past ++ event.Refresh s memory.head ∷ [])) h.0 h.1.2 h.1.3), h.1.4, h.1.0, h.1.1)
@@ -158,7 +158,7 @@ module _ {L : Type 0} (w : WorldOf L) (s : ℕ) (there : s < length w.actors) (q
     alike : (d : Committing) → v ≡ work.Commit d → SameReaders (work_in w.actors s) a.work
     alike d is = same_readers (work_in w.actors s) a.work (work.Commit c) (work.Commit d) here (does ∙ is) (refl, refl)
 
-    updates : (x : StepKind) (d : Committing) → q.memory ≡ memory → v ≡ work.Commit d → Updates s w.table (reverse w.history.past) c q.table q.list d x → MakesUpdate s (state_of w) c now d x
+    updates : (x : StepKind) (d : Committing) → q.memory ≡ memory → v ≡ work.Commit d → UpdatesDocument s w.table (reverse w.history.past) c q.table q.list d x → MakesUpdate s (state_of w) c now d x
     updates kind.Mark d same is h = let at : IsMarkStage c = mark_stage c h.0 in makes_mark w s there c q a d same (does ∙ is) (alike d is) at (root_first at) h.1
     updates kind.Write d same is h = makes_write w s there c q a d same (does ∙ is) (alike d is) (write_stage c h.0) (unsplit (write_stage c h.0).first) h.1
     updates kind.Last d same is h = makes_last w s there c q a d same (does ∙ is) (alike d is) (last_stage c h.0) h.1
@@ -265,7 +265,7 @@ module _ {L : Type 0} (w : WorldOf L) (s : ℕ) (there : s < length w.actors) (q
   -- ---- all
 
   pub makes : (u : Work) → work_in w.actors s ≡ u → (u ≡ work.Rest → ⊥) → ((c : Committing) → u ≡ work.Commit c → c.roots ≡ map (λ (f : Met). root_of w.history.past f.other) c.writer.due)
-      → (o : StepOut) → Steps s node (parts_at w s) u q v o → Makes s (state_of w) u now v o
+      → (o : StepOut) → Steps s node (parts_at w s) u q v o → MakesState s (state_of w) u now v o
   makes work.Rest here busy roots o h = absurd (busy refl)
   makes work.Login here busy roots o h = login_makes here o h
   makes work.End here busy roots o h = end_makes here o h

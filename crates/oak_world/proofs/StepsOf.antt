@@ -8,7 +8,7 @@ use Rattle.oak_machine.specs.declared.event.StepKind.{StepKind}
 use Rattle.oak_machine.specs.History.{Past}
 use Rattle.oak_machine.specs.Laws.{AreOthers, Says, Starts, after, is_event_of}
 use Rattle.oak_machine.specs.Sessions.{is_attached, is_stopped, is_stopped_under}
-use Rattle.oak_machine.specs.Steps.{is_kind, kind_number, where_test}
+use Rattle.oak_machine.specs.Steps.{is_kind, step_number, where_test}
 use Rattle.core_world.specs.Kept.{IsKept}
 use Rattle.core_world.specs.States.{State, history_in, listed_at}
 use Rattle.core_world.proofs.Flights.{number_itself, other_number, same_number}
@@ -46,7 +46,7 @@ flipped q s h = by (s == q) refl
 
 -- a kind is among the kinds of a test that holds
 pub kind_told : (k : StepKind) (b : Bool) → b ≡ true → list_any (is_kind k) (where_test b (k ∷ [])) ≡ true
-kind_told k b h = ap (λ t. list_any (is_kind k) (where_test t (k ∷ []))) h ∙ ap (λ t. t || false) (number_itself (kind_number k))
+kind_told k b h = ap (λ t. list_any (is_kind k) (where_test t (k ∷ []))) h ∙ ap (λ t. t || false) (number_itself (step_number k))
 
 pub with_true : (b : Bool) → b ≡ true → (b && true) ≡ true
 with_true b h = ap (λ t. t && true) h

@@ -53,9 +53,9 @@ use Rattle.oak_sync.specs.declared.stage.Stage.TheVariants as stage
 use Rattle.oak_sync.proofs.Standing.{below_due, one_due}
 use Rattle.oak_step.specs.declared.upkeep.Upkeep.{Upkeep}
 use Rattle.oak_step.specs.declared.upkeep.Upkeep.TheVariants as upkeep
-use Rattle.oak_world.specs.Kept.{EndsInRoot, IsOwn, MayKeepUp, MayLearn}
+use Rattle.oak_world.specs.Kept.{EndsInRoot, IsOwn, MayKeepUp, MayReadOn}
 use Rattle.oak_world.specs.Seen.{shown_read, shown_upkeep, shown_work}
-use Rattle.oak_world.specs.Steps.{BeginsBackWrite, HasCome, MakesBackRead, MakesBackWrite, MakesUpkeep, attached_after, attaching, is_made}
+use Rattle.oak_world.specs.Steps.{BeginsBackWrite, IsPresent, MakesBackRead, MakesBackWrite, MakesUpkeep, attached_after, attaching, is_made}
 use Rattle.oak_step.specs.Upkeeps.{set_checkpoint}
 use Rattle.oak_world.proofs.Ahead.{begins_ahead, below_root, goes_ahead}
 use Rattle.oak_world.proofs.Lasting.{local_lasts}
@@ -90,7 +90,7 @@ module _ (starts : Starts) (says : Says) (proper : StartsProper starts) (w : Sta
   refused_step : (k : Upkeep) → Tells (history_in w) s (shown_upkeep k) answers.Memory [] Idle → (u : State) (x : Work) → u ≡ w → x ≡ work.Rest → StepOf (work.Upkeep k) u x answers.Memory
   refused_step k tells u x same is = at_those (work.Upkeep k) answers.Memory w work.Rest u x same is (record { own = []; grown = refl; kept = kept; may = tt; apart = λ q m. refl; attached = refused_stays (work.Upkeep k) (is_attached w.past s); unstopped = λ q m. m; same = refl; tells = tells; of_step = refl; as_due = refl })
 
-  module _ (come : HasCome (history_in w) s) (few : slice_get w.sessions (cursor_owner s) ≡ None) (unobserved : w.observing s ≡ None) (idle : w.running s ≡ None) (unread : w.reading s ≡ None) where
+  module _ (come : IsPresent (history_in w) s) (few : slice_get w.sessions (cursor_owner s) ≡ None) (unobserved : w.observing s ≡ None) (idle : w.running s ≡ None) (unread : w.reading s ≡ None) where
     -- ---- a background write
 
     write_step : (n : Pending) → IsPending (memory_of w s) n → StepOf (work.Upkeep upkeep.Write) (after_pending w s) (work.Upkeep (upkeep.Noted n)) (answers.Went kind.Back)
@@ -232,13 +232,13 @@ module _ (starts : Starts) (says : Says) (proper : StartsProper starts) (w : Sta
       unread_step stage.Learn = (refl, refl)
       unread_step stage.Done = (refl, refl)
 
-      learns_step : MayLearn (history_in w) b (learning.stage_of b) → (u : State) (x : Work) (o : StepOut) → MakesBackRead s w b u x o → StepOf (work.Upkeep (upkeep.Read b)) u x o
+      learns_step : MayReadOn (history_in w) b (learning.stage_of b) → (u : State) (x : Work) (o : StepOut) → MakesBackRead s w b u x o → StepOf (work.Upkeep (upkeep.Read b)) u x o
       learns_step may u x (answers.Went kind.Back) m =
           at_those (work.Upkeep (upkeep.Read b)) (answers.Went kind.Back) (after_went w s kind.Back) (work.Upkeep (upkeep.Read (learning.with_root b (nodes_in w.table [])))) u x m.1 m.2 (read_step m.0)
       learns_step may u x (answers.Ready (ends.Learnt v)) m =
           subst (λ (y : RevVec). StepOf (work.Upkeep (upkeep.Read b)) u x (answers.Ready (ends.Learnt y))) (sym m.1)
           (at_those (work.Upkeep (upkeep.Read b)) (answers.Ready (ends.Learnt (learned (memory_of w s) b.last b.sweep).head)) (after_learn w s b.last b.sweep) work.Rest u x m.2 m.3
-          (learn_step m.0 (subst (MayLearn (history_in w) b) m.0 may)))
+          (learn_step m.0 (subst (MayReadOn (history_in w) b) m.0 may)))
       learns_step may u x answers.Memory m = refused_step (upkeep.Read b) (unread_step (learning.stage_of b)) u x m.0 m.1
       learns_step may u x _ m = absurd m
 

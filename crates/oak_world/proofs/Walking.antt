@@ -48,7 +48,7 @@ use Rattle.oak_machine.specs.Heads.{head_of, local}
 use Rattle.oak_machine.specs.Laws.{AreOthers, Says, Starts, StartsProper, StartsWrite, after, is_revision_of}
 use Rattle.oak_machine.specs.Runs.{IsNode, IsRunOf}
 use Rattle.oak_machine.specs.Sessions.{base_of, has_login, is_attached, is_stopped, is_stopped_under}
-use Rattle.oak_machine.specs.Steps.{is_appended_by, is_kind, is_moving, where_test}
+use Rattle.oak_machine.specs.Steps.{is_appended_by, is_kind, moves_head, where_test}
 use Rattle.oak_node.specs.Heads.{AwaitsEarlier, finished, next_draw}
 use Rattle.oak_node.specs.Memory.{NodeState, own_entry}
 use Rattle.oak_node.specs.Pins.{pin_now}
@@ -73,7 +73,7 @@ use Rattle.core_nodes.specs.Nodes.{IsMemoryOf, base_of_pin, cursor_owner}
 use Rattle.core_nodes.proofs.Events.{end_run}
 use Rattle.core_nodes.proofs.Memories.{own_is}
 use Rattle.core_nodes.proofs.Waits.{flying_is}
-use Rattle.core_watch.specs.Moments.{IsFor}
+use Rattle.core_watch.specs.Moments.{IsReaderFor}
 use Rattle.core_watch.specs.Standing.{path_read}
 use Rattle.core_watch.proofs.Moments.{fed_keeps}
 use Rattle.core_world.specs.Kept.{IsKept}
@@ -95,10 +95,10 @@ use Rattle.oak_port.specs.Ports.{AreOfStep, Awaiting, HoldsBack, Idle, IsFinish,
 use Rattle.oak_step.specs.declared.work.Work.{Work}
 use Rattle.oak_step.specs.declared.work.Work.TheVariants as work
 use Rattle.oak_world.specs.Kept.{IsAtWork, May}
-use Rattle.oak_step.specs.Parts.{EndsSo, changes_on, committed, end_of_reading, marked, read_on}
+use Rattle.oak_step.specs.Parts.{EndsSo, changes_on, committed, end_of_reading, mark_made, read_on}
 use Rattle.oak_world.specs.Seen.{shown_by, shown_work, task_of}
-use Rattle.oak_step.specs.Works.{kind_due, kind_of}
-use Rattle.oak_world.specs.Steps.{HasCome, Makes, MakesCommit, MakesUpdate}
+use Rattle.oak_step.specs.Works.{kind_due, kind_of_stage}
+use Rattle.oak_world.specs.Steps.{IsPresent, MakesState, MakesCommit, MakesUpdate}
 use Rattle.oak_world.specs.Worlds.{observing_of, reading_of, running_as, running_of}
 use Rattle.oak_step.proofs.Feeding.{stage_last, stage_mark, stage_write}
 use Rattle.oak_step.proofs.Stages.{finish_stage}
@@ -152,9 +152,9 @@ two true true h k = refl
 two false b h k = cc
 two true false h k = cc
 
-ends_told : (h : History) (s : ℕ) (b : Bool) (k : ℕ) (v : RevVec) (r : Revision) → is_revision_of h.past s r ≡ true → is_moving h r ≡ b → (r.cluster == k) ≡ true → is_appended_by h s kind.Finish (reverse (ends_with b k v r)) ≡ true
-ends_told h s true k v r mine moving node = kind_told kind.Finish (is_revision_of h.past s r && is_moving h r && r.cluster == k) (three _ _ _ mine moving node)
-ends_told h s false k v r mine moving node = kind_told kind.Finish (is_revision_of h.past s r && not (is_moving h r)) (two _ _ mine (ap not moving))
+ends_told : (h : History) (s : ℕ) (b : Bool) (k : ℕ) (v : RevVec) (r : Revision) → is_revision_of h.past s r ≡ true → moves_head h r ≡ b → (r.cluster == k) ≡ true → is_appended_by h s kind.Finish (reverse (ends_with b k v r)) ≡ true
+ends_told h s true k v r mine moving node = kind_told kind.Finish (is_revision_of h.past s r && moves_head h r && r.cluster == k) (three _ _ _ mine moving node)
+ends_told h s false k v r mine moving node = kind_told kind.Finish (is_revision_of h.past s r && not (moves_head h r)) (two _ _ mine (ap not moving))
 
 -- ---- what is shown of a commit
 
@@ -234,7 +234,7 @@ module _ (starts : Starts) (says : Says) (proper : StartsProper starts) (writes 
     as_due = refl;
   }
 
-  leave_step : HasCome h s → w.running s ≡ None → w.reading s ≡ None → w.observing s ≡ None → StepOf work.End (after_leave w s) work.Rest (answers.Ready ends.Ended)
+  leave_step : IsPresent h s → w.running s ≡ None → w.reading s ≡ None → w.observing s ≡ None → StepOf work.End (after_leave w s) work.Rest (answers.Ready ends.Ended)
   leave_step come idle unread unobserved = record {
     own = event.Went s kind.End ∷ [];
     grown = refl;
@@ -249,7 +249,7 @@ module _ (starts : Starts) (says : Says) (proper : StartsProper starts) (writes 
     as_due = refl;
   }
 
-  refresh_step : (pin : Pin) → pin ≡ pin_now (memory_of w s) → HasCome h s → w.running s ≡ None → w.reading s ≡ None → w.observing s ≡ None → StepOf work.Refresh (after_refresh w s) work.Rest (answers.Ready (ends.Pinned pin))
+  refresh_step : (pin : Pin) → pin ≡ pin_now (memory_of w s) → IsPresent h s → w.running s ≡ None → w.reading s ≡ None → w.observing s ≡ None → StepOf work.Refresh (after_refresh w s) work.Rest (answers.Ready (ends.Pinned pin))
   refresh_step pin is come idle unread unobserved = record {
     own = event.Refresh s (memory_of w s).head ∷ [];
     grown = refl;
@@ -278,7 +278,7 @@ module _ (starts : Starts) (says : Says) (proper : StartsProper starts) (writes 
       let flies = (flying_is w.begin w.clusters w.sessions kept.sessions.nodes w.past (sound_run w.clusters w.sessions kept.sessions.nodes w.begin starts says w.past kept.sessions.run) r.cluster (kept.sessions.nodes.node s r.cluster on) (memory_of w s) (memory_is r on) q).0 awaits.flying in
       record { node = flies.0; earlier = awaits.earlier; flying = flies.1 }
 
-  waits_step : (r q : Revision) → AwaitsEarlier (memory_of w s) r q → HasCome h s → is_ended w.past r ≡ true → slice_get w.sessions s ≡ Some r.cluster → StepOf (work.Move r) w (work.Move r) (answers.Wait q)
+  waits_step : (r q : Revision) → AwaitsEarlier (memory_of w s) r q → IsPresent h s → is_ended w.past r ≡ true → slice_get w.sessions s ≡ Some r.cluster → StepOf (work.Move r) w (work.Move r) (answers.Wait q)
   waits_step r q awaits come ended on = record {
     own = [];
     grown = refl;
@@ -293,7 +293,7 @@ module _ (starts : Starts) (says : Says) (proper : StartsProper starts) (writes 
     as_due = refl;
   }
 
-  moves_step : (r o : Revision) → o ≡ r → sees (memory_of w s).head r ≡ true → HasCome h s → slice_get w.sessions s ≡ Some r.cluster → w.running s ≡ None → w.reading s ≡ None → w.observing s ≡ None → StepOf (work.Move r) (after_refresh w s) work.Rest (answers.Ready (ends.Commit (end.Committed o)))
+  moves_step : (r o : Revision) → o ≡ r → sees (memory_of w s).head r ≡ true → IsPresent h s → slice_get w.sessions s ≡ Some r.cluster → w.running s ≡ None → w.reading s ≡ None → w.observing s ≡ None → StepOf (work.Move r) (after_refresh w s) work.Rest (answers.Ready (ends.Commit (end.Committed o)))
   moves_step r o is seen come on idle unread unobserved = record {
     own = event.Refresh s (memory_of w s).head ∷ [];
     grown = refl;
@@ -310,14 +310,14 @@ module _ (starts : Starts) (says : Says) (proper : StartsProper starts) (writes 
 
   -- ---- loads
 
-  module _ (table : IsTable w.table.documents) (r : Reader) (here : w.reading s ≡ Some r) (come : HasCome h s) where
+  module _ (table : IsTable w.table.documents) (r : Reader) (here : w.reading s ≡ Some r) (come : IsPresent h s) where
     abbrev next : Reader
     next = read_on w.table r
 
     read_kept : IsKept starts says (with_reader w s (Some next))
     read_kept = read_whole starts says proper w kept s r here table
 
-    for_same : IsFor r.pin r.parent (path_read r) next
+    for_same : IsReaderFor r.pin r.parent (path_read r) next
     for_same = fed_keeps r (answer w.table.documents (due r))
 
     same_task : Starting (task_of next.parent (path_read next)) ≡ Starting (task_of r.parent (path_read r))
@@ -411,7 +411,7 @@ module _ (starts : Starts) (says : Says) (proper : StartsProper starts) (writes 
 
   -- ---- what commits changed
 
-  module _ (table : IsTable w.table.documents) (r : ChangesReader) (here : w.observing s ≡ Some r) (come : HasCome h s) (detached : is_attached w.past s ≡ false) where
+  module _ (table : IsTable w.table.documents) (r : ChangesReader) (here : w.observing s ≡ Some r) (come : IsPresent h s) (detached : is_attached w.past s ≡ false) where
     abbrev then : ChangesReader
     then = changes_on w.table r
 
@@ -483,7 +483,7 @@ module _ (starts : Starts) (says : Says) (proper : StartsProper starts) (writes 
 
   -- ---- the draw of a commit
 
-  draw_step : (edit : Edit) (marks : List MarkAt) → HasCome h s → is_attached w.past s ≡ false → starts h s edit marks → w.running s ≡ None
+  draw_step : (edit : Edit) (marks : List MarkAt) → IsPresent h s → is_attached w.past s ≡ false → starts h s edit marks → w.running s ≡ None
       → StepOf (work.Plan edit marks) (after_draw w s edit marks (marked_paths marks)) (work.Commit (begun (next_draw (memory_of w s)) (base_in w s) edit marks)) (answers.Went kind.Draw)
   draw_step edit marks come apart_now lawful idle = record {
     own = event.Draw (draw_in w s edit marks) ∷ [];
@@ -568,7 +568,7 @@ module _ (starts : Starts) (says : Says) (proper : StartsProper starts) (writes 
             by (Ok d) = refl
             by (Err e) = refl
 
-        pub marked_step : (d : Committing) → (after_mark w s x f rest).past ≡ event.Went s kind.Mark ∷ w.past → d ≡ marked c rest → StepOf (work.Commit c) (after_mark w s x f rest) (work.Commit d) (answers.Went kind.Mark)
+        pub marked_step : (d : Committing) → (after_mark w s x f rest).past ≡ event.Went s kind.Mark ∷ w.past → d ≡ mark_made c rest → StepOf (work.Commit c) (after_mark w s x f rest) (work.Commit d) (answers.Went kind.Mark)
         marked_step d past is = subst (λ (y : Committing). StepOf (work.Commit c) (after_mark w s x f rest) (work.Commit y) (answers.Went kind.Mark)) (sym is) (record {
           own = event.Went s kind.Mark ∷ [];
           grown = mark_grown (event.Went s kind.Mark ∷ []) past;
@@ -578,9 +578,9 @@ module _ (starts : Starts) (says : Says) (proper : StartsProper starts) (writes 
           attached = refl;
           unstopped = λ q k. k;
           same = mark_lists w s x f rest;
-          tells = writing (answers.Went kind.Mark) (event.Went s kind.Mark ∷ []) (shown_work (work.Commit (marked c rest))) (inr (inl (refl, refl, still_writing (marked c rest) refl refl)));
+          tells = writing (answers.Went kind.Mark) (event.Went s kind.Mark ∷ []) (shown_work (work.Commit (mark_made c rest))) (inr (inl (refl, refl, still_writing (mark_made c rest) refl refl)));
           of_step = kind_told kind.Mark (s == s && true) (with_true (s == s) (number_itself s));
-          as_due = ap (λ (y : Stage). is_due kind.Mark (kind_of y)) (stage_mark c going at.looked f rest due_is);
+          as_due = ap (λ (y : Stage). is_due kind.Mark (kind_of_stage y)) (stage_mark c going at.looked f rest due_is);
         })
 
         pub mark_refused_step : (d : Committing) → (after_mark w s x f rest).past ≡ event.Refuse c.revision f.mine f.other ∷ w.past → d ≡ refused c f.mine f.other → StepOf (work.Commit c) (after_mark w s x f rest) (work.Commit d) (answers.Went kind.Mark)
@@ -615,7 +615,7 @@ module _ (starts : Starts) (says : Says) (proper : StartsProper starts) (writes 
           same = write_lists w s x p rest;
           tells = writing (answers.Went kind.Write) (event.Went s kind.Write ∷ []) (shown_work (work.Commit (written_alone c p rest (nodes_in w.table p)))) (inl (refl, refl, inl (still_writing (written_alone c p rest (nodes_in w.table p)) refl refl)));
           of_step = kind_told kind.Write (s == s && true) (with_true (s == s) (number_itself s));
-          as_due = ap (λ (y : Stage). is_due kind.Write (kind_of y)) (stage_write c going at.looked p rest unmet left);
+          as_due = ap (λ (y : Stage). is_due kind.Write (kind_of_stage y)) (stage_write c going at.looked p rest unmet left);
         }
 
         pub wrote_in_want_step : StepOf (work.Commit c) (after_write_in_want w s x p rest) (work.Commit (wanting (written_alone c p rest (nodes_in w.table p)))) (answers.Went kind.Write)
@@ -630,7 +630,7 @@ module _ (starts : Starts) (says : Says) (proper : StartsProper starts) (writes 
           same = want_lists w s x p rest;
           tells = writing (answers.Went kind.Write) (event.Went s kind.Write ∷ []) (shown_work (work.Commit (wanting (written_alone c p rest (nodes_in w.table p))))) (inl (refl, refl, inr refl));
           of_step = kind_told kind.Write (s == s && true) (with_true (s == s) (number_itself s));
-          as_due = ap (λ (y : Stage). is_due kind.Write (kind_of y)) (stage_write c going at.looked p rest unmet left);
+          as_due = ap (λ (y : Stage). is_due kind.Write (kind_of_stage y)) (stage_write c going at.looked p rest unmet left);
         }
 
       -- the last write
@@ -661,7 +661,7 @@ module _ (starts : Starts) (says : Says) (proper : StartsProper starts) (writes 
           same = last_lists w s x;
           tells = writing (answers.Went kind.Last) (event.Commit c.revision ∷ []) (shown_work (work.Commit (committed c))) (inr (inr (inl (refl, refl, refl))));
           of_step = kind_told kind.Last (is_revision_of w.past s c.revision) revision_mine;
-          as_due = ap (λ (y : Stage). is_due kind.Last (kind_of y)) (stage_last c going at.looked unmet none_left);
+          as_due = ap (λ (y : Stage). is_due kind.Last (kind_of_stage y)) (stage_last c going at.looked unmet none_left);
         })
 
         pub last_refused_step : (d : Committing) (item : Item) (o : Revision) → (after_last w s x).past ≡ event.Refuse c.revision item o ∷ w.past → d ≡ refused c item o → StepOf (work.Commit c) (after_last w s x) (work.Commit d) (answers.Went kind.Last)
@@ -724,7 +724,7 @@ module _ (starts : Starts) (says : Says) (proper : StartsProper starts) (writes 
       node = subst (IsNode w.clusters) (sym at_node) (kept.sessions.nodes.node s c.revision.cluster on)
 
       -- the head moves where the memory's does
-      moves : is_moving h c.revision ≡ moved
+      moves : moves_head h c.revision ≡ moved
       moves = sym (rises ∙ by (is_same (local w.begin later k) (local w.begin w.past k)) refl)
         where
           k : ℕ
@@ -769,7 +769,7 @@ module _ (starts : Starts) (says : Says) (proper : StartsProper starts) (writes 
       finish_told : is_appended_by h s kind.Finish (reverse own_ends) ≡ true
       finish_told = ends_told h s moved (node_of w s) done.head c.revision revision_mine moves (ap (λ (k : ℕ). c.revision.cluster == k) at_node ∙ number_itself c.revision.cluster)
 
-      come_on : HasCome (after own_ends h) s
+      come_on : IsPresent (after own_ends h) s
       come_on = come_left h s own_ends (ends_apart moved (node_of w s) done.head c.revision w.past s) at.come
 
       finished_step : (v : Work) (o : StepOut) → EndsSo c v o → StepOf (work.Commit c) (after_finish w s x) v o
@@ -813,7 +813,7 @@ module _ (starts : Starts) (says : Says) (proper : StartsProper starts) (writes 
     mark_any : MakesUpdate s w c u d kind.Mark → StepOf (work.Commit c) u (work.Commit d) (answers.Went kind.Mark)
     mark_any g = subst (λ (y : State). StepOf (work.Commit c) y (work.Commit d) (answers.Went kind.Mark)) (sym g.4) (by g.5)
       where
-        by : ((u.past ≡ event.Went s kind.Mark ∷ w.past) × (d ≡ marked c g.1)) ⊎ ((u.past ≡ event.Refuse c.revision g.0.mine g.0.other ∷ w.past) × (d ≡ refused c g.0.mine g.0.other)) → StepOf (work.Commit c) (after_mark w s (running_as s c) g.0 g.1) (work.Commit d) (answers.Went kind.Mark)
+        by : ((u.past ≡ event.Went s kind.Mark ∷ w.past) × (d ≡ mark_made c g.1)) ⊎ ((u.past ≡ event.Refuse c.revision g.0.mine g.0.other ∷ w.past) × (d ≡ refused c g.0.mine g.0.other)) → StepOf (work.Commit c) (after_mark w s (running_as s c) g.0 g.1) (work.Commit d) (answers.Went kind.Mark)
         by (inl e) = marked_step c here at g.2 g.0 g.1 g.3 d (ap (λ (y : State). y.past) (sym g.4) ∙ e.0) e.1
         by (inr e) = mark_refused_step c here at g.2 g.0 g.1 g.3 d (ap (λ (y : State). y.past) (sym g.4) ∙ e.0) e.1
 
@@ -854,7 +854,7 @@ module _ (starts : Starts) (says : Says) (proper : StartsProper starts) (writes 
   still_step v tells due u x same is = at_those v answers.Memory w work.Rest u x same is (record { own = []; grown = refl; kept = kept; may = tt; apart = λ q k. refl; attached = refused_stays v (is_attached w.past s); unstopped = λ q k. k; same = refl; tells = tells; of_step = refl; as_due = due })
 
   -- a step of a session that may do what it does
-  pub any_step : IsTable w.table.documents → (v : Work) → w.running s ≡ running_of s v → w.reading s ≡ reading_of v → w.observing s ≡ observing_of v → May starts h s v → (u : State) (x : Work) (o : StepOut) → Makes s w v u x o → StepOf v u x o
+  pub any_step : IsTable w.table.documents → (v : Work) → w.running s ≡ running_of s v → w.reading s ≡ reading_of v → w.observing s ≡ observing_of v → May starts h s v → (u : State) (x : Work) (o : StepOut) → MakesState s w v u x o → StepOf v u x o
   any_step table work.Login runs reads observes may u x (answers.Ready (ends.Pinned pin)) m = at_those work.Login (answers.Ready (ends.Pinned pin)) (after_login w s) work.Rest u x m.0 m.1 (login_step pin m.2 may)
   any_step table work.Login runs reads observes may u x answers.Memory m = still_step work.Login (refl, refl) refl u x m.0 m.1
   any_step table work.Login runs reads observes may u x _ m = absurd m

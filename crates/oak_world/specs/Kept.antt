@@ -29,12 +29,12 @@ use Rattle.oak_step.specs.declared.work.Work.TheVariants as work
 use Rattle.oak_step.specs.Parts.{needed}
 use Rattle.oak_world.specs.Worlds.{WorldOf, actor_in, live, state_of, work_in}
 use Rattle.oak_world.specs.Seen.{shown_work}
-use Rattle.oak_world.specs.Steps.{HasCome}
+use Rattle.oak_world.specs.Steps.{IsPresent}
 
 -- the session has come, and the commit hasn't ended; the commit goes to the commit roots of those
 -- that it is to mark, and looks at no previous document
 pub record IsAtWork (h : History) (s : ℕ) (c : Committing) : Type 0 where
-  pub come : HasCome h s
+  pub come : IsPresent h s
   pub unended : c.ended ≡ false
   pub roots : c.roots ≡ map (λ f. root_of h.past f.other) c.writer.due
   pub looked : c.looking ≡ None
@@ -52,10 +52,10 @@ pub record EndsInRoot (b : BackWrite) : Type 0 where
 
 -- a background read that stands in a stage has still to read the root, or has read what the root
 -- told
-abbrev pub MayLearn : History → BackRead → Syncing → Type 0
-MayLearn h b syncing.Read = Unit {0}
-MayLearn h b syncing.Learn = WereOnRoot h.begin h.clusters h.past b.last b.sweep
-MayLearn h b _ = ⊥
+abbrev pub MayReadOn : History → BackRead → Syncing → Type 0
+MayReadOn h b syncing.Read = Unit {0}
+MayReadOn h b syncing.Learn = WereOnRoot h.begin h.clusters h.past b.last b.sweep
+MayReadOn h b _ = ⊥
 
 -- what is published is the node's own, and what is learned the root told; at an attached session no
 -- checkpoint is made, no cursor is pinned, and no further checkpoint is taken; it is detached, and
@@ -63,7 +63,7 @@ MayLearn h b _ = ⊥
 abbrev pub MayKeepUp : History → ℕ → Upkeep → Type 0
 MayKeepUp h s (upkeep.Noted n) = IsOwn h s n.upto
 MayKeepUp h s (upkeep.Publish b) = IsOwn h s b.upto × EndsInRoot b
-MayKeepUp h s (upkeep.Read b) = MayLearn h b (stage_of b)
+MayKeepUp h s (upkeep.Read b) = MayReadOn h b (stage_of b)
 MayKeepUp h s (upkeep.Checkpoint i) = IsFalse (is_attached h.past s)
 MayKeepUp h s (upkeep.Attach i) = IsFalse (is_attached h.past s)
 MayKeepUp h s upkeep.Detach = IsTrue (is_attached h.past s)
@@ -76,16 +76,16 @@ MayKeepUp h s _ = Unit {0}
 abbrev pub May : Starts → History → ℕ → Work → Type 0
 May starts h s work.Rest = Unit {0}
 May starts h s work.Login = IsFalse (has_login h.past s)
-May starts h s work.End = HasCome h s
-May starts h s work.Refresh = HasCome h s × IsFalse (is_attached h.past s)
-May starts h s (work.Read r) = HasCome h s
-May starts h s (work.Changes r) = HasCome h s × IsFalse (is_attached h.past s)
+May starts h s work.End = IsPresent h s
+May starts h s work.Refresh = IsPresent h s × IsFalse (is_attached h.past s)
+May starts h s (work.Read r) = IsPresent h s
+May starts h s (work.Changes r) = IsPresent h s × IsFalse (is_attached h.past s)
 May starts h s (work.Plan edit marks) =
-    HasCome h s × IsFalse (is_attached h.past s) × starts h s edit marks
+    IsPresent h s × IsFalse (is_attached h.past s) × starts h s edit marks
 May starts h s (work.Commit c) = IsAtWork h s c
-May starts h s (work.Upkeep u) = HasCome h s × MayKeepUp h s u
+May starts h s (work.Upkeep u) = IsPresent h s × MayKeepUp h s u
 May starts h s (work.Move r) =
-    HasCome h s × IsTrue (is_ended h.past r) × (slice_get h.sessions s ≡ Some r.cluster)
+    IsPresent h s × IsTrue (is_ended h.past r) × (slice_get h.sessions s ≡ Some r.cluster)
 
 -- the state is kept by its law, the documents are in store order, there are at most 64 sessions, of
 -- each it is known whether it is attached to a checkpoint, no cluster node is stopped, no document

@@ -35,7 +35,7 @@ use Rattle.oak_step.specs.declared.upkeep.Upkeep.{Upkeep}
 use Rattle.oak_step.specs.declared.upkeep.Upkeep.TheVariants as upkeep
 use Rattle.oak_step.specs.declared.work.Work.{Work}
 use Rattle.oak_step.specs.declared.work.Work.TheVariants as work
-use Rattle.oak_step.specs.Parts.{base_at, changes_on, read_on}
+use Rattle.oak_step.specs.Parts.{pinned_base, changes_on, read_on}
 use Rattle.oak_world.specs.Worlds.{WorldOf, state_of, work_in}
 
 -- ---- a reader
@@ -187,16 +187,16 @@ upkeep_left m _ = 1
 -- ---- all
 
 -- of what session s does, by the documents and the memory of its cluster node
-abbrev pub left_of : ℕ → Table → NodeState → Work → ℕ
-left_of s t m work.Rest = 0
-left_of s t m (work.Read r) = suc (reads_left t r)
-left_of s t m (work.Changes r) = suc (changes_left t r)
-left_of s t m (work.Plan edit marks) =
-    suc (commit_left t (begun (next_draw m) (base_at m s) edit marks) None)
-left_of s t m (work.Commit c) = commit_left t c c.outcome
-left_of s t m (work.Upkeep u) = upkeep_left m u
-left_of s t m _ = 1
+abbrev pub steps_left : ℕ → Table → NodeState → Work → ℕ
+steps_left s t m work.Rest = 0
+steps_left s t m (work.Read r) = suc (reads_left t r)
+steps_left s t m (work.Changes r) = suc (changes_left t r)
+steps_left s t m (work.Plan edit marks) =
+    suc (commit_left t (begun (next_draw m) (pinned_base m s) edit marks) None)
+steps_left s t m (work.Commit c) = commit_left t c c.outcome
+steps_left s t m (work.Upkeep u) = upkeep_left m u
+steps_left s t m _ = 1
 
 -- of what session s of a world does
 abbrev pub left_in : {L : Type 0} → WorldOf L → ℕ → ℕ
-left_in w s = left_of s w.table (memory_of (state_of w) s) (work_in w.actors s)
+left_in w s = steps_left s w.table (memory_of (state_of w) s) (work_in w.actors s)

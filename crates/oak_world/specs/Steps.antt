@@ -47,13 +47,13 @@ use Rattle.oak_step.specs.Upkeeps.{set_checkpoint}
 use Rattle.oak_step.specs.declared.work.Work.{Work}
 use Rattle.oak_step.specs.declared.work.Work.TheVariants as work
 use Rattle.oak_step.specs.Works.{kind_due}
-use Rattle.oak_step.specs.Parts.{EndsSo, changes_on, committed, end_of_reading, marked, read_on}
+use Rattle.oak_step.specs.Parts.{EndsSo, changes_on, committed, end_of_reading, mark_made, read_on}
 use Rattle.oak_world.specs.Worlds.{WorldOf, actor_in, running_as, state_of, work_in}
 
 -- ---- who may be told what
 
 -- the session has come, and not left
-pub record HasCome (h : History) (s : ℕ) : Type 0 where
+pub record IsPresent (h : History) (s : ℕ) : Type 0 where
   pub login : IsTrue (has_login h.past s)
   pub stays : IsFalse (has_left h.past s)
 
@@ -63,7 +63,7 @@ pub record IsIdle {L : Type 0} (w : WorldOf L) (s : ℕ) : Type 0 where
   pub idle : work_in w.actors s ≡ work.Rest
 
 -- the text is the next reply of session s, which the law lets it say, and its bytes are reserved
-pub record HasPlace (says : Says) (h : History) (reply : Option ℕ) (s i : ℕ)
+pub record HasReplyPlace (says : Says) (h : History) (reply : Option ℕ) (s i : ℕ)
     (text : Text) : Type 0 where
   pub next : i ≡ next_index h.past s
   pub lawful : says h s i text
@@ -78,7 +78,7 @@ module _ (s : ℕ) (w : State) (c : Committing) (u : State) (d : Committing) whe
   abbrev pub MakesUpdate : StepKind → Type 0
   MakesUpdate kind.Mark = (f : Met) × (rest : List Met) × (c.outcome ≡ None)
       × (c.writer.due ≡ f ∷ rest) × (u ≡ after_mark w s (running_as s c) f rest)
-      × (((u.past ≡ event.Went s kind.Mark ∷ w.past) × (d ≡ marked c rest))
+      × (((u.past ≡ event.Went s kind.Mark ∷ w.past) × (d ≡ mark_made c rest))
       ⊎ ((u.past ≡ event.Refuse c.revision f.mine f.other ∷ w.past)
       × (d ≡ refused c f.mine f.other)))
   MakesUpdate kind.Write = (p : Path) × (rest : List Path) × (c.outcome ≡ None)
@@ -125,7 +125,7 @@ MakesBackWrite s w b u v _ = ⊥
 abbrev pub BeginsBackWrite : ℕ → State → Pending → State → Work → StepOut → Type 0
 BeginsBackWrite s w n u v o =
     ((o ≡ answers.Memory) × (u ≡ w) × (v ≡ work.Rest))
-    ⊎ ((a : Global) × (b : BackWrite) × publishing.IsBegun a n b × MakesBackWrite s w b u v o)
+    ⊎ ((a : Global) × (b : BackWrite) × publishing.HasWrittenNothing a n b × MakesBackWrite s w b u v o)
 
 -- a background read reads the root's document; then the memory learns the two vectors that it read,
 -- and the task ends
@@ -181,47 +181,47 @@ MakesUpkeep s w upkeep.Observe u v _ = ⊥
 
 -- how a step of session s goes, by what it does: the state after it, what it does then, and the
 -- answer
-abbrev pub Makes : ℕ → State → Work → State → Work → StepOut → Type 0
-Makes s w work.Login u v (answers.Ready (ends.Pinned pin)) =
+abbrev pub MakesState : ℕ → State → Work → State → Work → StepOut → Type 0
+MakesState s w work.Login u v (answers.Ready (ends.Pinned pin)) =
     (u ≡ after_login w s) × (v ≡ work.Rest) × (pin ≡ pin_now (memory_of w s))
-Makes s w work.Login u v answers.Memory = (u ≡ w) × (v ≡ work.Rest)
-Makes s w work.Login u v _ = ⊥
-Makes s w work.End u v (answers.Ready ends.Ended) = (u ≡ after_leave w s) × (v ≡ work.Rest)
-Makes s w work.End u v answers.Memory = (u ≡ w) × (v ≡ work.Rest)
-Makes s w work.End u v _ = ⊥
-Makes s w work.Refresh u v (answers.Ready (ends.Pinned pin)) =
+MakesState s w work.Login u v answers.Memory = (u ≡ w) × (v ≡ work.Rest)
+MakesState s w work.Login u v _ = ⊥
+MakesState s w work.End u v (answers.Ready ends.Ended) = (u ≡ after_leave w s) × (v ≡ work.Rest)
+MakesState s w work.End u v answers.Memory = (u ≡ w) × (v ≡ work.Rest)
+MakesState s w work.End u v _ = ⊥
+MakesState s w work.Refresh u v (answers.Ready (ends.Pinned pin)) =
     (u ≡ after_refresh w s) × (v ≡ work.Rest) × (pin ≡ pin_now (memory_of w s))
-Makes s w work.Refresh u v answers.Memory = (u ≡ w) × (v ≡ work.Rest)
-Makes s w work.Refresh u v _ = ⊥
-Makes s w (work.Read r) u v (answers.Went kind.Read) =
+MakesState s w work.Refresh u v answers.Memory = (u ≡ w) × (v ≡ work.Rest)
+MakesState s w work.Refresh u v _ = ⊥
+MakesState s w (work.Read r) u v (answers.Went kind.Read) =
     (u ≡ with_reader w s (Some (read_on w.table r))) × (v ≡ work.Read (read_on w.table r))
     × (due (read_on w.table r) ≢ ask.Done)
-Makes s w (work.Read r) u v (answers.Ready e) = (u ≡ with_reader w s None) × (v ≡ work.Rest)
+MakesState s w (work.Read r) u v (answers.Ready e) = (u ≡ with_reader w s None) × (v ≡ work.Rest)
     × (end_of_reading (read_on w.table r).step ≡ Some e)
-Makes s w (work.Read r) u v answers.Memory = (u ≡ with_reader w s None) × (v ≡ work.Rest)
-Makes s w (work.Read r) u v _ = ⊥
-Makes s w (work.Changes r) u v (answers.Went kind.Read) =
+MakesState s w (work.Read r) u v answers.Memory = (u ≡ with_reader w s None) × (v ≡ work.Rest)
+MakesState s w (work.Read r) u v _ = ⊥
+MakesState s w (work.Changes r) u v (answers.Went kind.Read) =
     (u ≡ with_observer w s (Some (changes_on w.table r)))
     × (v ≡ work.Changes (changes_on w.table r))
     × (changes.due (changes_on w.table r) ≢ ask.Done)
-Makes s w (work.Changes r) u v (answers.Ready (ends.Changes commits)) =
+MakesState s w (work.Changes r) u v (answers.Ready (ends.Changes commits)) =
     (u ≡ with_observer w s None) × (v ≡ work.Rest)
     × ((changes_on w.table r).step ≡ observed.Done commits)
-Makes s w (work.Changes r) u v answers.Memory = (u ≡ with_observer w s None) × (v ≡ work.Rest)
-Makes s w (work.Changes r) u v _ = ⊥
-Makes s w (work.Plan edit marks) u v (answers.Went kind.Draw) =
+MakesState s w (work.Changes r) u v answers.Memory = (u ≡ with_observer w s None) × (v ≡ work.Rest)
+MakesState s w (work.Changes r) u v _ = ⊥
+MakesState s w (work.Plan edit marks) u v (answers.Went kind.Draw) =
     (u ≡ after_draw w s edit marks (marked_paths marks))
     × (v ≡ work.Commit (begun (next_draw (memory_of w s)) (base_in w s) edit marks))
-Makes s w (work.Plan edit marks) u v answers.Memory = (u ≡ w) × (v ≡ work.Rest)
-Makes s w (work.Plan edit marks) u v _ = ⊥
-Makes s w (work.Commit c) u v o = MakesCommit s w c u v o
-Makes s w (work.Move r) u v (answers.Wait o) =
+MakesState s w (work.Plan edit marks) u v answers.Memory = (u ≡ w) × (v ≡ work.Rest)
+MakesState s w (work.Plan edit marks) u v _ = ⊥
+MakesState s w (work.Commit c) u v o = MakesCommit s w c u v o
+MakesState s w (work.Move r) u v (answers.Wait o) =
     (u ≡ w) × (v ≡ work.Move r) × AwaitsEarlier (memory_of w s) r o
-Makes s w (work.Move r) u v (answers.Ready (ends.Commit (end.Committed o))) =
+MakesState s w (work.Move r) u v (answers.Ready (ends.Commit (end.Committed o))) =
     (u ≡ after_refresh w s) × (v ≡ work.Rest) × (o ≡ r) × IsTrue (sees (memory_of w s).head r)
-Makes s w (work.Move r) u v _ = ⊥
-Makes s w (work.Upkeep k) u v o = MakesUpkeep s w k u v o
-Makes s w work.Rest u v _ = ⊥
+MakesState s w (work.Move r) u v _ = ⊥
+MakesState s w (work.Upkeep k) u v o = MakesUpkeep s w k u v o
+MakesState s w work.Rest u v _ = ⊥
 
 -- the documents that loads have read, after a step of a load; the count stays at its last value
 abbrev pub reads_of_load : StepOut → ℕ → ℕ
@@ -264,7 +264,7 @@ attached_after v o was = option_map_or (λ now. cond (is_made o) now was) (attac
 -- stays
 pub record StepsIn {L : Type 0} (w : WorldOf L) (s : ℕ) (u : WorldOf L) (o : StepOut) : Type 0 where
   pub does : Work
-  pub makes : Makes s (state_of w) (work_in w.actors s) (state_of u) does o
+  pub makes : MakesState s (state_of w) (work_in w.actors s) (state_of u) does o
   pub actors : u.actors
       ≡ slice_set w.actors s (record (actor_in w.actors s) {
         work = does;

@@ -2,7 +2,7 @@
 ghost use Rattle.std.specs.Prelude.{◌≡◌, ◌≤◌, [], ◌∷◌, IfOk};
 ghost use Rattle.jr_path.specs.Grammar.{IsName};
 ghost use Rattle.jr_rev.specs.Vectors.{start_of};
-ghost use Rattle.core_world.specs.Start.{start_document, start_documents, start_root, start_settings, system_path, versions_path};
+ghost use Rattle.core_world.specs.Start.{node_of_start, documents_of_start, start_root, start_settings, system_path, versions_path};
 
 use jr_path::{DocId, Keyed, Name, Path};
 use jr_rev::{RevVec, Revision};
@@ -17,7 +17,7 @@ pub(crate) fn start_documents(
     sessions: u32,
 ) -> Result<Vec<Document>, AllocError>
     requires { 1 ≤ clusters × clusters ≤ 8 }
-    ensures { IfOk result (λ documents. documents.items ≡ start_documents clusters sessions) }
+    ensures { IfOk result (λ documents. documents.items ≡ documents_of_start clusters sessions) }
 {
     let system = system_path(alloc)?;
     let versions = versions_path(alloc)?;
@@ -68,7 +68,7 @@ fn start_document(
     number: u64,
 ) -> Result<Document, AllocError>
     requires { IsName kind.now }
-    ensures { IfOk result (λ document. document ≡ start_document path kind.now number) }
+    ensures { IfOk result (λ document. document ≡ node_of_start path kind.now number) }
 {
     let deleted = at_start(alloc, false)?;
     let kind = Property::Single(Value::Name(Name::of(alloc, kind)?));

@@ -32,7 +32,7 @@ ghost use Rattle.oak_world.specs.Pairs.{ShowsTree};
 ghost use Rattle.oak_world.specs.Seen.{shown_at};
 ghost use Rattle.oak_step.specs.Upkeeps.{set_checkpoint};
 ghost use Rattle.oak_step.specs.Works.{Begins, kind_due};
-ghost use Rattle.oak_world.specs.Steps.{HasPlace, IsIdle, Plays, StepsIn, Turns};
+ghost use Rattle.oak_world.specs.Steps.{HasReplyPlace, IsIdle, Plays, StepsIn, Turns};
 ghost use Rattle.oak_world.specs.Worlds.{actor_in, live, said_in, start_world, state_of, with_reply, with_work, work_in};
 
 use crate::actor::{Actor, Room, step_actor};
@@ -332,7 +332,7 @@ impl<L: Law + Drop> World<L> {
     /// can't be refused.
     pub fn say(&mut self, actor: u32, index: u32, text: &str)
         requires idle { IsIdle self.old actor }
-        requires may { HasPlace (L.may_say self.old.law) (live self.old.history)
+        requires may { HasReplyPlace (L.may_say self.old.law) (live self.old.history)
             (actor_in self.old.actors actor).reply actor index text.now }
         ensures { self.new ≡ said_in self.old actor index text.now }
     {

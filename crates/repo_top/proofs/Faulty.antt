@@ -6,7 +6,7 @@ use Rattle.jr_io.specs.Causes.{Rose}
 use Rattle.jr_script.specs.declared.script.Script.{Script}
 use Rattle.oak_world.specs.Worlds.{WorldOf}
 use Rattle.jcr_law.specs.declared.law.JcrLaw.{JcrLaw}
-use Rattle.repo_top.specs.Ends.{AsksFor, Call, IsTaken, Does, Effect, Ends, EndsWith, Faults, HasFault, HasLine, HasNotFailed, HasPrinted, HasRunAll, HasRunFor, Input, IsAsked, IsCalm, IsCause, IsDelivered, IsExpected, IsFault, IsScriptFor, IsMissing, IsPart, IsPartOf, IsReadAs, IsReadWhole, TellsAll, IsRefused, IsTextFor, IsUnread, SourceKind, Output, Prints, Spells, Tells, WritesText, call, effect, source_kind, longest, told_of}
+use Rattle.repo_top.specs.Ends.{AsksFor, Invocation, IsTaken, Does, Effect, Ends, EndsWith, Faults, HasFault, HasLine, HasNotFailed, HasPrinted, HasRunAll, HasRunFor, Input, IsSourceText, IsCalm, IsCause, IsDelivered, IsExpected, IsUnrunFault, IsScriptFor, IsMissing, IsPart, IsCutText, IsInputRead, IsReadWhole, TellsAll, IsRefused, IsTextFor, IsUnread, SourceKind, Output, Prints, SpellsScript, Delivers, WritesText, call, effect, source_kind, longest, told_of}
 use Rattle.repo_top.specs.Ends.SourceKind.{a_script, a_type_text}
 use Rattle.jr_gen.specs.Scripts.{script_text}
 use Rattle.jr_work.specs.Runs.{HasRun}
@@ -16,7 +16,7 @@ use Rattle.repo_top.specs.Statuses.{fault_line, status_of}
 use Rattle.repo_top.specs.Typed.{IsCanonical}
 use Rattle.repo_top.specs.declared.status.Unrun.{Unrun}
 use Rattle.repo_top.specs.declared.status.Unrun.TheVariants as unrun
-use Rattle.repo_top.specs.Words.{Means}
+use Rattle.repo_top.specs.Words.{WordsMean}
 use Rattle.repo_top.specs.declared.words.Words.{Words}
 use Rattle.repo_top.specs.declared.words.Words.TheVariants.{Gen, Run, Steps, Types}
 use Rattle.repo_top.proofs.Options.{one_meaning}
@@ -27,11 +27,11 @@ none_left None h = refl
 none_left (Some x) h = absurd (false≢true (sym h))
 
 -- what is told of a text is told of the same text
-pub told_text : (before now : Output) (text same : List ℕ) (answer result : Status) → text ≡ same → Tells before now text answer result → Tells before now same answer result
-told_text before now text same answer result e told = subst (λ (t : List ℕ). Tells before now t answer result) e told
+pub told_text : (before now : Output) (text same : List ℕ) (answer result : Status) → text ≡ same → Delivers before now text answer result → Delivers before now same answer result
+told_text before now text same answer result e told = subst (λ (t : List ℕ). Delivers before now t answer result) e told
 
 -- the words of a call ask for one thing
-one_asked : (c : Call) (a b : Words) → AsksFor c a → AsksFor c b → a ≡ b
+one_asked : (c : Invocation) (a b : Words) → AsksFor c a → AsksFor c b → a ≡ b
 one_asked c a b p q = one_meaning c.words a b p.meant q.meant
 
 -- ---- what words ask for
@@ -43,17 +43,17 @@ taken_alone Types other = tt
 taken_alone (Run workers documents) other = other workers documents refl
 taken_alone (Gen seed sessions runs) other = tt
 
-pub asks_all : (words : List (List ℕ)) (e : Effect) (meaning : Words) → Means words meaning → AsksFor (call true words e) meaning
+pub asks_all : (words : List (List ℕ)) (e : Effect) (meaning : Words) → WordsMean words meaning → AsksFor (call true words e) meaning
 asks_all words e meaning meant = record { meant = meant; taken = tt }
 
-pub asks_alone : (words : List (List ℕ)) (e : Effect) (meaning : Words) → Means words meaning → IsTaken false meaning → AsksFor (call false words e) meaning
+pub asks_alone : (words : List (List ℕ)) (e : Effect) (meaning : Words) → WordsMean words meaning → IsTaken false meaning → AsksFor (call false words e) meaning
 asks_alone words e meaning meant taken = record { meant = meant; taken = taken }
 
-pub no_threads : (words : List (List ℕ)) (e : Effect) (meaning : Words) (workers : ℕ) (documents : Bool) → Means words meaning → meaning ≡ Run workers documents → (other : Words) → ¬ AsksFor (call false words e) other
+pub no_threads : (words : List (List ℕ)) (e : Effect) (meaning : Words) (workers : ℕ) (documents : Bool) → WordsMean words meaning → meaning ≡ Run workers documents → (other : Words) → ¬ AsksFor (call false words e) other
 no_threads words e meaning workers documents meant is other asked =
     subst (λ (m : Words). IsTaken false m) (one_meaning words other meaning asked.meant meant ∙ is) asked.taken
 
-pub meaningless : (words : List (List ℕ)) (threads : Bool) (e : Effect) → ((meaning : Words) → ¬ Means words meaning) → (meaning : Words) → ¬ AsksFor (call threads words e) meaning
+pub meaningless : (words : List (List ℕ)) (threads : Bool) (e : Effect) → ((meaning : Words) → ¬ WordsMean words meaning) → (meaning : Words) → ¬ AsksFor (call threads words e) meaning
 meaningless words threads e none meaning asked = none meaning asked.meant
 
 -- ---- the text of a script that is made
@@ -97,11 +97,11 @@ module _ (documents : Bool) (e : Effect) (result : Status) where
       IfOk ran (λ world. (e.left ≡ Some world) × WritesText e.sink e.sink_now (printed_of documents world) result)
       × IfErr ran (λ why. IsNone e.left × Faults e.sink e.sink_now why result)
 
-  pub steps_does : (ran : Result (WorldOf JcrLaw) Unrun) → IfOk ran (λ world. (script : Script) × IsReadAs e.source e.source_now script × HasRun script world) → IfErr ran (IsUnread a_script e.source e.source_now) → IsTold ran → Does (Steps documents) e result
+  pub steps_does : (ran : Result (WorldOf JcrLaw) Unrun) → IfOk ran (λ world. (script : Script) × IsInputRead e.source e.source_now script × HasRun script world) → IfErr ran (IsUnread a_script e.source e.source_now) → IsTold ran → Does (Steps documents) e result
   steps_does (Ok world) ran unread told = told_ok (Steps documents) world ran.0 ran.1 ran.2 refl told.0.0 told.0.1
   steps_does (Err why) ran unread told = told_err (Steps documents) why refl unread told.1.0 told.1.1
 
-  pub run_does : (workers : ℕ) (ran : Result (WorldOf JcrLaw) Unrun) → IfOk ran (λ world. (script : Script) × IsReadAs e.source e.source_now script × HasRunByWorkers script world) → IfErr ran (IsUnread a_script e.source e.source_now) → IsTold ran → Does (Run workers documents) e result
+  pub run_does : (workers : ℕ) (ran : Result (WorldOf JcrLaw) Unrun) → IfOk ran (λ world. (script : Script) × IsInputRead e.source e.source_now script × HasRunByWorkers script world) → IfErr ran (IsUnread a_script e.source e.source_now) → IsTold ran → Does (Run workers documents) e result
   run_does workers (Ok world) ran unread told = told_ok (Run workers documents) world ran.0 ran.1 ran.2 refl told.0.0 told.0.1
   run_does workers (Err why) ran unread told = told_err (Run workers documents) why refl unread told.1.0 told.1.1
 
@@ -127,16 +127,16 @@ given_unfailed (Gen seed sessions runs) e script given = ap (λ (i : Input). i.f
 
 -- ---- no world is left
 
-module _ (c : Call) (none : c.does.left ≡ None) where
+module _ (c : Invocation) (none : c.does.left ≡ None) where
   -- a text was written, or a part of it
-  told : (text : List ℕ) (answer result : Status) → IsPartOf c text → (IsDelivered c.does.sink c.does.sink_now text → EndsWith c answer) → Tells c.does.sink c.does.sink_now text answer result → EndsWith c result
+  told : (text : List ℕ) (answer result : Status) → IsCutText c text → (IsDelivered c.does.sink c.does.sink_now text → EndsWith c answer) → Delivers c.does.sink c.does.sink_now text answer result → EndsWith c result
   told text answer result part make (inl t) = subst (λ (r : Status). EndsWith c r) (sym t.0) (make t.1)
   told text answer result part make (inr t) =
       subst (λ (r : Status). EndsWith c r) (sym t.0)
       (record { fault = t.1; part = subst (λ (o : Option (WorldOf JcrLaw)). IsPart c o) (sym none) (text, part, t.2) })
 
   -- the line that says why was written, or a part of it
-  lined : (why : Unrun) (result : Status) → HasLine why → IsCause c why → (IsFault c (status_of why) → EndsWith c (status_of why)) → Tells c.does.sink c.does.sink_now (fault_line why) (status_of why) result → EndsWith c result
+  lined : (why : Unrun) (result : Status) → HasLine why → IsCause c why → (IsUnrunFault c (status_of why) → EndsWith c (status_of why)) → Delivers c.does.sink c.does.sink_now (fault_line why) (status_of why) result → EndsWith c result
   lined why result line cause make tells =
       told (fault_line why) (status_of why) result (inr (why, line, cause, refl)) (λ whole. make (record { why = why; status = refl; unrun = none; cause = cause; line = whole })) tells
 
@@ -161,7 +161,7 @@ no_words None before now missing = missing
 no_words (Some a_script) before now missing = missing.2
 no_words (Some a_type_text) before now missing = missing.2
 
-missing_cause : (c : Call) (meaning : Words) (why : Unrun) → AsksFor c meaning → IsMissing (source_kind meaning) c.does.source c.does.source_now why → IsCause c why
+missing_cause : (c : Invocation) (meaning : Words) (why : Unrun) → AsksFor c meaning → IsMissing (source_kind meaning) c.does.source c.does.source_now why → IsCause c why
 missing_cause c meaning unrun.Words asked missing = absurd (no_words (source_kind meaning) c.does.source c.does.source_now missing)
 missing_cause c meaning (unrun.Script rule pointer offset) asked missing = (meaning, asked, missing)
 missing_cause c meaning (unrun.Types offset) asked missing = (meaning, asked, missing)
@@ -171,7 +171,7 @@ missing_cause c meaning unrun.Memory asked missing = (meaning, asked, missing)
 
 -- ---- a script is run
 
-module _ (c : Call) (meaning : Words) (asked : AsksFor c meaning) (script : Script) (given : IsScriptFor meaning c.does script) where
+module _ (c : Invocation) (meaning : Words) (asked : AsksFor c meaning) (script : Script) (given : IsScriptFor meaning c.does script) where
   abbrev run_all : (world : WorldOf JcrLaw) → HasRunFor meaning script world → HasRunAll c world
   run_all world ran = record { meaning = meaning; asked = asked; script = script; given = given; ran = ran }
 
@@ -187,7 +187,7 @@ module _ (c : Call) (meaning : Words) (asked : AsksFor c meaning) (script : Scri
       subst (λ (r : Status). EndsWith c r) (sym m.0)
       (record { asked = (meaning, asked); ran = subst (λ (o : Option (WorldOf JcrLaw)). IfSome o (HasRunAll c)) (sym is) (run_all world ran); nothing = m.1; sound = given_unfailed meaning c.does script given })
 
-done_ends : (c : Call) (meaning : Words) (result : Status) → AsksFor c meaning → Does meaning c.does result → EndsWith c result
+done_ends : (c : Invocation) (meaning : Words) (result : Status) → AsksFor c meaning → Does meaning c.does result → EndsWith c result
 done_ends c meaning result asked (inl u) = unrun_ends c u.none u.why result (missing_cause c meaning u.why asked u.missing) u.faults
 done_ends c meaning result asked (inr (inl r)) = run_ends c meaning asked r.script r.given c.does.left result refl r.ran r.prints
 done_ends c meaning result asked (inr (inr p)) =
@@ -248,28 +248,28 @@ module _ (e : Effect) (kind : SourceKind) (bytes : List ℕ) (calm : TellsAll e.
   calm_missing unrun.Memory s is missing = subst (λ (r : Status). IsExpected kind bytes r) (sym is) tt
 
 -- the bytes of a script that was run are what is asked for
-run_asked : (meaning : Words) (kind : SourceKind) (e : Effect) (script : Script) (world : WorldOf JcrLaw) (bytes : List ℕ) → source_kind meaning ≡ Some kind → TellsAll e.source e.source_now bytes → IsScriptFor meaning e script → HasRunFor meaning script world → IsAsked kind bytes
+run_asked : (meaning : Words) (kind : SourceKind) (e : Effect) (script : Script) (world : WorldOf JcrLaw) (bytes : List ℕ) → source_kind meaning ≡ Some kind → TellsAll e.source e.source_now bytes → IsScriptFor meaning e script → HasRunFor meaning script world → IsSourceText kind bytes
 run_asked (Steps documents) kind e script world bytes is calm given ran =
     let k : a_script ≡ kind = cc in
-    subst (λ (k : SourceKind). IsAsked k bytes) k (script, subst (λ (b : List ℕ). Spells b script) (all_bytes e.source e.source_now bytes given.0 calm given.1) given.2)
+    subst (λ (k : SourceKind). IsSourceText k bytes) k (script, subst (λ (b : List ℕ). SpellsScript b script) (all_bytes e.source e.source_now bytes given.0 calm given.1) given.2)
 run_asked (Run workers documents) kind e script world bytes is calm given ran =
     let k : a_script ≡ kind = cc in
-    subst (λ (k : SourceKind). IsAsked k bytes) k (script, subst (λ (b : List ℕ). Spells b script) (all_bytes e.source e.source_now bytes given.0 calm given.1) given.2)
+    subst (λ (k : SourceKind). IsSourceText k bytes) k (script, subst (λ (b : List ℕ). SpellsScript b script) (all_bytes e.source e.source_now bytes given.0 calm given.1) given.2)
 run_asked Types kind e script world bytes is calm given ran = absurd ran
 run_asked (Gen seed sessions runs) kind e script world bytes is calm given ran = absurd (cc is)
 
 -- the bytes of a text that is printed are what is asked for
-text_asked : (meaning : Words) (kind : SourceKind) (e : Effect) (text : List ℕ) (bytes : List ℕ) → source_kind meaning ≡ Some kind → TellsAll e.source e.source_now bytes → IsTextFor meaning e text → IsAsked kind bytes
+text_asked : (meaning : Words) (kind : SourceKind) (e : Effect) (text : List ℕ) (bytes : List ℕ) → source_kind meaning ≡ Some kind → TellsAll e.source e.source_now bytes → IsTextFor meaning e text → IsSourceText kind bytes
 text_asked Types kind e text bytes is calm made =
     let k : a_type_text ≡ kind = cc in
     let whole = subst (λ (b : List ℕ). IsCanonical b text) (all_bytes e.source e.source_now bytes made.0 calm made.1) made.2 in
-    subst (λ (k : SourceKind). IsAsked k bytes) k (whole.0, whole.1)
+    subst (λ (k : SourceKind). IsSourceText k bytes) k (whole.0, whole.1)
 text_asked (Steps documents) kind e text bytes is calm made = absurd made
 text_asked (Run workers documents) kind e text bytes is calm made = absurd made
 text_asked (Gen seed sessions runs) kind e text bytes is calm made = absurd (cc is)
 
 -- a cause with a line, where bytes are read
-calm_cause : (c : Call) (meaning : Words) (kind : SourceKind) (bytes : List ℕ) (s : Status) (why : Unrun) → AsksFor c meaning → source_kind meaning ≡ Some kind → TellsAll c.does.source c.does.source_now bytes → s ≡ status_of why → IsCause c why → IsExpected kind bytes s
+calm_cause : (c : Invocation) (meaning : Words) (kind : SourceKind) (bytes : List ℕ) (s : Status) (why : Unrun) → AsksFor c meaning → source_kind meaning ≡ Some kind → TellsAll c.does.source c.does.source_now bytes → s ≡ status_of why → IsCause c why → IsExpected kind bytes s
 calm_cause c meaning kind bytes s unrun.Words asked is calm status cause = absurd (cause meaning asked)
 calm_cause c meaning kind bytes s (unrun.Script rule pointer offset) asked is calm status cause =
     calm_missing c.does kind bytes calm (unrun.Script rule pointer offset) s status
@@ -286,7 +286,7 @@ calm_cause c meaning kind bytes s unrun.TooLong asked is calm status cause =
 calm_cause c meaning kind bytes s unrun.Memory asked is calm status cause =
     subst (λ (r : Status). IsExpected kind bytes r) (sym status) tt
 
-module _ (c : Call) (meaning : Words) (asked : AsksFor c meaning) (writes : Rose c.does.sink.faults c.does.sink_now.faults → ⊥) where
+module _ (c : Invocation) (meaning : Words) (asked : AsksFor c meaning) (writes : Rose c.does.sink.faults c.does.sink_now.faults → ⊥) where
   -- where bytes are read
   calm_read : (kind : SourceKind) → source_kind meaning ≡ Some kind → (bytes : List ℕ) → TellsAll c.does.source c.does.source_now bytes → (result : Status) → EndsWith c result → IsExpected kind bytes result
   calm_read kind is bytes calm status.Done (inl end) =
@@ -326,7 +326,7 @@ module _ (c : Call) (meaning : Words) (asked : AsksFor c meaning) (writes : Rose
 -- ---- a call
 
 -- the words ask for nothing
-pub wordless : (c : Call) (result : Status) → c.does.left ≡ None → ((meaning : Words) → ¬ AsksFor c meaning) → Faults c.does.sink c.does.sink_now unrun.Words result → Ends c result
+pub wordless : (c : Invocation) (result : Status) → c.does.left ≡ None → ((meaning : Words) → ¬ AsksFor c meaning) → Faults c.does.sink c.does.sink_now unrun.Words result → Ends c result
 wordless c result none words faults = record {
   says = unrun_ends c none unrun.Words result words faults;
   calm = λ meaning asked writes. absurd (words meaning asked);
@@ -334,7 +334,7 @@ wordless c result none words faults = record {
 }
 
 -- what the words ask for is done
-pub does_ends : (c : Call) (result : Status) (meaning : Words) → AsksFor c meaning → Does meaning c.does result → Ends c result
+pub does_ends : (c : Invocation) (result : Status) (meaning : Words) → AsksFor c meaning → Does meaning c.does result → Ends c result
 does_ends c result meaning asked did =
     let says = done_ends c meaning result asked did in
     record {
@@ -343,6 +343,6 @@ does_ends c result meaning asked did =
       apart = λ m asks none. done_apart meaning c.does result (ap source_kind (one_asked c meaning m asked asks) ∙ none) did;
     }
 
-pub does_run : (c : Call) (result : Status) (meaning : Words) (workers : ℕ) (documents : Bool) → meaning ≡ Run workers documents → AsksFor c meaning → Does (Run workers documents) c.does result → Ends c result
+pub does_run : (c : Invocation) (result : Status) (meaning : Words) (workers : ℕ) (documents : Bool) → meaning ≡ Run workers documents → AsksFor c meaning → Does (Run workers documents) c.does result → Ends c result
 does_run c result meaning workers documents is asked did =
     does_ends c result (Run workers documents) (subst (λ (m : Words). AsksFor c m) is asked) did

@@ -6,7 +6,7 @@ use Rattle.std.proofs.lemmas.Slice.Eq.{bytes_eq-Decides}
 use Rattle.std.proofs.lemmas.Grind.{common_steps}
 use Rattle.std.specs.Map.{keys_of, lookup}
 use Rattle.std.specs.Str.Parse.{digits_value}
-use Rattle.repo_top.specs.Words.{AreGenWords, AreGiven, AreBoth, AreRunWords, AreSpelled, IsGenOption, Begins, Fits, Gives, GivesNumber, IsInRange, IsNumber, IsNumberOption, IsOption, IsPlain, IsRequiredNumber, IsRow, MakesMeaning, TableRow, Means, RowOption, AreOptions, documents_option, documents_words, gen_row, is_given, run_option, run_row, steps_row, types_row, verb_row, rows, seed_option, sessions_option, table_row, row_option, option_word, workers_option}
+use Rattle.repo_top.specs.Words.{AreGenWords, AreGiven, AreBoth, AreRunWords, AreSpelled, IsGenOption, Begins, FitsOption, IsGivenBy, GivesNumber, IsInRange, IsNumber, IsNumberOption, IsOption, HasNoEquals, IsRequiredNumber, IsRow, MakesMeaning, TableRow, WordsMean, RowOption, AreOptions, documents_option, documents_words, gen_row, is_given, run_option, run_row, steps_row, types_row, verb_row, rows, seed_option, sessions_option, table_row, row_option, option_word, workers_option}
 use Rattle.repo_top.specs.declared.words.Given.{Given}
 use Rattle.repo_top.specs.declared.words.Given.TheVariants as given
 use Rattle.repo_top.specs.declared.words.Row.{Row}
@@ -20,16 +20,16 @@ use Rattle.repo_top.specs.declared.words.Verb.TheVariants as verb
 
 -- ---- a word is of one option
 
-plain_rest : (x : ℕ) (a : List ℕ) → IsPlain (x ∷ a) → IsPlain a
+plain_rest : (x : ℕ) (a : List ℕ) → HasNoEquals (x ∷ a) → HasNoEquals a
 plain_rest x a plain k h = plain (suc k) (omega (arith, h))
 
-not_plain : (a b : List ℕ) (y : List ℕ) → IsPlain a → a ≡ b ++ (61 ∷ y) → ⊥
+not_plain : (a b : List ℕ) (y : List ℕ) → HasNoEquals a → a ≡ b ++ (61 ∷ y) → ⊥
 not_plain [] [] y plain e = cc
 not_plain [] (z ∷ b) y plain e = cc
 not_plain (x ∷ a) [] y plain e = let h : x ≡ 61 = cc in plain 0 (omega arith) h
 not_plain (x ∷ a) (z ∷ b) y plain e = let t : a ≡ b ++ (61 ∷ y) = cc in not_plain a b y (plain_rest x a plain) t
 
-plain_same : (a b x y : List ℕ) → IsPlain a → IsPlain b → a ++ (61 ∷ x) ≡ b ++ (61 ∷ y) → (a ≡ b) × (x ≡ y)
+plain_same : (a b x y : List ℕ) → HasNoEquals a → HasNoEquals b → a ++ (61 ∷ x) ≡ b ++ (61 ∷ y) → (a ≡ b) × (x ≡ y)
 plain_same [] [] x y p q e = (refl, cc)
 plain_same [] (w ∷ b) x y p q e = let h : w ≡ 61 = cc in absurd (q 0 (omega arith) h)
 plain_same (z ∷ a) [] x y p q e = let h : z ≡ 61 = cc in absurd (p 0 (omega arith) h)
@@ -37,7 +37,7 @@ plain_same (z ∷ a) (w ∷ b) x y p q e =
     let t : a ++ (61 ∷ x) ≡ b ++ (61 ∷ y) = cc in let h : z ≡ w = cc in
     let r = plain_same a b x y (plain_rest z a p) (plain_rest w b q) t in let s : a ≡ b = r.0 in (cc, r.1)
 
-pub same_word : (a b : List ℕ) (v u : Option (List ℕ)) → IsPlain a → IsPlain b → option_word a v ≡ option_word b u → (a ≡ b) × (v ≡ u)
+pub same_word : (a b : List ℕ) (v u : Option (List ℕ)) → HasNoEquals a → HasNoEquals b → option_word a v ≡ option_word b u → (a ≡ b) × (v ≡ u)
 same_word a b None None p q e = (cc, refl)
 same_word a b None (Some y) p q e = let t : a ≡ b ++ (61 ∷ y) = cc in absurd (not_plain a b y p t)
 same_word a b (Some x) None p q e = let t : b ≡ a ++ (61 ∷ x) = cc in absurd (not_plain b a x q t)
@@ -49,7 +49,7 @@ same_word a b (Some x) (Some y) p q e =
 same_number : (n m : ℕ) (digits more : List ℕ) → IsNumber digits n → IsNumber more m → digits ≡ more → n ≡ m
 same_number n m digits more p q e = p.value ∙ ap (digits_value 10) e ∙ sym q.value
 
-same_given : (t : Takes) (g h : Given) (v : Option (List ℕ)) (words r s : List (List ℕ)) → Fits t g → Fits t h → Gives g v words r → Gives h v words s → (g ≡ h) × (r ≡ s)
+same_given : (t : Takes) (g h : Given) (v : Option (List ℕ)) (words r s : List (List ℕ)) → FitsOption t g → FitsOption t h → IsGivenBy g v words r → IsGivenBy h v words s → (g ≡ h) × (r ≡ s)
 same_given takes.Nothing given.Flag given.Flag None words r s f k a b = (refl, cc)
 same_given takes.Nothing given.Flag given.Flag (Some v) words r s f k a b = absurd a
 same_given takes.Nothing given.Flag (given.Number m) v words r s f k a b = absurd k
@@ -69,8 +69,8 @@ same_first options a b g h words r s p q x y =
     let k = same_word a b x.0 y.0 p.plain q.plain w in
     let o : Some p.option ≡ Some q.option = sym p.named ∙ ap (λ (n : List ℕ). find (λ (o : RowOption). bytes_eq o.name n) options) k.0 ∙ q.named in
     let oo : p.option ≡ q.option = cc in
-    let fits : Fits p.option.takes h = subst (λ (i : RowOption). Fits i.takes h) (sym oo) q.fits in
-    let gives : Gives h x.0 x.1 s = subst (λ (v : Option (List ℕ)). Gives h v x.1 s) (sym k.1) (subst (λ (b : List (List ℕ)). Gives h y.0 b s) (sym t) y.3) in
+    let fits : FitsOption p.option.takes h = subst (λ (i : RowOption). FitsOption i.takes h) (sym oo) q.fits in
+    let gives : IsGivenBy h x.0 x.1 s = subst (λ (v : Option (List ℕ)). IsGivenBy h v x.1 s) (sym k.1) (subst (λ (b : List (List ℕ)). IsGivenBy h y.0 b s) (sym t) y.3) in
     let z = same_given p.option.takes g h x.0 x.1 r s p.fits fits x.3 gives in
     (k.0, z.0, z.1)
 
@@ -101,7 +101,7 @@ bytes_eq-true xs ys e = (bytes_eq-Decides xs ys).0 e
 find_row : (command : List ℕ) (table : List Row) → find (λ (r : TableRow). bytes_eq r.command command) (map table_row table) ≡ option_map table_row (find (λ (r : Row). bytes_eq r.command.now command) table)
 find_row command table = find_map table_row (λ (r : TableRow). bytes_eq r.command command) table
 
-module _ (options : List WordOption) (words : List (List ℕ)) (word : List ℕ) (behind : List (List ℕ)) (is : words ≡ word ∷ behind) (name : List ℕ) (value : Option (List ℕ)) (plain : IsPlain name) (spelled : word ≡ option_word name value) where
+module _ (options : List WordOption) (words : List (List ℕ)) (word : List ℕ) (behind : List (List ℕ)) (is : words ≡ word ∷ behind) (name : List ℕ) (value : Option (List ℕ)) (plain : HasNoEquals name) (spelled : word ≡ option_word name value) where
   head : (b : List ℕ) (h : Given) (s : List (List ℕ)) → IsOption (map row_option options) b h → (x : Begins b h words s) → (name ≡ b) × (value ≡ x.0) × (behind ≡ x.1)
   head b h s q x =
       let e : words ≡ option_word b x.0 ∷ x.1 = x.2 in
@@ -114,18 +114,18 @@ module _ (options : List WordOption) (words : List (List ℕ)) (word : List ℕ)
   pub no_option : None ≡ find (λ (o : WordOption). bytes_eq o.name.now name) options → (b : List ℕ) (h : Given) (s : List (List ℕ)) → IsOption (map row_option options) b h → Begins b h words s → ⊥
   no_option none b h s q x = let r : Some q.option ≡ None = found None none b h q (head b h s q x).0 in cc
 
-  pub no_given : (o : WordOption) → Some o ≡ find (λ (o : WordOption). bytes_eq o.name.now name) options → ((h : Given) (s : List (List ℕ)) → Fits o.takes h → Gives h value behind s → ⊥) → (b : List ℕ) (h : Given) (s : List (List ℕ)) → IsOption (map row_option options) b h → Begins b h words s → ⊥
+  pub no_given : (o : WordOption) → Some o ≡ find (λ (o : WordOption). bytes_eq o.name.now name) options → ((h : Given) (s : List (List ℕ)) → FitsOption o.takes h → IsGivenBy h value behind s → ⊥) → (b : List ℕ) (h : Given) (s : List (List ℕ)) → IsOption (map row_option options) b h → Begins b h words s → ⊥
   no_given o is none b h s q x =
       let k = head b h s q x in
       let r : Some q.option ≡ Some (row_option o) = found (Some o) is b h q k.0 in
       let e : q.option ≡ row_option o = cc in
-      none h s (subst (λ (i : RowOption). Fits i.takes h) e q.fits)
-      (subst (λ (v : Option (List ℕ)). Gives h v behind s) (sym k.1) (subst (λ (b : List (List ℕ)). Gives h x.0 b s) (sym k.2) x.3))
+      none h s (subst (λ (i : RowOption). FitsOption i.takes h) e q.fits)
+      (subst (λ (v : Option (List ℕ)). IsGivenBy h v behind s) (sym k.1) (subst (λ (b : List (List ℕ)). IsGivenBy h x.0 b s) (sym k.2) x.3))
 
-  pub is_option : (o : WordOption) → Some o ≡ find (λ (o : WordOption). bytes_eq o.name.now name) options → (g : Given) → Fits o.takes g → IsOption (map row_option options) name g
+  pub is_option : (o : WordOption) → Some o ≡ find (λ (o : WordOption). bytes_eq o.name.now name) options → (g : Given) → FitsOption o.takes g → IsOption (map row_option options) name g
   is_option o f g fits = record { option = row_option o; named = find_option name options ∙ ap (option_map row_option) (sym f); plain = plain; fits = fits }
 
-  pub begins : (g : Given) (s : List (List ℕ)) → Gives g value behind s → Begins name g words s
+  pub begins : (g : Given) (s : List (List ℕ)) → IsGivenBy g value behind s → Begins name g words s
   begins g s gives = (value, behind, is ∙ ap (λ (w : List ℕ). w ∷ behind) spelled, gives)
 
 -- ---- the given options
@@ -308,17 +308,17 @@ found_all P p (x ∷ options) o all e = at (found_all P p options o all.1) (p x)
     at later false e = later e
 
 -- an option that takes a number is given as one
-number_fits : (t : Takes) (least most : ℕ) (g : Given) → t ≡ takes.Number least most → Fits t g → (n : ℕ) × (g ≡ given.Number n) × (least ≤ n) × (n ≤ most)
+number_fits : (t : Takes) (least most : ℕ) (g : Given) → t ≡ takes.Number least most → FitsOption t g → (n : ℕ) × (g ≡ given.Number n) × (least ≤ n) × (n ≤ most)
 number_fits takes.Nothing least most g e fits = absurd (cc e)
 number_fits (takes.Number l m) least most given.Flag e fits = absurd fits
 number_fits (takes.Number l m) least most (given.Number n) e fits =
     let a : l ≡ least = cc in let b : m ≡ most = cc in (n, refl, omega (arith, a, fits.0), omega (arith, b, fits.1))
 
 -- what is given by the name of an option is that option's
-same_option : (options : List RowOption) (name : List ℕ) (o : RowOption) (g : Given) → find (λ (o : RowOption). bytes_eq o.name name) options ≡ Some o → IsOption options name g → Fits o.takes g
+same_option : (options : List RowOption) (name : List ℕ) (o : RowOption) (g : Given) → find (λ (o : RowOption). bytes_eq o.name name) options ≡ Some o → IsOption options name g → FitsOption o.takes g
 same_option options name o g e is =
     let h : Some is.option ≡ Some o = sym is.named ∙ e in let k : is.option ≡ o = cc in
-    subst (λ (o : RowOption). Fits o.takes g) k is.fits
+    subst (λ (o : RowOption). FitsOption o.takes g) k is.fits
 
 -- the option of a name that takes a number is given as one in its range
 pub number_in_range : (options : List RowOption) (name : List ℕ) (o : RowOption) (least most : ℕ) → find (λ (o : RowOption). bytes_eq o.name name) options ≡ Some o → o.takes ≡ takes.Number least most → (gs : List (List ℕ × Given)) (words : List (List ℕ)) → AreGiven options gs words → (n : ℕ) → GivesNumber gs name n → (least ≤ n) × (n ≤ most)
@@ -399,7 +399,7 @@ one_made verb.Gen given Types b p q = absurd p
 one_made verb.Gen given (Run n d) b p q = absurd p
 
 -- words have one meaning at most
-pub one_meaning : (words : List (List ℕ)) (a b : Words) → Means words a → Means words b → a ≡ b
+pub one_meaning : (words : List (List ℕ)) (a b : Words) → WordsMean words a → WordsMean words b → a ≡ b
 one_meaning words a b m n =
     let r = one_row m.0 n.0 m.1 n.1 words m.2 n.2 in
     one_made m.0.verb m.1 a b m.3 (subst (λ (g : List (List ℕ × Given)). MakesMeaning m.0.verb g b) (sym r.1) (subst (λ (o : TableRow). MakesMeaning o.verb n.1 b) (sym r.0) n.3))
@@ -423,7 +423,7 @@ made_in_range verb.Gen row given words (Steps d) is are makes = absurd makes
 made_in_range verb.Gen row given words Types is are makes = absurd makes
 made_in_range verb.Gen row given words (Run n d) is are makes = absurd makes
 
-pub meant_in_range : (words : List (List ℕ)) (meaning : Words) → Means words meaning → IsInRange meaning
+pub meant_in_range : (words : List (List ℕ)) (meaning : Words) → WordsMean words meaning → IsInRange meaning
 meant_in_range words meaning m = made_in_range m.0.verb m.0 m.1 m.2.rest meaning (row_known m.0 m.1 words m.2) m.2.options.each m.3
 
 -- the options of a row are those of its command
@@ -487,14 +487,14 @@ made_by verb.Gen given Types makes = absurd makes
 made_by verb.Gen given (Run n d) makes = absurd makes
 
 -- words of a meaning spell the row of its command
-pub row_meant_by : (words : List (List ℕ)) (meaning : Words) (m : Means words meaning) → m.0 ≡ verb_row (verb_of meaning)
+pub row_meant_by : (words : List (List ℕ)) (meaning : Words) (m : WordsMean words meaning) → m.0 ≡ verb_row (verb_of meaning)
 row_meant_by words meaning m = row_known m.0 m.1 words m.2 ∙ ap verb_row (made_by m.0.verb m.1 meaning m.3)
 
 no_options : (row : TableRow) → row.options ≡ [] → AreOptions row.options [] []
 unfolding IsDistinct
 no_options row none = subst (λ (os : List RowOption). AreOptions os [] []) (sym none) (record { each = refl; once = tt; needed = tt })
 
-pub types_alone : (words : List (List ℕ)) → Means words Types ↔ (words ≡ codes "types" ∷ [])
+pub types_alone : (words : List (List ℕ)) → WordsMean words Types ↔ (words ≡ codes "types" ∷ [])
 types_alone words = (
   λ m. alone types_row refl m.0 m.1 words m.2 (row_meant_by words Types m),
   λ e. (types_row, [], record { rest = []; command = e; first = refl; options = no_options types_row refl }, refl),
@@ -510,7 +510,7 @@ abbrev pub has_no_equals : List ℕ → Bool
 has_no_equals [] = true
 has_no_equals (x ∷ a) = cond (x == 61) false (has_no_equals a)
 
-plain_name : (a : List ℕ) → has_no_equals a ≡ true → IsPlain a
+plain_name : (a : List ℕ) → has_no_equals a ≡ true → HasNoEquals a
 plain_name [] h k l e = absurd (omega (arith, l))
 plain_name (x ∷ a) h zero l e =
     absurd (false≢true (ap (λ b. cond b false (has_no_equals a)) (sym (eq-eqb x 61 e)) ∙ h))
@@ -556,11 +556,11 @@ under_names gs = map under_name (map (λ (g : List ℕ × Given). g.1) gs)
 named_so : (name is : List ℕ) (g : Given) → is ≡ name → let a : List ℕ × Given = (name, g) in let b : List ℕ × Given = (is, g) in a ≡ b
 named_so name is g e = ap (λ (n : List ℕ). let p : List ℕ × Given = (n, g) in p) (sym e)
 
-documents_named : (name : List ℕ) (g : Given) → codes "documents" ≡ name → Fits documents_option.takes g → let a : List ℕ × Given = (name, g) in a ≡ under_name g
+documents_named : (name : List ℕ) (g : Given) → codes "documents" ≡ name → FitsOption documents_option.takes g → let a : List ℕ × Given = (name, g) in a ≡ under_name g
 documents_named name given.Flag e fits = named_so name (codes "documents") given.Flag e
 documents_named name (given.Number n) e fits = absurd fits
 
-workers_named : (name : List ℕ) (g : Given) → codes "workers" ≡ name → Fits workers_option.takes g → let a : List ℕ × Given = (name, g) in a ≡ under_name g
+workers_named : (name : List ℕ) (g : Given) → codes "workers" ≡ name → FitsOption workers_option.takes g → let a : List ℕ × Given = (name, g) in a ≡ under_name g
 workers_named name given.Flag e fits = absurd fits
 workers_named name (given.Number n) e fits = named_so name (codes "workers") (given.Number n) e
 
@@ -573,7 +573,7 @@ steps_named : (gs : List (List ℕ × Given)) (words : List (List ℕ)) → AreG
 steps_named [] words are = refl
 steps_named (g ∷ more) words are =
     let e = one_option (bytes_eq (codes "documents") g.0) are.1.option are.1.named in
-    let named : g ≡ under_name g.1 = documents_named g.0 g.1 (bytes_eq-true (codes "documents") g.0 e.1) (subst (λ (o : RowOption). Fits o.takes g.1) e.0 are.1.fits) in
+    let named : g ≡ under_name g.1 = documents_named g.0 g.1 (bytes_eq-true (codes "documents") g.0 e.1) (subst (λ (o : RowOption). FitsOption o.takes g.1) e.0 are.1.fits) in
     ap (λ (h : List ℕ × Given). h ∷ more) named ∙ ap (λ (hs : List (List ℕ × Given)). under_name g.1 ∷ hs) (steps_named more are.0 are.3)
 
 -- the words behind `steps` are the flag, or none
@@ -586,7 +586,7 @@ steps_given (given.Flag ∷ []) rest are =
 steps_given (given.Flag ∷ (given.Number n ∷ more)) rest are = absurd (cc are.each.3.1.named)
 steps_given (given.Flag ∷ (given.Flag ∷ more)) rest are = absurd (false≢true (sym are.once.0.0))
 
-steps_meant : (words : List (List ℕ)) (documents : Bool) → words ≡ codes "steps" ∷ documents_words documents → Means words (Steps documents)
+steps_meant : (words : List (List ℕ)) (documents : Bool) → words ≡ codes "steps" ∷ documents_words documents → WordsMean words (Steps documents)
 unfolding IsDistinct
 steps_meant words false e = (
   steps_row,
@@ -610,7 +610,7 @@ steps_meant words true e = (
   refl,
 )
 
-pub steps_words : (words : List (List ℕ)) (documents : Bool) → Means words (Steps documents) ↔ (words ≡ codes "steps" ∷ documents_words documents)
+pub steps_words : (words : List (List ℕ)) (documents : Bool) → WordsMean words (Steps documents) ↔ (words ≡ codes "steps" ∷ documents_words documents)
 steps_words words documents = (
   λ m. let row = row_meant_by words (Steps documents) m in
       let options : AreOptions steps_row.options m.1 m.2.rest = subst (λ (r : TableRow). AreOptions r.options m.1 m.2.rest) row m.2.options in
@@ -634,8 +634,8 @@ two_options false false o e = absurd (cc e)
 run_option_named : (name : List ℕ) (g : Given) → IsOption run_row.options name g → let a : List ℕ × Given = (name, g) in a ≡ under_name g
 run_option_named name g is =
     elim (two_options (bytes_eq (codes "workers") name) (bytes_eq (codes "documents") name) is.option is.named) [
-      | inl e ↦ workers_named name g (bytes_eq-true (codes "workers") name e.1) (subst (λ (o : RowOption). Fits o.takes g) e.0 is.fits)
-      | inr e ↦ documents_named name g (bytes_eq-true (codes "documents") name e.1) (subst (λ (o : RowOption). Fits o.takes g) e.0 is.fits)
+      | inl e ↦ workers_named name g (bytes_eq-true (codes "workers") name e.1) (subst (λ (o : RowOption). FitsOption o.takes g) e.0 is.fits)
+      | inr e ↦ documents_named name g (bytes_eq-true (codes "documents") name e.1) (subst (λ (o : RowOption). FitsOption o.takes g) e.0 is.fits)
     ]
 
 run_named : (gs : List (List ℕ × Given)) (words : List (List ℕ)) → AreGiven run_row.options gs words → gs ≡ under_names gs
@@ -712,7 +712,7 @@ workers_is n some few = record { option = workers_option; named = refl; plain = 
 documents_is : IsOption run_row.options (codes "documents") given.Flag
 documents_is = record { option = documents_option; named = refl; plain = plain_name (codes "documents") refl; fits = tt }
 
-run_meant : (words : List (List ℕ)) (workers : ℕ) (documents : Bool) → (a : AreRunWords words workers documents) → AreBoth a.option (documents_words documents) a.options → Means words (Run workers documents)
+run_meant : (words : List (List ℕ)) (workers : ℕ) (documents : Bool) → (a : AreRunWords words workers documents) → AreBoth a.option (documents_words documents) a.options → WordsMean words (Run workers documents)
 unfolding IsDistinct
 run_meant words workers false a (inl e) = (
   run_row,
@@ -775,7 +775,7 @@ run_meant words workers true a (inr e) = (
   (refl, refl),
 )
 
-pub run_words : (words : List (List ℕ)) (workers : ℕ) (documents : Bool) → Means words (Run workers documents) ↔ AreRunWords words workers documents
+pub run_words : (words : List (List ℕ)) (workers : ℕ) (documents : Bool) → WordsMean words (Run workers documents) ↔ AreRunWords words workers documents
 run_words words workers documents = (
   λ m. let row = row_meant_by words (Run workers documents) m in
       let range = meant_in_range words (Run workers documents) m in
@@ -807,15 +807,15 @@ three_options false false true o e = let h : run_option ≡ o = cc in inr (inr (
 three_options false false false o e = absurd (cc e)
 
 module _ (name : List ℕ) where
-  seed_given : (g : Given) → codes "seed" ≡ name → Fits seed_option.takes g → IsGenOption name g
+  seed_given : (g : Given) → codes "seed" ≡ name → FitsOption seed_option.takes g → IsGenOption name g
   seed_given given.Flag e fits = absurd fits
   seed_given (given.Number n) e fits = inl (sym e, omega (arith, fits.1))
 
-  sessions_given : (g : Given) → codes "sessions" ≡ name → Fits sessions_option.takes g → IsGenOption name g
+  sessions_given : (g : Given) → codes "sessions" ≡ name → FitsOption sessions_option.takes g → IsGenOption name g
   sessions_given given.Flag e fits = absurd fits
   sessions_given (given.Number n) e fits = inr (sym e, fits.0, fits.1)
 
-  run_given : (g : Given) → codes "run" ≡ name → Fits run_option.takes g → IsGenOption name g
+  run_given : (g : Given) → codes "run" ≡ name → FitsOption run_option.takes g → IsGenOption name g
   run_given given.Flag e fits = sym e
   run_given (given.Number n) e fits = absurd fits
 
@@ -823,9 +823,9 @@ module _ (name : List ℕ) where
 gen_option : (name : List ℕ) (g : Given) → IsOption gen_row.options name g → IsGenOption name g
 gen_option name g is =
     elim (three_options (bytes_eq (codes "seed") name) (bytes_eq (codes "sessions") name) (bytes_eq (codes "run") name) is.option is.named) [
-      | inl e ↦ seed_given name g (bytes_eq-true (codes "seed") name e.1) (subst (λ (o : RowOption). Fits o.takes g) e.0 is.fits)
-      | inr (inl e) ↦ sessions_given name g (bytes_eq-true (codes "sessions") name e.1) (subst (λ (o : RowOption). Fits o.takes g) e.0 is.fits)
-      | inr (inr e) ↦ run_given name g (bytes_eq-true (codes "run") name e.1) (subst (λ (o : RowOption). Fits o.takes g) e.0 is.fits)
+      | inl e ↦ seed_given name g (bytes_eq-true (codes "seed") name e.1) (subst (λ (o : RowOption). FitsOption o.takes g) e.0 is.fits)
+      | inr (inl e) ↦ sessions_given name g (bytes_eq-true (codes "sessions") name e.1) (subst (λ (o : RowOption). FitsOption o.takes g) e.0 is.fits)
+      | inr (inr e) ↦ run_given name g (bytes_eq-true (codes "run") name e.1) (subst (λ (o : RowOption). FitsOption o.takes g) e.0 is.fits)
     ]
 
 option_of_gen : (name : List ℕ) (g : Given) → IsGenOption name g → IsOption gen_row.options name g
@@ -853,7 +853,7 @@ gen_of_each (g ∷ more) words each spelled = (spelled.0, option_of_gen g.0 g.1 
 given_there : (all : List (List ℕ × Given)) (name : List ℕ) (n : ℕ) → GivesNumber all name n → IsSome (lookup (bytes_eq name) all)
 given_there all name n gives = subst (λ (o : Option Given). IsSome o) (sym gives) refl
 
-pub gen_words : (words : List (List ℕ)) (seed sessions : ℕ) (runs : Bool) → Means words (Gen seed sessions runs) ↔ AreGenWords words seed sessions runs
+pub gen_words : (words : List (List ℕ)) (seed sessions : ℕ) (runs : Bool) → WordsMean words (Gen seed sessions runs) ↔ AreGenWords words seed sessions runs
 gen_words words seed sessions runs = (
   λ m. let row = row_meant_by words (Gen seed sessions runs) m in
       let options : AreOptions gen_row.options m.1 m.2.rest = subst (λ (r : TableRow). AreOptions r.options m.1 m.2.rest) row m.2.options in

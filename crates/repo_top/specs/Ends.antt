@@ -2,7 +2,7 @@
 use Rattle.std.specs.Prelude.{◌≡◌, ◌⊎◌, ℕ, ◌≤◌, ◌<◌, ◌+◌, Bool, true, false, List, Option, None, Some, length, IfSome, ⊤}
 use Rattle.serde_json.specs.Data.{Data}
 use Rattle.jr_io.specs.Causes.{Rose, RoseBy, RoseExactly}
-use Rattle.jr_io.specs.Told.{Grows, IsDrained, IsPassedOn}
+use Rattle.jr_io.specs.Told.{TakesFirst, IsDrained, IsPassedOn}
 use Rattle.jr_io.specs.declared.ends.Sink.{Ghosts as SinkMembers}
 use Rattle.jr_io.specs.declared.ends.Source.{Ghosts as SourceMembers}
 use Rattle.jr_cnd.specs.declared.cnd.Cnd.{Cnd}
@@ -22,7 +22,7 @@ use Rattle.repo_top.specs.Summary.{summary_text}
 use Rattle.repo_top.specs.Typed.{Defines, FaultsAt, IsCanonical}
 use Rattle.repo_top.specs.declared.status.Unrun.{Unrun}
 use Rattle.repo_top.specs.declared.status.Unrun.TheVariants as unrun
-use Rattle.repo_top.specs.Words.{Means}
+use Rattle.repo_top.specs.Words.{WordsMean}
 use Rattle.repo_top.specs.declared.words.Words.{Words}
 use Rattle.repo_top.specs.declared.words.Words.TheVariants.{Gen, Run, Steps, Types}
 
@@ -31,8 +31,8 @@ abbrev pub longest : ℕ
 longest = 16777216
 
 -- the bytes are the JSON of this script
-abbrev pub Spells : List ℕ → Script → Type 0
-Spells bytes script = (d : Data) × IsJson bytes d × IsScript d script
+abbrev pub SpellsScript : List ℕ → Script → Type 0
+SpellsScript bytes script = (d : Data) × IsJson bytes d × IsScript d script
 
 -- the bytes break a rule of scripts, at the place of a pointer, and at an offset of a text there
 abbrev pub BreaksRule : List ℕ → ℕ → List ℕ → Option ℕ → Type 0
@@ -87,13 +87,13 @@ effect source source_now sink sink_now left = record {
 }
 
 -- a call: whether it may run worker threads, its words, and what it does
-pub record Call : Type 0 where
+pub record Invocation : Type 0 where
   pub threads : Bool
   pub words : List (List ℕ)
   pub does : Effect
 
 -- a call of the program: with threads or without, its words, and what it does
-abbrev pub call : Bool → List (List ℕ) → Effect → Call
+abbrev pub call : Bool → List (List ℕ) → Effect → Invocation
 call threads words does = record { threads = threads; words = words; does = does }
 
 -- a call that may run no threads takes all that words may mean but `run`
@@ -102,8 +102,8 @@ IsTaken false (Run workers documents) = ⊥
 IsTaken threads meaning = ⊤
 
 -- the words of a call ask for what they mean, which the call takes
-pub record AsksFor (c : Call) (meaning : Words) : Type 0 where
-  pub meant : Means c.words meaning
+pub record AsksFor (c : Invocation) (meaning : Words) : Type 0 where
+  pub meant : WordsMean c.words meaning
   pub taken : IsTaken c.threads meaning
 
 -- ---- reading
@@ -133,8 +133,8 @@ pub record IsReadWhole (before now : Input) (bytes : List ℕ) : Type 0 where
   pub sound : HasNotFailed before now
 
 -- a source was read to its end, and its bytes are this script
-abbrev pub IsReadAs : Input → Input → Script → Type 0
-IsReadAs before now script = (bytes : List ℕ) × IsReadWhole before now bytes × Spells bytes script
+abbrev pub IsInputRead : Input → Input → Script → Type 0
+IsInputRead before now script = (bytes : List ℕ) × IsReadWhole before now bytes × SpellsScript bytes script
 
 -- the bytes have the fault: they break a rule of scripts, or are no text of node types
 abbrev pub HasFault : SourceKind → List ℕ → Unrun → Type 0
@@ -169,8 +169,8 @@ IsMissing None before now why = ⊥
 -- made, and the source is as it was
 abbrev pub IsScriptFor : Words → Effect → Script → Type 0
 IsScriptFor (Gen seed sessions runs) e script =
-    (e.source_now ≡ e.source) × Spells (script_text seed sessions) script
-IsScriptFor meaning e script = IsReadAs e.source e.source_now script
+    (e.source_now ≡ e.source) × SpellsScript (script_text seed sessions) script
+IsScriptFor meaning e script = IsInputRead e.source e.source_now script
 
 -- the text that is printed without a run: the canonical text of node types, of which the source was
 -- read whole; or the text of a script that is made, and the source is as it was
@@ -208,18 +208,18 @@ told_of meaning script world = printed_of (has_documents meaning) world
 pub record GrowsUpTo (before now : Output) (text : List ℕ) : Type 0 where
   pub size : ℕ
   pub within : size ≤ length text
-  pub part : Grows before.written now.written text size
+  pub part : TakesFirst before.written now.written text size
   pub held : now.passed ≡ before.passed
 
 -- a text was written whole, and all that was written, before or now, was passed on
 pub record IsDelivered (before now : Output) (text : List ℕ) : Type 0 where
-  pub whole : Grows before.written now.written text (length text)
+  pub whole : TakesFirst before.written now.written text (length text)
   pub passed : IsPassedOn now.written now.passed
 
 -- the whole text was written, all was passed on, and this status is answered; or else the sink failed behind
 -- some first bytes
-abbrev pub Tells : Output → Output → List ℕ → Status → Status → Type 0
-Tells before now text answer result =
+abbrev pub Delivers : Output → Output → List ℕ → Status → Status → Type 0
+Delivers before now text answer result =
     ((result ≡ answer) × IsDelivered before now text)
     ⊎ ((result ≡ status.WriteFault) × Rose before.faults now.faults × GrowsUpTo before now text)
 
@@ -230,18 +230,18 @@ IsRefused before now result = (result ≡ status.Memory) × (now ≡ before)
 -- the text is written; or memory was refused, and the sink is as it was
 abbrev pub WritesText : Output → Output → List ℕ → Status → Type 0
 WritesText before now text result =
-    Tells before now text status.Done result ⊎ IsRefused before now result
+    Delivers before now text status.Done result ⊎ IsRefused before now result
 
 -- the line is written that says why no script is run and no text is printed; none where memory was
 -- refused, which the line of a broken input takes too
 abbrev pub Faults : Output → Output → Unrun → Status → Type 0
 Faults before now unrun.Memory result = IsRefused before now result
 Faults before now (unrun.Script rule pointer offset) result =
-    Tells before now (script_line rule pointer offset) status.Script result
+    Delivers before now (script_line rule pointer offset) status.Script result
     ⊎ IsRefused before now result
 Faults before now (unrun.Types offset) result =
-    Tells before now (types_line offset) status.Script result ⊎ IsRefused before now result
-Faults before now why result = Tells before now (fault_line why) (status_of why) result
+    Delivers before now (types_line offset) status.Script result ⊎ IsRefused before now result
+Faults before now why result = Delivers before now (fault_line why) (status_of why) result
 
 -- what is told of the world with which a run ended is written; or memory was refused, and the sink
 -- is as it was
@@ -261,7 +261,7 @@ pub record IsUnrun (meaning : Words) (e : Effect) (result : Status) : Type 0 whe
 
 -- there is a script; with a world that is left it was run to its end, and what is told of the run is
 -- written
-pub record IsRunning (meaning : Words) (e : Effect) (result : Status) : Type 0 where
+pub record RunsScript (meaning : Words) (e : Effect) (result : Status) : Type 0 where
   pub script : Script
   pub given : IsScriptFor meaning e script
   pub ran : IfSome e.left (HasRunFor meaning script)
@@ -272,18 +272,18 @@ pub record IsPrinting (meaning : Words) (e : Effect) (result : Status) : Type 0 
   pub text : List ℕ
   pub made : IsTextFor meaning e text
   pub none : e.left ≡ None
-  pub tells : Tells e.sink e.sink_now text status.Done result
+  pub tells : Delivers e.sink e.sink_now text status.Done result
 
 -- what is done for a meaning
 abbrev pub Does : Words → Effect → Status → Type 0
 Does meaning e result =
-    IsUnrun meaning e result ⊎ (IsRunning meaning e result ⊎ IsPrinting meaning e result)
+    IsUnrun meaning e result ⊎ (RunsScript meaning e result ⊎ IsPrinting meaning e result)
 
 -- ---- how a call ends
 
 -- a script was run to its end: the words ask for it, it is the script that was read or made, and
 -- this is the world that it left
-pub record HasRunAll (c : Call) (world : WorldOf JcrLaw) : Type 0 where
+pub record HasRunAll (c : Invocation) (world : WorldOf JcrLaw) : Type 0 where
   pub meaning : Words
   pub asked : AsksFor c meaning
   pub script : Script
@@ -291,11 +291,11 @@ pub record HasRunAll (c : Call) (world : WorldOf JcrLaw) : Type 0 where
   pub ran : HasRunFor meaning script world
 
 -- what is written of a script that was run to its end
-abbrev pub due_text : {c : Call} {world : WorldOf JcrLaw} → HasRunAll c world → List ℕ
+abbrev pub due_text : {c : Invocation} {world : WorldOf JcrLaw} → HasRunAll c world → List ℕ
 due_text {c} {world} run = told_of run.meaning run.script world
 
 -- a text is printed without a run: the words ask for it
-pub record HasPrinted (c : Call) (text : List ℕ) : Type 0 where
+pub record HasPrinted (c : Invocation) (text : List ℕ) : Type 0 where
   pub meaning : Words
   pub asked : AsksFor c meaning
   pub made : IsTextFor meaning c.does text
@@ -307,32 +307,32 @@ HasLine _ = ⊤
 
 -- why no script is run and no text is printed: the words ask for nothing; or they ask for something
 -- that didn't come to be
-abbrev pub IsCause : Call → Unrun → Type 0
+abbrev pub IsCause : Invocation → Unrun → Type 0
 IsCause c unrun.Words = (meaning : Words) → ¬ AsksFor c meaning
 IsCause c why = (meaning : Words) × AsksFor c meaning
     × IsMissing (source_kind meaning) c.does.source c.does.source_now why
 
 -- a script was run to its end, its world is left, and what is told of the run is written and passed on
-pub record IsRun (c : Call) : Type 0 where
+pub record IsScriptRun (c : Invocation) : Type 0 where
   pub world : WorldOf JcrLaw
   pub left : c.does.left ≡ Some world
   pub ran : HasRunAll c world
   pub told : IsDelivered c.does.sink c.does.sink_now (due_text ran)
 
 -- no world is left, and a text is written and passed on
-pub record IsPrinted (c : Call) : Type 0 where
+pub record IsPrinted (c : Invocation) : Type 0 where
   pub text : List ℕ
   pub unrun : c.does.left ≡ None
   pub printed : HasPrinted c text
   pub whole : IsDelivered c.does.sink c.does.sink_now text
 
 -- what the words ask for is done
-abbrev pub IsDone : Call → Type 0
-IsDone c = IsRun c ⊎ IsPrinted c
+abbrev pub IsTaskDone : Invocation → Type 0
+IsTaskDone c = IsScriptRun c ⊎ IsPrinted c
 
 -- no script was run and no text was printed, for a cause that has this status, and its line is
 -- written and passed on
-pub record IsFault (c : Call) (s : Status) : Type 0 where
+pub record IsUnrunFault (c : Invocation) (s : Status) : Type 0 where
   pub why : Unrun
   pub status : s ≡ status_of why
   pub unrun : c.does.left ≡ None
@@ -341,44 +341,44 @@ pub record IsFault (c : Call) (s : Status) : Type 0 where
 
 -- what was written where no world is left before a sink failed: of the text that the words ask for,
 -- or of the line that says why there is none and no script was run, which is so
-abbrev pub IsPartOf : Call → List ℕ → Type 0
-IsPartOf c text = HasPrinted c text
+abbrev pub IsCutText : Invocation → List ℕ → Type 0
+IsCutText c text = HasPrinted c text
     ⊎ ((why : Unrun) × HasLine why × IsCause c why × (text ≡ fault_line why))
 
 -- what was written before a sink failed: of what is told of the run whose world is left, or, where
 -- none is left, of another text
-abbrev pub IsPart : Call → Option (WorldOf JcrLaw) → Type 0
+abbrev pub IsPart : Invocation → Option (WorldOf JcrLaw) → Type 0
 IsPart c (Some world) =
     (run : HasRunAll c world) × GrowsUpTo c.does.sink c.does.sink_now (due_text run)
 IsPart c None =
-    (text : List ℕ) × IsPartOf c text × GrowsUpTo c.does.sink c.does.sink_now text
+    (text : List ℕ) × IsCutText c text × GrowsUpTo c.does.sink c.does.sink_now text
 
 -- the sink failed
-pub record IsCut (c : Call) : Type 0 where
+pub record IsWrittenInPart (c : Invocation) : Type 0 where
   pub fault : Rose c.does.sink.faults c.does.sink_now.faults
   pub part : IsPart c c.does.left
 
 -- memory was refused, the sink is as it was, and the source didn't fail; a world that is left is one
 -- with which a script was run to its end
-pub record IsStopped (c : Call) : Type 0 where
+pub record IsStopped (c : Invocation) : Type 0 where
   pub asked : (meaning : Words) × AsksFor c meaning
   pub ran : IfSome c.does.left (HasRunAll c)
   pub nothing : c.does.sink_now ≡ c.does.sink
   pub sound : HasNotFailed c.does.source c.does.source_now
 
 -- what each status says of a call
-abbrev pub EndsWith : Call → Status → Type 0
-EndsWith c status.Done = IsDone c
-EndsWith c status.WriteFault = IsCut c
+abbrev pub EndsWith : Invocation → Status → Type 0
+EndsWith c status.Done = IsTaskDone c
+EndsWith c status.WriteFault = IsWrittenInPart c
 EndsWith c status.Memory = IsStopped c
-EndsWith c s = IsFault c s
+EndsWith c s = IsUnrunFault c s
 
 -- ---- where nothing fails
 
 -- the bytes are what is read: a script, or a text of node types
-abbrev pub IsAsked : SourceKind → List ℕ → Type 0
-IsAsked a_script bytes = (script : Script) × Spells bytes script
-IsAsked a_type_text bytes = (cnd : Cnd) × Defines bytes cnd
+abbrev pub IsSourceText : SourceKind → List ℕ → Type 0
+IsSourceText a_script bytes = (script : Script) × SpellsScript bytes script
+IsSourceText a_type_text bytes = (cnd : Cnd) × Defines bytes cnd
 
 -- the source tells its bytes, which aren't too many, and it doesn't fail
 pub record TellsAll (before now : Input) (bytes : List ℕ) : Type 0 where
@@ -389,7 +389,7 @@ pub record TellsAll (before now : Input) (bytes : List ℕ) : Type 0 where
 -- the status where bytes are read: done where they are what is asked for, and bad script where they
 -- have a fault; or memory was refused
 abbrev pub IsExpected : SourceKind → List ℕ → Status → Type 0
-IsExpected kind bytes status.Done = IsAsked kind bytes
+IsExpected kind bytes status.Done = IsSourceText kind bytes
 IsExpected kind bytes status.Script = (why : Unrun) × HasFault kind bytes why
 IsExpected kind bytes status.Memory = ⊤
 IsExpected kind bytes _ = ⊥
@@ -402,7 +402,7 @@ IsCalm None e result = (result ≡ status.Done) ⊎ (result ≡ status.Memory)
 
 -- how a call ends: what its status says of it, which status comes where nothing fails, and that the
 -- source is as it was where nothing is read
-pub record Ends (c : Call) (result : Status) : Type 0 where
+pub record Ends (c : Invocation) (result : Status) : Type 0 where
   pub says : EndsWith c result
   pub calm : (meaning : Words) → AsksFor c meaning
       → (Rose c.does.sink.faults c.does.sink_now.faults → ⊥)

@@ -57,10 +57,10 @@ status_of unrun.TooLong = status.TooLong
 status_of unrun.Memory = status.Memory
 
 -- why no script is run where not all of the source was read
-abbrev pub unread : ReadAll → Unrun
-unread read.ReadFault = unrun.ReadFault
-unread read.TooLong = unrun.TooLong
-unread read.Memory = unrun.Memory
+abbrev pub unread_source : ReadAll → Unrun
+unread_source read.ReadFault = unrun.ReadFault
+unread_source read.TooLong = unrun.TooLong
+unread_source read.Memory = unrun.Memory
 
 -- why no script is run where the bytes aren't read as one
 abbrev pub unscripted : ScriptFault → Unrun

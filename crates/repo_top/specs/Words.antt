@@ -47,32 +47,32 @@ option_word name (Some value) = 45 ∷ (45 ∷ (name ++ (61 ∷ value)))
 
 -- how an option is given by the value in its word and by the words behind it, which go on with the rest: a flag has no value, and a
 -- number's digits are the value or the next word
-abbrev pub Gives : Given → Option (List ℕ) → List (List ℕ) → List (List ℕ) → Type 0
-Gives given.Flag None words rest = words ≡ rest
-Gives given.Flag (Some value) words rest = ⊥
-Gives (given.Number n) None words rest = (digits : List ℕ) × IsNumber digits n × (words ≡ digits ∷ rest)
-Gives (given.Number n) (Some value) words rest = IsNumber value n × (words ≡ rest)
+abbrev pub IsGivenBy : Given → Option (List ℕ) → List (List ℕ) → List (List ℕ) → Type 0
+IsGivenBy given.Flag None words rest = words ≡ rest
+IsGivenBy given.Flag (Some value) words rest = ⊥
+IsGivenBy (given.Number n) None words rest = (digits : List ℕ) × IsNumber digits n × (words ≡ digits ∷ rest)
+IsGivenBy (given.Number n) (Some value) words rest = IsNumber value n × (words ≡ rest)
 
 -- words begin with an option that is given so, and go on with the rest
 abbrev pub Begins : List ℕ → Given → List (List ℕ) → List (List ℕ) → Type 0
-Begins name given words rest = (value : Option (List ℕ)) × (behind : List (List ℕ)) × (words ≡ option_word name value ∷ behind) × Gives given value behind rest
+Begins name given words rest = (value : Option (List ℕ)) × (behind : List (List ℕ)) × (words ≡ option_word name value ∷ behind) × IsGivenBy given value behind rest
 
 -- what an option takes: a flag, or a number in its range
-abbrev pub Fits : Takes → Given → Type 0
-Fits takes.Nothing given.Flag = ⊤
-Fits (takes.Number least most) (given.Number n) = (least ≤ n) × (n ≤ most)
-Fits _ _ = ⊥
+abbrev pub FitsOption : Takes → Given → Type 0
+FitsOption takes.Nothing given.Flag = ⊤
+FitsOption (takes.Number least most) (given.Number n) = (least ≤ n) × (n ≤ most)
+FitsOption _ _ = ⊥
 
 -- a name has no `=` (61)
-abbrev pub IsPlain : List ℕ → Type 0
-IsPlain name = (k : ℕ) → k < length name → slice_index name k ≢ 61
+abbrev pub HasNoEquals : List ℕ → Type 0
+HasNoEquals name = (k : ℕ) → k < length name → slice_index name k ≢ 61
 
 -- an option may be given so: one of the options has this name, and takes this
 pub record IsOption (options : List RowOption) (name : List ℕ) (given : Given) : Type 0 where
   pub option : RowOption
   pub named : find (λ o. bytes_eq o.name name) options ≡ Some option
-  pub plain : IsPlain name
-  pub fits : Fits option.takes given
+  pub plain : HasNoEquals name
+  pub fits : FitsOption option.takes given
 
 -- words are options as they are given, one after the other
 abbrev pub AreGiven : List RowOption → List (List ℕ × Given) → List (List ℕ) → Type 0
@@ -181,12 +181,12 @@ MakesMeaning verb.Gen all (Gen seed sessions runs) =
 MakesMeaning verb.Gen all _ = ⊥
 
 -- words have this meaning: they spell a row, and the options that they give make the meaning
-abbrev pub Means : List (List ℕ) → Words → Type 0
-Means words meaning = (row : TableRow) × (given : List (List ℕ × Given)) × IsRow rows row given words × MakesMeaning row.verb given meaning
+abbrev pub WordsMean : List (List ℕ) → Words → Type 0
+WordsMean words meaning = (row : TableRow) × (given : List (List ℕ × Given)) × IsRow rows row given words × MakesMeaning row.verb given meaning
 
 -- words have a meaning
 abbrev pub HasMeaning : List (List ℕ) → Type 0
-HasMeaning words = (meaning : Words) × Means words meaning
+HasMeaning words = (meaning : Words) × WordsMean words meaning
 
 -- the numbers in a meaning are in their ranges
 abbrev pub IsInRange : Words → Type 0

@@ -5,7 +5,7 @@ ghost use Rattle.jr_gen.specs.Sizes.{commands_in};
 ghost use Rattle.jr_script.specs.Bounds.{IsWithin};
 ghost use Rattle.jr_work.specs.Runs.{HasRun};
 ghost use Rattle.oak_world.specs.Worlds.{live};
-ghost use Rattle.repo_top.specs.Ends.{Does, Input, Prints, Spells, WritesText, effect, output_of};
+ghost use Rattle.repo_top.specs.Ends.{Does, Input, Prints, SpellsScript, WritesText, effect, output_of};
 ghost use Rattle.repo_top.specs.Summary.{counts_of, summary_line, summary_text};
 ghost use Rattle.repo_top.specs.declared.words.Words.TheVariants.{Gen};
 
@@ -84,7 +84,7 @@ fn run_made<K: Sink>(
 fn script_made(alloc: Global, seed: u64, sessions: u32) -> Result<Script, AllocError>
     requires some { 1 ≤ sessions }
     requires few { sessions ≤ 64 }
-    ensures { IfOk result (Spells (script_text seed sessions)) }
+    ensures { IfOk result (SpellsScript (script_text seed sessions)) }
 {
     let text = generate(alloc, seed, sessions)?;
     match read_script(alloc, text.as_bytes()) {

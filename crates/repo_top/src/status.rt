@@ -2,7 +2,7 @@
 ghost use Rattle.std.specs.Prelude.{◌≡◌, IfOk, string_bytes};
 ghost use Rattle.serde_json.specs.Data.{string};
 ghost use Rattle.serde_json.specs.Written.{compact_text};
-ghost use Rattle.repo_top.specs.Statuses.{code_of, offset_text, script_line, types_line, unread, unscripted};
+ghost use Rattle.repo_top.specs.Statuses.{code_of, offset_text, script_line, types_line, unread_source, unscripted};
 ghost use Rattle.repo_top.specs.declared.status.Unrun.TheVariants.{Memory};
 
 use jr_io::ReadAll;
@@ -119,7 +119,7 @@ impl From<AllocError> for Unrun {
 }
 
 impl From<ReadAll> for Unrun {
-    ghost from_gives = { λ fault why. why ≡ unread fault };
+    ghost from_gives = { λ fault why. why ≡ unread_source fault };
 
     fn from(fault: ReadAll) -> Unrun {
         match fault {

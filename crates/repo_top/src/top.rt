@@ -2,7 +2,7 @@
 ghost use Rattle.std.specs.Prelude.{◌≡◌, ◌≤◌, None, Some, IfOk, IfErr, IsNone, false, map, string_bytes, true};
 ghost use Rattle.jr_work.specs.Runs.{HasRun};
 ghost use Rattle.jr_work.specs.Workers.{HasRunByWorkers};
-ghost use Rattle.repo_top.specs.Ends.{Does, Ends, Faults, IsReadAs, IsTaken, IsUnread, Tells, WritesText, call, effect, input_of, output_of};
+ghost use Rattle.repo_top.specs.Ends.{Does, Ends, Faults, IsInputRead, IsTaken, IsUnread, Delivers, WritesText, call, effect, input_of, output_of};
 ghost use Rattle.repo_top.specs.Ends.SourceKind.{a_script};
 ghost use Rattle.repo_top.specs.Headline.{printed_of};
 ghost use Rattle.repo_top.specs.Words.{IsInRange};
@@ -112,7 +112,7 @@ fn alone<S: Source, K: Sink>(
 // Runs the script that a source gives by its schedule.
 fn steps<S: Source>(alloc: Global, source: &mut S) -> Result<World<JcrLaw>, Unrun>
     ensures ran { IfOk result (λ world. (script : Script)
-        × IsReadAs (input_of S.Source source.old) (input_of S.Source source.new) script
+        × IsInputRead (input_of S.Source source.old) (input_of S.Source source.new) script
         × HasRun script world) }
     ensures unread { IfErr result
         (IsUnread a_script (input_of S.Source source.old) (input_of S.Source source.new)) }
@@ -133,7 +133,7 @@ fn run<R: Threads + Wait + Sync, S: Source, G: Gate + Sync>(
     requires some { 1 ≤ workers }
     requires few { workers ≤ 16 }
     ensures ran { IfOk result (λ world. (script : Script)
-        × IsReadAs (input_of S.Source source.old) (input_of S.Source source.new) script
+        × IsInputRead (input_of S.Source source.old) (input_of S.Source source.new) script
         × HasRunByWorkers script world) }
     ensures unread { IfErr result
         (IsUnread a_script (input_of S.Source source.old) (input_of S.Source source.new)) }
@@ -158,7 +158,7 @@ fn types<S: Source, K: Sink>(alloc: Global, source: &mut S, sink: &mut K) -> Sta
 // The script that a source gives.
 fn script_of<S: Source>(alloc: Global, source: &mut S) -> Result<Script, Unrun>
     ensures read { IfOk result
-        (IsReadAs (input_of S.Source source.old) (input_of S.Source source.new)) }
+        (IsInputRead (input_of S.Source source.old) (input_of S.Source source.new)) }
     ensures unread { IfErr result
         (IsUnread a_script (input_of S.Source source.old) (input_of S.Source source.new)) }
 {
@@ -286,7 +286,7 @@ fn untyped<K: Sink>(alloc: Global, sink: &mut K, offset: usize) -> Status
 
 // Writes the bytes, passes on all that was written, and answers the status, or that the sink failed.
 pub(crate) fn written<K: Sink>(sink: &mut K, bytes: &[u8], status: Status) -> Status
-    ensures { Tells (output_of K.Sink sink.old) (output_of K.Sink sink.new) bytes.now status
+    ensures { Delivers (output_of K.Sink sink.old) (output_of K.Sink sink.new) bytes.now status
         result }
 {
     match deliver(sink, bytes) {

@@ -2,7 +2,7 @@
 ghost use Rattle.std.specs.Prelude.{IsSome, Option, option_copied, ◌≡◌, ◌≢◌, ◌++◌, ◌∷◌, ◌≤◌, ◌↔◌, ℕ, Bool, List, MatchOption, IsTrue, map, string_bytes, bytes_eq, codes, [], option_map};
 ghost use Rattle.std.specs.List.{find, IsDistinct};
 ghost use Rattle.std.specs.Map.{lookup, keys_of};
-ghost use Rattle.repo_top.specs.Words.{TableRow, table_row, row_option, AreGiven, AreGenWords, AreRunWords, Begins, GivesNumber, IsNumber, IsOption, IsPlain, IsRequiredNumber, IsRow, SpellOptions, MakesMeaning, Means, AreOptions, documents_words, option_word, verb_row, Gives, Fits};
+ghost use Rattle.repo_top.specs.Words.{TableRow, table_row, row_option, AreGiven, AreGenWords, AreRunWords, Begins, GivesNumber, IsNumber, IsOption, HasNoEquals, IsRequiredNumber, IsRow, SpellOptions, MakesMeaning, WordsMean, AreOptions, documents_words, option_word, verb_row, IsGivenBy, FitsOption};
 ghost use Rattle.repo_top.specs.declared.words.Given.{Given};
 ghost use Rattle.repo_top.specs.declared.words.Words.TheVariants.{Gen, Run, Steps, Types};
 
@@ -140,8 +140,8 @@ const ROWS: [Row; 4] = [
 /// The meaning of a list of words, where it has one.
 pub fn words_meant(words: &[String]) -> Option<Words>
     ensures { MatchOption result
-        ((meaning : _) → ¬ Means (map string_bytes words.now) meaning)
-        (Means (map string_bytes words.now)) }
+        ((meaning : _) → ¬ WordsMean (map string_bytes words.now) meaning)
+        (WordsMean (map string_bytes words.now)) }
 {
     let row = row_meant(&ROWS, words)?;
     Some(meaning_of(row, &words[1..]))
@@ -191,19 +191,19 @@ fn number_given(options: &[WordOption], words: &[String], name: &str) -> u64
 /// documents are asked for.
 pub fn meaning_of_steps()
     ensures { (words : List (List ℕ)) (documents : Bool) →
-        Means words (Steps documents) ↔ (words ≡ codes "steps" ∷ documents_words documents) }
+        WordsMean words (Steps documents) ↔ (words ≡ codes "steps" ∷ documents_words documents) }
 {}
 
 /// The word `types` alone means to print node types.
 pub fn meaning_of_types()
-    ensures { (words : List (List ℕ)) → Means words Types ↔ (words ≡ codes "types" ∷ []) }
+    ensures { (words : List (List ℕ)) → WordsMean words Types ↔ (words ≡ codes "types" ∷ []) }
 {}
 
 /// The words that mean to run a script by workers are `run` and their number, 1 to 16, as one word
 /// or two, and `--documents` before it or behind it where the documents are asked for.
 pub fn meaning_of_run()
     ensures { (words : List (List ℕ)) (workers : ℕ) (documents : Bool) →
-        Means words (Run workers documents) ↔ AreRunWords words workers documents }
+        WordsMean words (Run workers documents) ↔ AreRunWords words workers documents }
 {}
 
 /// The words that mean to make a script are `gen`, the seed, any number below 2^64, and the number
@@ -211,7 +211,7 @@ pub fn meaning_of_run()
 /// any order.
 pub fn meaning_of_gen()
     ensures { (words : List (List ℕ)) (seed sessions : ℕ) (runs : Bool) →
-        Means words (Gen seed sessions runs) ↔ AreGenWords words seed sessions runs }
+        WordsMean words (Gen seed sessions runs) ↔ AreGenWords words seed sessions runs }
 {}
 
 /// The row of a table that a list of words spells.
@@ -305,7 +305,7 @@ fn how_given<'w>(
     value: Option<&str>,
     words: &'w [String],
 ) -> Option<(Given, &'w [String])>
-    ensures { MatchOption result ((given : Given) (rest : List (List ℕ)) → Fits takes given → ¬ Gives given (option_map (λ v. v.now) value.entry) (map string_bytes words.now) rest) (λ r. Fits takes r.0 × Gives r.0 (option_map (λ v. v.now) value.entry) (map string_bytes words.now) (map string_bytes r.1.now)) }
+    ensures { MatchOption result ((given : Given) (rest : List (List ℕ)) → FitsOption takes given → ¬ IsGivenBy given (option_map (λ v. v.now) value.entry) (map string_bytes words.now) rest) (λ r. FitsOption takes r.0 × IsGivenBy r.0 (option_map (λ v. v.now) value.entry) (map string_bytes words.now) (map string_bytes r.1.now)) }
 {
     match (takes, value) {
         (Takes::Nothing, None) => Some((Given::Flag, words)),
@@ -333,14 +333,14 @@ fn option_named<'t>(options: &'t [WordOption<'t>], name: &str) -> Option<&'t Wor
 
 // The name of the option whose word this is, and the value in it.
 fn named(word: &str) -> Option<(&str, Option<&str>)>
-    ensures { MatchOption result ((name : List ℕ) (value : Option (List ℕ)) → word.now ≢ option_word name value) (λ r. IsPlain r.0.now × (word.now ≡ option_word r.0.now (option_map (λ v. v.now) r.1))) }
+    ensures { MatchOption result ((name : List ℕ) (value : Option (List ℕ)) → word.now ≢ option_word name value) (λ r. HasNoEquals r.0.now × (word.now ≡ option_word r.0.now (option_map (λ v. v.now) r.1))) }
 {
     Some(at_equals(behind_dash(behind_dash(word)?)?))
 }
 
 // What stands in front of the first `=` of a text, and what behind it.
 fn at_equals(text: &str) -> (&str, Option<&str>)
-    ensures plain { IsPlain result.0.now }
+    ensures plain { HasNoEquals result.0.now }
     ensures parts { MatchOption result.1 (text.now ≡ result.0.now) (λ value. text.now ≡ result.0.now ++ (61 ∷ value.now)) }
 {
     match text.split_once('=') {

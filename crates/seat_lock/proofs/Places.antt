@@ -2,7 +2,7 @@
 use Rattle.std.proofs.Common.{Bool, if◌then◌else◌, nat_lt, true, false, ◌+◌, ◌⊎◌, inl, inr, ◌≡◌, ℕ, zero, suc, ◌<◌, ◌≤◌, List, [], ◌∷◌, ◌++◌, refl, sym, subst, ⊎_elim, arith, Contains}
 use Rattle.std.specs.List.{range_with_len}
 use Rattle.std.proofs.lemmas.Bool.Decides.{nat_tests}
-use Rattle.seat_lock.specs.Views.{InOrder, put_place, merged}
+use Rattle.seat_lock.specs.Views.{InOrder, put_place, merged_places}
 use Rattle.seat_lock.proofs.Lists.{contains_more, contains_none, contains_cons}
 
 pub in_order_bounds : (low : ℕ) (ps : List ℕ) (high : ℕ) → InOrder low ps high → low ≤ high
@@ -51,13 +51,13 @@ pub contains_put : (p : ℕ) (qs : List ℕ) (r : ℕ) → Contains (put_place p
 contains_put p [] r h = ⊎_elim (λ (same : p ≡ r). inl (sym same)) (λ more. inr more) (contains_cons p r [] h.0 h.1 h.2)
 contains_put p (q ∷ qs) r h = put_if (nat_lt p q) p q r qs (contains_put p qs r) h
 
-pub contains_merged : (ps qs : List ℕ) (r : ℕ) → Contains (merged ps qs) r → Contains ps r ⊎ Contains qs r
+pub contains_merged : (ps qs : List ℕ) (r : ℕ) → Contains (merged_places ps qs) r → Contains ps r ⊎ Contains qs r
 contains_merged [] qs r h = inr h
 contains_merged (p ∷ ps) qs r h =
     ⊎_elim
     (λ (same : r ≡ p). inl (0, omega arith, sym same))
-    (λ (more : Contains (merged ps qs) r). ⊎_elim (λ (old : Contains ps r). inl (contains_more p r ps old)) (λ (old : Contains qs r). inr old) (contains_merged ps qs r more))
-    (contains_put p (merged ps qs) r h)
+    (λ (more : Contains (merged_places ps qs) r). ⊎_elim (λ (old : Contains ps r). inl (contains_more p r ps old)) (λ (old : Contains qs r). inr old) (contains_merged ps qs r more))
+    (contains_put p (merged_places ps qs) r h)
 
 put_in_order : (b : Bool) (low p q : ℕ) (qs : List ℕ) (high : ℕ) → nat_lt p q ≡ b → InOrder low (q ∷ qs) high → low ≤ p → p < high → (q ≡ p → ⊥) → (q + 1 ≤ p → InOrder (q + 1) (put_place p qs) high) → InOrder low (if b then p ∷ q ∷ qs else q ∷ put_place p qs) high
 put_in_order true low p q qs high is h from below apart rest = let less : p + 1 ≤ q = grind (arith, nat_tests) in (from, (less, h.1))
@@ -72,12 +72,12 @@ in_order_put low p (q ∷ qs) high h from below new =
     put_in_order (nat_lt p q) low p q qs high refl h from below (λ same. new (0, omega arith, same))
     (λ past. in_order_put (q + 1) p qs high h.1 past below (λ has. new (contains_more q p qs has)))
 
-pub in_order_merged : (low : ℕ) (ps qs : List ℕ) (high : ℕ) → InOrder low ps high → InOrder low qs high → ((r : ℕ) → Contains ps r → Contains qs r → ⊥) → InOrder low (merged ps qs) high
+pub in_order_merged : (low : ℕ) (ps qs : List ℕ) (high : ℕ) → InOrder low ps high → InOrder low qs high → ((r : ℕ) → Contains ps r → Contains qs r → ⊥) → InOrder low (merged_places ps qs) high
 in_order_merged low [] qs high h k apart = k
 in_order_merged low (p ∷ ps) qs high h k apart =
     let less = h.0 in
     let under = in_order_within low (p ∷ ps) high p h (0, omega arith, refl) in
-    in_order_put low p (merged ps qs) high
+    in_order_put low p (merged_places ps qs) high
     (in_order_merged low ps qs high (in_order_lowered low (p + 1) ps high (omega arith) h.1) k (λ r a b. apart r (contains_more p r ps a) b))
     less under.1
     (λ has. ⊎_elim
@@ -101,14 +101,14 @@ contains_put_new : (p : ℕ) (qs : List ℕ) → Contains (put_place p qs) p
 contains_put_new p [] = (0, omega arith, refl)
 contains_put_new p (q ∷ qs) = put_new (nat_lt p q) p q qs (contains_put_new p qs)
 
-pub contains_merged_left : (ps qs : List ℕ) (r : ℕ) → Contains ps r → Contains (merged ps qs) r
+pub contains_merged_left : (ps qs : List ℕ) (r : ℕ) → Contains ps r → Contains (merged_places ps qs) r
 contains_merged_left [] qs r h = absurd (contains_none r h)
 contains_merged_left (p ∷ ps) qs r h =
     ⊎_elim
-    (λ (same : p ≡ r). subst (λ x. Contains (put_place p (merged ps qs)) x) same (contains_put_new p (merged ps qs)))
-    (λ (more : Contains ps r). contains_put_kept p (merged ps qs) r (contains_merged_left ps qs r more))
+    (λ (same : p ≡ r). subst (λ x. Contains (put_place p (merged_places ps qs)) x) same (contains_put_new p (merged_places ps qs)))
+    (λ (more : Contains ps r). contains_put_kept p (merged_places ps qs) r (contains_merged_left ps qs r more))
     (contains_cons p r ps h.0 h.1 h.2)
 
-pub contains_merged_right : (ps qs : List ℕ) (r : ℕ) → Contains qs r → Contains (merged ps qs) r
+pub contains_merged_right : (ps qs : List ℕ) (r : ℕ) → Contains qs r → Contains (merged_places ps qs) r
 contains_merged_right [] qs r h = h
-contains_merged_right (p ∷ ps) qs r h = contains_put_kept p (merged ps qs) r (contains_merged_right ps qs r h)
+contains_merged_right (p ∷ ps) qs r h = contains_put_kept p (merged_places ps qs) r (contains_merged_right ps qs r h)

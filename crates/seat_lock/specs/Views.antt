@@ -25,9 +25,9 @@ put_place p [] = p ∷ []
 put_place p (q ∷ qs) = if nat_lt p q then p ∷ q ∷ qs else q ∷ put_place p qs
 
 -- both lists of places as one, in order
-abbrev pub merged : List ℕ → List ℕ → List ℕ
-merged [] qs = qs
-merged (p ∷ ps) qs = put_place p (merged ps qs)
+abbrev pub merged_places : List ℕ → List ℕ → List ℕ
+merged_places [] qs = qs
+merged_places (p ∷ ps) qs = put_place p (merged_places ps qs)
 
 -- the slots that a pass has out: slot 0, once it has loaded the count and until it adds
 abbrev pub slots_of : {T : Type 0} → Round T → List (ℕ × std.Option T)
@@ -83,7 +83,7 @@ module _ {T E P F S : Type 0} where
 
   -- a view that has taken in another
   abbrev pub joined : View T E P F S → View T E P F S → View T E P F S
-  joined v w = record v { weight = v.weight + w.weight; steady = of_longer v.seen w.seen v.steady w.steady; seen = longer v.seen w.seen; earlier = shorter v.seen w.seen; places = merged v.places w.places; parts = v.parts ++ w.parts }
+  joined v w = record v { weight = v.weight + w.weight; steady = of_longer v.seen w.seen v.steady w.steady; seen = longer v.seen w.seen; earlier = shorter v.seen w.seen; places = merged_places v.places w.places; parts = v.parts ++ w.parts }
 
 module _ {T E P F S : Type 0} (law : Ghosts T E P F S) where
   -- the view of the first pass: it has every author and all the weight, and has seen the whole journal

@@ -1,7 +1,7 @@
 // What the rule of the lock gives.
 ghost use Rattle.std.specs.Prelude.{◌≡◌, ◌↔◌, ◌⊎◌, ℕ, List, Contains};
 ghost use Rattle.seat_lock.specs.declared.rule.View.{View};
-ghost use Rattle.seat_lock.specs.Views.{OwnsPart, OwnsAuthor, merged, first_view, released, handed, kept_back, joined};
+ghost use Rattle.seat_lock.specs.Views.{OwnsPart, OwnsAuthor, merged_places, first_view, released, handed, kept_back, joined};
 ghost use Rattle.seat_lock.specs.Rule.{Kept, LockState, LockMe};
 ghost use Rattle.seat_lock.specs.Clauses.{Clauses, AddedMovesNoSlot, HasAdded};
 
@@ -11,7 +11,7 @@ use crate::counted::Counted;
 pub fn rule_gives_clauses<T: Counted>()
     ensures clauses { (s : LockState T T.Entry T.Part T.Frame T.Steady) → Kept T.Counted s → Clauses T.Counted s }
     ensures slots { (m : LockMe T T.Entry T.Part T.Frame T.Steady) → HasAdded m.0 → AddedMovesNoSlot T.Counted m }
-    ensures places { (ps qs : List ℕ) (p : ℕ) → Contains (merged ps qs) p ↔ (Contains ps p ⊎ Contains qs p) }
+    ensures places { (ps qs : List ℕ) (p : ℕ) → Contains (merged_places ps qs) p ↔ (Contains ps p ⊎ Contains qs p) }
 {}
 
 /// Which parts a view has after each call: of `new` the part of each author, of `release` that of each of its own authors in the value put back, of `split` those of the named authors, and the others, and of `join` those of both.

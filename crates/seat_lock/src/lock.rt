@@ -31,7 +31,7 @@ pub struct SeatLock<T: Counted> {
 impl<T: Counted> SeatLock<T> {
     ghost use Rattle.std.specs.Prelude.{◌≡◌, ◌≢◌, ◌<◌, ◌∷◌, ◌++◌, [], ℕ, length, IfOk, Some, None, true, false};
     ghost use mathlib.Core.List.{IsPrefix};
-    ghost use Rattle.seat_lock.specs.Views.{first_view, loaded, released, kept_back, handed, joined, merged, new_places, with_round};
+    ghost use Rattle.seat_lock.specs.Views.{first_view, loaded, released, kept_back, handed, joined, merged_places, new_places, with_round};
     ghost use Rattle.seat_lock.specs.Passes.{IsOf, IsAtRest, IsHoldOf, GoesOn, HasAuthor, HasPart, HasFrame, HasSteady, view_of, seen_of, places_of, weight_of, got_of};
     ghost use Rattle.seat_lock.specs.declared.rule.Round.TheVariants.{Idle, Turn, Out};
 
@@ -174,7 +174,7 @@ impl<T: Counted> SeatLock<T> {
         requires rest { IsAtRest other }
         ensures own { IsOf self.now pass.new }
         ensures pass { view_of pass.new ≡ joined (view_of pass.old) (view_of other) }
-        ensures places { places_of pass.new ≡ merged (places_of pass.old) (places_of other) }
+        ensures places { places_of pass.new ≡ merged_places (places_of pass.old) (places_of other) }
         ensures longer { IsPrefix (seen_of pass.old) (seen_of pass.new) }
         ensures longer_too { IsPrefix (seen_of other) (seen_of pass.new) }
     {

@@ -15,7 +15,7 @@ use Rattle.sql_query.specs.declared.query.Direction.TheVariants.{Ascending, Desc
 use Rattle.sql_query.specs.declared.query.Order.{Order}
 use Rattle.sql_eval.specs.declared.key.Ranked.{Ranked}
 use Rattle.sql_eval.specs.Conditions.{Tuple, operand_of}
-use Rattle.sql_eval.specs.Keys.{key_cmp, key_in, key_of, ranked_cmp, ranked_of}
+use Rattle.sql_eval.specs.Keys.{order_cmp, key_in, key_of, ranked_cmp, ranked_of}
 use Rattle.sql_eval.specs.Rows.{IsStablySorted, by_orders}
 use Rattle.sql_values.specs.Values.{directed, missing_first}
 
@@ -27,11 +27,11 @@ mapped_cmp f R (x ∷ xs) [] = refl
 mapped_cmp f R (x ∷ xs) (y ∷ ys) = ap (ordering_then (R (f x) (f y))) (mapped_cmp f R xs ys)
 
 -- keys compare as the orders that they are of
-keys_in : (way : Direction) (a b : Option Property) → key_cmp (key_in way a) (key_in way b) ≡ directed way missing_first a b
+keys_in : (way : Direction) (a b : Option Property) → order_cmp (key_in way a) (key_in way b) ≡ directed way missing_first a b
 keys_in Ascending a b = refl
 keys_in Descending a b = refl
 
-keys_cmp : (orders : List Order) (t u : Tuple) → slice_cmp key_cmp (map (key_of t) orders) (map (key_of u) orders) ≡ by_orders orders t u
+keys_cmp : (orders : List Order) (t u : Tuple) → slice_cmp order_cmp (map (key_of t) orders) (map (key_of u) orders) ≡ by_orders orders t u
 keys_cmp [] t u = refl
 keys_cmp (o ∷ os) t u = λ i. ordering_then (keys_in o.direction (operand_of t o.operand) (operand_of u o.operand) i) (keys_cmp os t u i)
 

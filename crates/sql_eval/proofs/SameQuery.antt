@@ -10,7 +10,7 @@ use Rattle.jr_tree.specs.Trees.{Nodes}
 use Rattle.jr_value.specs.declared.value.Property.{Property}
 use Rattle.jr_value.specs.declared.value.Property.TheVariants.{Single}
 use Rattle.jr_value.specs.declared.value.Value.TheVariants as value
-use Rattle.sql_query.specs.Trees.{Asked, By, Look, Test, asked_of, by_of, look_of, test_of}
+use Rattle.sql_query.specs.Trees.{AskedQuery, By, Look, Test, asked_of, by_of, look_of, test_of}
 use Rattle.sql_query.specs.Trees as tree
 use Rattle.sql_query.specs.declared.query.Condition.{Condition}
 use Rattle.sql_query.specs.declared.query.Condition.TheVariants as condition
@@ -20,7 +20,7 @@ use Rattle.sql_query.specs.declared.query.Order.{Order}
 use Rattle.sql_query.specs.declared.query.Query.{Query}
 use Rattle.sql_values.specs.declared.characters.Case.TheVariants.{Lower, Upper}
 use Rattle.sql_eval.specs.declared.row.Row.{Row}
-use Rattle.sql_eval.specs.Conditions.{Tuple, holds, is_child, is_descendant, is_same, name_of, operand_of, path_passes, property_of, spot_of}
+use Rattle.sql_eval.specs.Conditions.{Tuple, holds, is_child, is_descendant, is_same_node, node_name, operand_of, path_passes, tuple_property, spot_of}
 use Rattle.sql_eval.specs.Joins.{tuples_of}
 use Rattle.sql_eval.specs.Rows.{AreRows, IsStablySorted, by_orders, by_paths, filtered, row_of, that_pass}
 use Rattle.sql_values.specs.Texts.{cased, in_case, lengths_of, local_part}
@@ -28,10 +28,10 @@ use Rattle.sql_values.specs.Values.{directed, missing_first, some_compares}
 
 -- what an operand is, of the operand without its places in memory
 abbrev look_at : Tuple → Look → Option Property
-look_at t (tree.Property p) = property_of t p
-look_at t (tree.Length p) = option_map lengths_of (property_of t p)
-look_at t (tree.Name selector) = option_map (λ e. Single (value.Str (name_of e.0))) (spot_of t selector)
-look_at t (tree.LocalName selector) = option_map (λ e. Single (value.Str (local_part (name_of e.0)))) (spot_of t selector)
+look_at t (tree.Property p) = tuple_property t p
+look_at t (tree.Length p) = option_map lengths_of (tuple_property t p)
+look_at t (tree.Name selector) = option_map (λ e. Single (value.Str (node_name e.0))) (spot_of t selector)
+look_at t (tree.LocalName selector) = option_map (λ e. Single (value.Str (local_part (node_name e.0)))) (spot_of t selector)
 look_at t (tree.Lower o) = option_map (in_case (cased Lower)) (look_at t o)
 look_at t (tree.Upper o) = option_map (in_case (cased Upper)) (look_at t o)
 
@@ -48,9 +48,9 @@ abbrev passes : Tuple → Test → Bool
 passes t (tree.Not c) = not (passes t c)
 passes t (tree.And c d) = passes t c && passes t d
 passes t (tree.Or c d) = passes t c || passes t d
-passes t (tree.Has p) = is_some (property_of t p)
+passes t (tree.Has p) = is_some (tuple_property t p)
 passes t (tree.Compare o operator x) = some_compares operator (look_at t o) x
-passes t (tree.Same selector q) = path_passes (λ p. is_same p q) (spot_of t selector)
+passes t (tree.Same selector q) = path_passes (λ p. is_same_node p q) (spot_of t selector)
 passes t (tree.Child selector q) = path_passes (λ p. is_child p q) (spot_of t selector)
 passes t (tree.Descendant selector q) = path_passes (λ p. is_descendant p q) (spot_of t selector)
 
@@ -82,12 +82,12 @@ orders_are (o ∷ os) = λ i t u. ordering_then (directed o.direction missing_fi
 
 module _ (q r : Query) (same : asked_of q ≡ asked_of r) where
   orders_same : by_orders q.orders ≡ by_orders r.orders
-  orders_same = orders_are q.orders ∙ (ap (λ (a : Asked). orders_by a.orders) same ∙ sym (orders_are r.orders))
+  orders_same = orders_are q.orders ∙ (ap (λ (a : AskedQuery). orders_by a.orders) same ∙ sym (orders_are r.orders))
 
   filtered_same : (sets : List (List Name)) (t : Nodes) → filtered q sets t ≡ filtered r sets t
   filtered_same sets t =
       pass_is q.filter (tuples_of t q.joins sets)
-      ∙ (ap (λ (a : Asked). pass_all a.filter (tuples_of t a.joins sets)) same ∙ sym (pass_is r.filter (tuples_of t r.joins sets)))
+      ∙ (ap (λ (a : AskedQuery). pass_all a.filter (tuples_of t a.joins sets)) same ∙ sym (pass_is r.filter (tuples_of t r.joins sets)))
 
   pub rows_same : (sets : List (List Name)) (t : Nodes) (rows : List Row) → AreRows q sets t rows → AreRows r sets t rows
   rows_same sets t rows h = record {
@@ -95,5 +95,5 @@ module _ (q r : Query) (same : asked_of q ≡ asked_of r) where
     tuples = h.tuples;
     paths = subst (λ (ts : List Tuple). IsStablySorted by_paths ts h.by_path) (filtered_same sets t) h.paths;
     orders = subst (λ (cmp : Tuple → Tuple → Ordering). IsStablySorted cmp h.by_path h.tuples) orders_same h.orders;
-    rows_are = h.rows_are ∙ ap (λ (a : Asked). map (row_of a.columns) h.tuples) same;
+    rows_are = h.rows_are ∙ ap (λ (a : AskedQuery). map (row_of a.columns) h.tuples) same;
   }

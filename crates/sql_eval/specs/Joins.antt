@@ -17,7 +17,7 @@ use Rattle.sql_query.specs.declared.query.JoinKind.TheVariants.{Inner, LeftOuter
 use Rattle.sql_query.specs.declared.query.On.{On}
 use Rattle.sql_query.specs.declared.query.On.TheVariants as join_on
 use Rattle.sql_values.specs.Values.{some_equal, values_in}
-use Rattle.sql_eval.specs.Conditions.{Spot, Tuple, spot_of, property_of, path_passes, is_same, is_child, is_descendant}
+use Rattle.sql_eval.specs.Conditions.{Spot, Tuple, spot_of, tuple_property, path_passes, is_same_node, is_child, is_descendant}
 
 -- whether the value is a NAME among these
 abbrev pub is_name_among : List Name → Value → Bool
@@ -33,12 +33,12 @@ abbrev pub is_typed : List Name → Node → Name → Bool
 is_typed set node n = list_any (is_name_among set) (values_in (lookup (is_at (name_cmp n)) node.props))
 
 -- whether the primary type or a mixin of a node is among these
-abbrev pub is_of_type : List Name → Node → Bool
-is_of_type set node = list_any (is_typed set node) type_properties
+abbrev pub is_among_types : List Name → Node → Bool
+is_among_types set node = list_any (is_typed set node) type_properties
 
 -- the nodes of a selector, in path order
 abbrev pub nodes_of_type : Nodes → List Name → List Spot
-nodes_of_type tree set = filter (λ e. is_of_type set e.1) tree
+nodes_of_type tree set = filter (λ e. is_among_types set e.1) tree
 
 -- there are two nodes, and their paths pass
 abbrev pub paths_pass : (Path → Path → Bool) → Option Spot → Option Spot → Bool
@@ -46,8 +46,8 @@ paths_pass f s r = path_passes (λ q. path_passes (λ p. f p q) s) r
 
 -- the nodes of a tuple are as the join condition asks
 abbrev pub joins : On → Tuple → Bool
-joins (join_on.Equal p q) t = some_equal (property_of t p) (property_of t q)
-joins (join_on.Same a b) t = paths_pass is_same (spot_of t a) (spot_of t b)
+joins (join_on.Equal p q) t = some_equal (tuple_property t p) (tuple_property t q)
+joins (join_on.Same a b) t = paths_pass is_same_node (spot_of t a) (spot_of t b)
 joins (join_on.Child a b) t = paths_pass is_child (spot_of t a) (spot_of t b)
 joins (join_on.Descendant a b) t = paths_pass is_descendant (spot_of t a) (spot_of t b)
 
@@ -82,13 +82,13 @@ lonely LeftOuter on n ls rs = lonely_tuples on ls rs
 lonely RightOuter on n ls rs = lonely_spots on n ls rs
 
 -- tuples of n selectors joined with the nodes of one more
-abbrev pub joined : Join → ℕ → List Tuple → List Spot → List Tuple
-joined j n ls rs = pairs j.on ls rs ++ lonely j.kind j.on n ls rs
+abbrev pub joined_tuples : Join → ℕ → List Tuple → List Spot → List Tuple
+joined_tuples j n ls rs = pairs j.on ls rs ++ lonely j.kind j.on n ls rs
 
 -- tuples of n selectors joined with those of all others, from left to right
 abbrev pub joined_all : Nodes → ℕ → List Tuple → List (Join × List Name) → List Tuple
 joined_all tree n ls [] = ls
-joined_all tree n ls (j ∷ js) = joined_all tree (n + 1) (joined j.0 n ls (nodes_of_type tree j.1)) js
+joined_all tree n ls (j ∷ js) = joined_all tree (n + 1) (joined_tuples j.0 n ls (nodes_of_type tree j.1)) js
 
 -- the tuples of all selectors, each with the set of its types
 abbrev pub tuples_of : Nodes → List Join → List (List Name) → List Tuple

@@ -37,15 +37,15 @@ abbrev pub ranked_of : List Order → Tuple → Ranked
 ranked_of orders t = record { keys = map (key_of t) orders; tuple = t }
 
 -- keys of one direction in this direction; those of two directions, which no query compares, the rising first
-abbrev pub key_cmp : Key → Key → Ordering
-key_cmp (Rising a) (Rising b) = missing_first a b
-key_cmp (Falling a) (Falling b) = missing_first b a
-key_cmp (Rising a) (Falling b) = Less
-key_cmp (Falling a) (Rising b) = Greater
+abbrev pub order_cmp : Key → Key → Ordering
+order_cmp (Rising a) (Rising b) = missing_first a b
+order_cmp (Falling a) (Falling b) = missing_first b a
+order_cmp (Rising a) (Falling b) = Less
+order_cmp (Falling a) (Rising b) = Greater
 
 -- by the keys, the first first
 abbrev pub ranked_cmp : Ranked → Ranked → Ordering
-ranked_cmp = on (λ r. r.keys) (slice_cmp key_cmp)
+ranked_cmp = on (λ r. r.keys) (slice_cmp order_cmp)
 
 -- what a value has of each sort, by which values of one kind are ordered
 abbrev number_in : Value → ℤ
@@ -111,7 +111,7 @@ missing_first_total = on_total (option_map values_of) (options_total (lists_tota
 pub by_paths_total : IsTotalOrder by_paths
 by_paths_total = lists_total (options_total (on_total (λ (e : Spot). e.0) (lists_total nat_list_cmp_total)))
 
-keys_antisymm : (x y : Key) → key_cmp x y ≡ ordering_reverse (key_cmp y x)
+keys_antisymm : (x y : Key) → order_cmp x y ≡ ordering_reverse (order_cmp y x)
 keys_antisymm (Rising a) (Rising b) = missing_first_total.antisymm a b
 keys_antisymm (Falling a) (Falling b) = missing_first_total.antisymm b a
 keys_antisymm (Rising a) (Falling b) = refl
@@ -120,7 +120,7 @@ keys_antisymm (Falling a) (Rising b) = refl
 not_less : {X : Type 0} → Greater ≡ Less → X
 not_less h = absurd (true≢false (sym (ap is_lt h)))
 
-keys_trans : (x y z : Key) → key_cmp x y ≡ Less → key_cmp y z ≡ Less → key_cmp x z ≡ Less
+keys_trans : (x y z : Key) → order_cmp x y ≡ Less → order_cmp y z ≡ Less → order_cmp x z ≡ Less
 keys_trans (Rising a) (Rising b) (Rising c) p q = missing_first_total.trans a b c p q
 keys_trans (Falling a) (Falling b) (Falling c) p q = missing_first_total.trans c b a q p
 keys_trans (Rising a) (Rising b) (Falling c) p q = refl
@@ -129,7 +129,7 @@ keys_trans (Rising a) (Falling b) (Rising c) p q = not_less q
 keys_trans (Falling a) (Rising b) z p q = not_less p
 keys_trans (Falling a) (Falling b) (Rising c) p q = not_less q
 
-keys_congr : (x y z : Key) → key_cmp x y ≡ Equal → key_cmp x z ≡ key_cmp y z
+keys_congr : (x y z : Key) → order_cmp x y ≡ Equal → order_cmp x z ≡ order_cmp y z
 keys_congr (Rising a) (Rising b) (Rising c) p = missing_first_total.congr a b c p
 keys_congr (Falling a) (Falling b) (Falling c) p = (back_total missing_first_total).congr a b c p
 keys_congr (Rising a) (Rising b) (Falling c) p = refl
@@ -138,7 +138,7 @@ keys_congr (Rising a) (Falling b) z p = absurd (true≢false (ap is_lt p))
 keys_congr (Falling a) (Rising b) z p = absurd (true≢false (ap is_gt p))
 
 -- the order of keys is total
-pub key_cmp_total : IsTotalOrder key_cmp
+pub key_cmp_total : IsTotalOrder order_cmp
 key_cmp_total = record { antisymm = keys_antisymm; trans = keys_trans; congr = keys_congr }
 
 -- the order of tuples by their keys is total

@@ -20,7 +20,7 @@ use Rattle.sql_eval.specs.declared.row.Cell.{Cell}
 use Rattle.sql_eval.specs.declared.row.Cell.TheVariants as cell
 use Rattle.sql_eval.specs.declared.row.Row.{Row}
 use Rattle.sql_values.specs.Values.{directed, missing_first}
-use Rattle.sql_eval.specs.Conditions.{Tuple, spot_of, property_of, operand_of, holds}
+use Rattle.sql_eval.specs.Conditions.{Tuple, spot_of, tuple_property, operand_of, holds}
 use Rattle.sql_eval.specs.Joins.{tuples_of}
 
 -- by the paths of the nodes in the order of the selectors, a missing node first
@@ -45,7 +45,7 @@ pub record IsStablySorted {X : Type 0} (cmp : X → X → Ordering) (xs ys : Lis
 -- what a column has in a tuple
 abbrev pub cell_of : Tuple → Column → Cell
 cell_of t (column.Node selector) = option_map_or (λ e. cell.Node e.0) (spot_of t selector) cell.Null
-cell_of t (column.Property p) = option_map_or cell.Value (property_of t p) cell.Null
+cell_of t (column.Property p) = option_map_or cell.Value (tuple_property t p) cell.Null
 
 -- the row of a tuple: what each column has in it
 abbrev pub row_of : List Column → Tuple → Row

@@ -2,7 +2,7 @@
 ghost use Rattle.std.specs.Prelude.{◌≡◌, IfOk};
 ghost use Rattle.std.specs.Map.Iter.{deref_pair};
 ghost use Rattle.std.specs.Option.{option_map, option_map_or};
-ghost use Rattle.sql_eval.specs.Conditions.{holds, is_child, is_descendant, is_same, operand_of, path_passes};
+ghost use Rattle.sql_eval.specs.Conditions.{holds, is_child, is_descendant, is_same_node, operand_of, path_passes};
 ghost use Rattle.sql_values.specs.Values.{some_compares};
 
 use crate::operand::operand_of;
@@ -59,7 +59,7 @@ fn is_compared(
 
 /// Whether there is a node and it is the one at a path (JSR 283, 6.7.20 SameNode).
 pub(crate) fn is_spot_same(spot: Option<Spot<'_>>, other: &Path) -> bool
-    ensures { result ≡ path_passes (λ p. is_same p other.now) (option_map deref_pair spot.entry) }
+    ensures { result ≡ path_passes (λ p. is_same_node p other.now) (option_map deref_pair spot.entry) }
 {
     match spot {
         Some((path, _)) => path == other,

@@ -6,8 +6,8 @@ ghost use Rattle.std.specs.Option.{option_copied, option_map};
 ghost use Rattle.std.specs.Ordering.{eq_by_cmp};
 ghost use Rattle.jr_path.specs.Names.{name_cmp};
 ghost use Rattle.sql_query.specs.declared.query.On.TheVariants.{Equal};
-ghost use Rattle.sql_eval.specs.Conditions.{is_child, is_descendant, is_same, property_of, spot_of};
-ghost use Rattle.sql_eval.specs.Joins.{is_lonely_spot, is_lonely_tuple, is_name_among, is_typed, joined, joined_all, joins, lonely, lonely_spots, lonely_tuples, nodes_of_type, pairs, paths_pass, tuples_of, type_properties, with_spot};
+ghost use Rattle.sql_eval.specs.Conditions.{is_child, is_descendant, is_same_node, tuple_property, spot_of};
+ghost use Rattle.sql_eval.specs.Joins.{is_lonely_spot, is_lonely_tuple, is_name_among, is_typed, joined_tuples, joined_all, joins, lonely, lonely_spots, lonely_tuples, nodes_of_type, pairs, paths_pass, tuples_of, type_properties, with_spot};
 
 use crate::condition::{is_spot_child, is_spot_descendant, is_spot_same};
 use crate::lists::push;
@@ -166,7 +166,7 @@ fn share_value<'a>(
 }
 
 fn are_same(spot: Option<Spot<'_>>, other: Option<Spot<'_>>) -> bool
-    ensures { result ≡ paths_pass is_same (option_map deref_pair spot.entry) (option_map deref_pair other.entry) }
+    ensures { result ≡ paths_pass is_same_node (option_map deref_pair spot.entry) (option_map deref_pair other.entry) }
 {
     match other {
         Some((path, _)) => is_spot_same(spot, path),
@@ -193,7 +193,7 @@ fn is_descendant_of(spot: Option<Spot<'_>>, other: Option<Spot<'_>>) -> bool
 }
 
 fn property_of<'a>(left: &Tuple<'a>, right: Spot<'a>, property: &PropertyOf) -> Option<&'a Property>
-    ensures { option_copied result ≡ property_of (with_spot left.now (deref_pair right.entry)) property.now }
+    ensures { option_copied result ≡ tuple_property (with_spot left.now (deref_pair right.entry)) property.now }
 {
     property_in(spot_in(left, right, property.selector), &property.name)
 }
@@ -207,7 +207,7 @@ pub(crate) fn joined<'a>(
     left: &[Tuple<'a>],
     right: &[Spot<'a>],
 ) -> Result<Vec<Tuple<'a>>, AllocError>
-    ensures { IfOk result (λ tuples. tuples.items ≡ joined join.now count left.now (map deref_pair right.now)) }
+    ensures { IfOk result (λ tuples. tuples.items ≡ joined_tuples join.now count left.now (map deref_pair right.now)) }
 {
     let mut tuples = Vec::new(alloc);
     add_pairs(alloc, &mut tuples, &join.on, left, right)?;
@@ -433,7 +433,7 @@ fn join_one<'a>(
     tuples: &mut Vec<Tuple<'a>>,
 ) -> Result<(), AllocError>
     requires { properties.now ≡ type_properties }
-    ensures { OnOk result (tuples.new.items ≡ joined join.now count tuples.old.items (nodes_of_type tree.now set.now)) }
+    ensures { OnOk result (tuples.new.items ≡ joined_tuples join.now count tuples.old.items (nodes_of_type tree.now set.now)) }
 {
     *tuples = joined_with(alloc, tree, properties, join, count, tuples, set)?;
     Ok(())
@@ -450,7 +450,7 @@ fn joined_with<'a>(
     set: &[Name],
 ) -> Result<Vec<Tuple<'a>>, AllocError>
     requires { properties.now ≡ type_properties }
-    ensures { IfOk result (λ all. all.items ≡ joined join.now count tuples.now (nodes_of_type tree.now set.now)) }
+    ensures { IfOk result (λ all. all.items ≡ joined_tuples join.now count tuples.now (nodes_of_type tree.now set.now)) }
 {
     let spots = nodes_of_type(alloc, tree, properties, set)?;
     Ok(joined(alloc, join, count, tuples, &spots)?)

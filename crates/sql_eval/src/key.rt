@@ -83,9 +83,9 @@ fn key_in(direction: Direction, operated: Operated<'_>) -> Key<'_>
 }
 
 impl<'a> Ordered for Key<'a> {
-    ghost use Rattle.sql_eval.specs.Keys.{key_cmp};
+    ghost use Rattle.sql_eval.specs.Keys.{order_cmp};
 
-    ghost by = { key_cmp };
+    ghost by = { order_cmp };
 
     fn order(&self, other: &Key<'a>) -> Ordering {
         match (self, other) {

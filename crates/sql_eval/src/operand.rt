@@ -4,7 +4,7 @@ ghost use Rattle.std.specs.Map.Iter.{deref_pair};
 ghost use Rattle.std.specs.Option.{option_copied, option_map};
 ghost use Rattle.jr_value.specs.declared.value.Value.TheVariants as value;
 ghost use Rattle.jr_value.specs.declared.value.Property.TheVariants.{Single};
-ghost use Rattle.sql_eval.specs.Conditions.{name_of, operand_of};
+ghost use Rattle.sql_eval.specs.Conditions.{node_name, operand_of};
 ghost use Rattle.sql_values.specs.Texts.{cased, in_case, lengths_of, local_part};
 ghost use Rattle.sql_values.specs.Values.{values_in};
 
@@ -134,7 +134,7 @@ pub(crate) fn operand_of<'a>(
 
 // The name of a node, where there is one.
 fn named<'a>(alloc: Global, spot: Option<Spot<'_>>) -> Result<Operated<'a>, AllocError>
-    ensures { IfOk result (λ named. named ≡ option_map (λ e. Single (value.Str (name_of e.0))) (option_map deref_pair spot.entry)) }
+    ensures { IfOk result (λ named. named ≡ option_map (λ e. Single (value.Str (node_name e.0))) (option_map deref_pair spot.entry)) }
 {
     match spot {
         Some((path, _)) => Ok(Operated::made(Some(text(alloc, name_of(path))?))),
@@ -144,7 +144,7 @@ fn named<'a>(alloc: Global, spot: Option<Spot<'_>>) -> Result<Operated<'a>, Allo
 
 // The local part of the name of a node, where there is one.
 fn locally_named<'a>(alloc: Global, spot: Option<Spot<'_>>) -> Result<Operated<'a>, AllocError>
-    ensures { IfOk result (λ named. named ≡ option_map (λ e. Single (value.Str (local_part (name_of e.0)))) (option_map deref_pair spot.entry)) }
+    ensures { IfOk result (λ named. named ≡ option_map (λ e. Single (value.Str (local_part (node_name e.0)))) (option_map deref_pair spot.entry)) }
 {
     match spot {
         Some((path, _)) => Ok(Operated::made(Some(text(alloc, local_part(name_of(path)))?))),
@@ -154,7 +154,7 @@ fn locally_named<'a>(alloc: Global, spot: Option<Spot<'_>>) -> Result<Operated<'
 
 // The name of a node, which is empty for the root.
 fn name_of(path: &Path) -> &str
-    ensures { result.now ≡ name_of path.now }
+    ensures { result.now ≡ node_name path.now }
 {
     match path.last_name() {
         Some(name) => name.as_str(),

@@ -3,7 +3,7 @@ ghost use Rattle.std.specs.Prelude.{◌≡◌, ◌∷◌, ◌++◌, [], None, So
 ghost use Rattle.std.specs.List.{repeat};
 ghost use Rattle.std.specs.Map.Iter.{deref_pair};
 ghost use Rattle.std.specs.Option.{option_copied, option_map};
-ghost use Rattle.sql_eval.specs.Conditions.{property_in, property_of, spot_of};
+ghost use Rattle.sql_eval.specs.Conditions.{property_in, tuple_property, spot_of};
 ghost use Rattle.sql_eval.specs.Rows.{by_paths};
 
 use crate::lists::push;
@@ -65,7 +65,7 @@ impl<'a> Tuple<'a> {
 
     /// A property of the node of a selector.
     pub fn property(&self, property: &PropertyOf) -> Option<&'a Property>
-        ensures { option_copied result ≡ property_of self.now property.now }
+        ensures { option_copied result ≡ tuple_property self.now property.now }
     {
         property_in(self.spot(property.selector), &property.name)
     }

@@ -2,16 +2,16 @@
 use Rattle.std.proofs.Common.{◌≡◌, ℕ, ◌+◌, ◌-◌, ◌<◌, ◌≤◌, true, List, [], ◌∷◌, ◌++◌, length, get_or, take, drop, length-drop, sym, subst, inl, inr, arith}
 use Rattle.std.proofs.lemmas.Bool.{cases_lt}
 use Rattle.std.proofs.Math.Seq.{take-length}
-use Rattle.sql_lex.specs.Tokens.{AreTokens, IsGap, IsToken, is_space}
+use Rattle.sql_lex.specs.Tokens.{AreTokens, IsGap, IsToken, is_blank}
 use Rattle.sql_lex.specs.declared.token.Token.{Token}
 
-gap_grows : (text : List ℕ) (from to : ℕ) → IsGap text from to → to < length text → is_space (get_or text to 0) ≡ true → IsGap text from (to + 1)
+gap_grows : (text : List ℕ) (from to : ℕ) → IsGap text from to → to < length text → is_blank (get_or text to 0) ≡ true → IsGap text from (to + 1)
 gap_grows text from to gap lt space = record {
   order = let o = gap.order in omega arith;
   within = omega arith;
   space = λ k low high. elim (cases_lt k to) [
     | inl before ↦ gap.space k low before
-    | inr behind ↦ let same : k ≡ to = omega arith in subst (λ n. is_space (get_or text n 0) ≡ true) (sym same) space
+    | inr behind ↦ let same : k ≡ to = omega arith in subst (λ n. is_blank (get_or text n 0) ≡ true) (sym same) space
   ];
 }
 
@@ -19,7 +19,7 @@ no_gap : (text : List ℕ) (at : ℕ) → at ≤ length text → IsGap text at a
 no_gap text at within = record { order = omega arith; within = within; space = λ k low high. absurd (omega arith) }
 
 -- white space behind the tokens
-pub more_space : (text : List ℕ) (at : ℕ) (tokens : List Token) (stop : ℕ) → AreTokens text at tokens stop → stop < length text → is_space (get_or text stop 0) ≡ true → AreTokens text at tokens (stop + 1)
+pub more_space : (text : List ℕ) (at : ℕ) (tokens : List Token) (stop : ℕ) → AreTokens text at tokens stop → stop < length text → is_blank (get_or text stop 0) ≡ true → AreTokens text at tokens (stop + 1)
 more_space text at [] stop gap lt space = gap_grows text at stop gap lt space
 more_space text at (t ∷ ts) stop all lt space = (all.0, all.1, more_space text t.end ts stop all.2 lt space)
 

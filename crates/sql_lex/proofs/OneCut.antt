@@ -4,18 +4,18 @@ use Rattle.std.specs.Prelude.{◌||◌, ◌==◌, Option, Some, None}
 use Rattle.std.proofs.Math.Seq.{drop-cons}
 use Rattle.std.proofs.lemmas.Bool.{cases_lt, eqb-true, true≢false}
 use Rattle.std.proofs.lemmas.List.{drop_all}
-use Rattle.sql_lex.specs.Tokens.{AreTokens, IsGap, IsToken, Stops, first_token, is_space}
+use Rattle.sql_lex.specs.Tokens.{AreTokens, IsGap, IsToken, Stops, longest_token, is_blank}
 use Rattle.sql_lex.specs.declared.token.Token.{Token}
 
 either : (a b : Bool) → (a || b) ≡ true → (a ≡ true) ⊎ (b ≡ true)
 either true b h = inl refl
 either false b h = inr h
 
-same_first : (b c : ℕ) (bs : List ℕ) → (b == c) ≡ true → first_token (c ∷ bs) ≡ None → first_token (b ∷ bs) ≡ None
-same_first b c bs same none = let e : b ≡ c = eqb-true b c same in subst (λ x. first_token (x ∷ bs) ≡ None) (sym e) none
+same_first : (b c : ℕ) (bs : List ℕ) → (b == c) ≡ true → longest_token (c ∷ bs) ≡ None → longest_token (b ∷ bs) ≡ None
+same_first b c bs same none = let e : b ≡ c = eqb-true b c same in subst (λ x. longest_token (x ∷ bs) ≡ None) (sym e) none
 
 -- no token begins with white space
-space_begins_none : (b : ℕ) (bs : List ℕ) → is_space b ≡ true → first_token (b ∷ bs) ≡ None
+space_begins_none : (b : ℕ) (bs : List ℕ) → is_blank b ≡ true → longest_token (b ∷ bs) ≡ None
 space_begins_none b bs h = elim (either (b == 32 || b == 9 || b == 13) (b == 10) h) [
   | inr e ↦ same_first b 10 bs e refl
   | inl h' ↦ elim (either (b == 32 || b == 9) (b == 13) h') [
@@ -29,7 +29,7 @@ space_begins_none b bs h = elim (either (b == 32 || b == 9 || b == 13) (b == 10)
 
 -- something other than white space stands at the offset, or the text ends there
 pub record Ends (text : List ℕ) (at : ℕ) : Type 0 where
-  pub no_space : at < length text → is_space (get_or text at 0) ≡ true → ⊥
+  pub no_space : at < length text → is_blank (get_or text at 0) ≡ true → ⊥
 
 none_some : {X : Type 0} (o : Option X) (x : X) → o ≡ None → o ≡ Some x → ⊥
 none_some o x h g = let e : None ≡ Some x = sym h ∙ g in cc
@@ -37,14 +37,14 @@ none_some o x h g = let e : None ≡ Some x = sym h ∙ g in cc
 token_within : (text : List ℕ) (t : Token) → IsToken text t → t.start < length text
 token_within text t is = elim (cases_lt t.start (length text)) [
   | inl within ↦ within
-  | inr past ↦ absurd (none_some (first_token (drop t.start text)) (t.kind, is.size) (ap first_token (drop_all t.start text past)) is.is)
+  | inr past ↦ absurd (none_some (longest_token (drop t.start text)) (t.kind, is.size) (ap longest_token (drop_all t.start text past)) is.is)
 ]
 
 token_ends : (text : List ℕ) (t : Token) → IsToken text t → Ends text t.start
 token_ends text t is = record {
   no_space = λ within space.
       let front : drop t.start text ≡ get_or text t.start 0 ∷ drop (suc t.start) text = drop-cons text t.start 0 within in
-      none_some (first_token (drop t.start text)) (t.kind, is.size) (ap first_token front ∙ space_begins_none (get_or text t.start 0) (drop (suc t.start) text) space) is.is;
+      none_some (longest_token (drop t.start text)) (t.kind, is.size) (ap longest_token front ∙ space_begins_none (get_or text t.start 0) (drop (suc t.start) text) space) is.is;
 }
 
 stop_ends : (text : List ℕ) (stop : ℕ) → Stops text stop → Ends text stop
@@ -64,7 +64,7 @@ same_gap text at a b gap ends gap' ends' = elim (cases_lt a b) [
 no_token_there : (text : List ℕ) (stop : ℕ) (t : Token) → Stops text stop → IsToken text t → stop ≡ t.start → ⊥
 no_token_there text stop t stops is same =
     let within : stop < length text = rw same (token_within text t is) in
-    none_some (first_token (drop t.start text)) (t.kind, is.size) (ap (λ n. first_token (drop n text)) (sym same) ∙ (stops within).no_token) is.is
+    none_some (longest_token (drop t.start text)) (t.kind, is.size) (ap (λ n. longest_token (drop n text)) (sym same) ∙ (stops within).no_token) is.is
 
 parts_of : {X Y : Type 0} (a b : X) (m n : Y) → ◌≡◌ {A = Option (X × Y)} (Some (a, m)) (Some (b, n)) → (a ≡ b) × (m ≡ n)
 parts_of {X} {Y} a b m n e =
@@ -80,7 +80,7 @@ one_cut text at [] (u ∷ us) m n a stops b stops' = absurd (no_token_there text
 one_cut text at (t ∷ ts) [] m n a stops b stops' = absurd (no_token_there text n t stops' a.1 (same_gap text at n t.start b (stop_ends text n stops') a.0 (token_ends text t a.1)))
 one_cut text at (t ∷ ts) (u ∷ us) m n a stops b stops' =
     let start : t.start ≡ u.start = same_gap text at t.start u.start a.0 (token_ends text t a.1) b.0 (token_ends text u b.1) in
-    let parts = parts_of t.kind u.kind a.1.size b.1.size (sym a.1.is ∙ ap (λ k. first_token (drop k text)) start ∙ b.1.is) in
+    let parts = parts_of t.kind u.kind a.1.size b.1.size (sym a.1.is ∙ ap (λ k. longest_token (drop k text)) start ∙ b.1.is) in
     let ends : t.end ≡ u.end = let e = a.1.end_is in let f = b.1.end_is in let s = parts.1 in omega arith in
     let rest = one_cut text u.end ts us m n (subst (λ k. AreTokens text k ts m) ends a.2) stops b.2 stops' in
     (cons _ _ _ _ (same_token t u parts.0 start ends) rest.0, rest.1)

@@ -8,8 +8,8 @@ use Rattle.sql_lex.specs.declared.token.LexFault.{LexFault}
 use Rattle.sql_lex.specs.declared.token.LexFault.TheVariants.{InvalidQuery, Memory}
 
 -- space, tab, carriage return, line feed
-abbrev pub is_space : ℕ → Bool
-is_space b = b == 32 || b == 9 || b == 13 || b == 10
+abbrev pub is_blank : ℕ → Bool
+is_blank b = b == 32 || b == 9 || b == 13 || b == 10
 
 -- an ASCII letter, a digit or `_`
 abbrev pub is_word_byte : ℕ → Bool
@@ -62,16 +62,16 @@ variable (b ∷ bs) =
     else (if b == 91 then option_map (λ n. n + 1) (bracket_size bs) else None)
 
 -- the next byte is the given one
-abbrev pub next_is : ℕ → List ℕ → Bool
-next_is c [] = false
-next_is c (b ∷ bs) = b == c
+abbrev pub begins_with_byte : ℕ → List ℕ → Bool
+begins_with_byte c [] = false
+begins_with_byte c (b ∷ bs) = b == c
 
 -- `*` 42, `,` 44, `.` 46, `(` 40, `)` 41 and `=` 61; `<` 60 alone or before `=` or `>`; `>` 62 alone or before `=`
 abbrev pub sign_size : ℕ → List ℕ → Option ℕ
 sign_size b bs =
     if b == 42 || b == 44 || b == 46 || b == 40 || b == 41 || b == 61 then Some 1
-    else (if b == 60 then (if next_is 61 bs || next_is 62 bs then Some 2 else Some 1)
-    else (if b == 62 then (if next_is 61 bs then Some 2 else Some 1) else None))
+    else (if b == 60 then (if begins_with_byte 61 bs || begins_with_byte 62 bs then Some 2 else Some 1)
+    else (if b == 62 then (if begins_with_byte 61 bs then Some 2 else Some 1) else None))
 
 -- a token of the given kind, with its size: its first byte, and the given count of bytes behind it;
 -- none where no count is given
@@ -79,9 +79,9 @@ abbrev pub of_kind : TokenKind → Option ℕ → Option (TokenKind × ℕ)
 of_kind kind = option_map (λ n. (kind, n + 1))
 
 -- the kind and the size of the longest token at the front
-abbrev pub first_token : List ℕ → Option (TokenKind × ℕ)
-first_token [] = None
-first_token (b ∷ bs) =
+abbrev pub longest_token : List ℕ → Option (TokenKind × ℕ)
+longest_token [] = None
+longest_token (b ∷ bs) =
     if is_ascii_alphabetic b then Some (Word, word_size bs + 1)
     else (if is_ascii_digit b then Some (Number, digits_size bs + 1)
     else (if b == 45 then of_kind Number (negative bs)
@@ -94,12 +94,12 @@ first_token (b ∷ bs) =
 pub record IsGap (text : List ℕ) (from to : ℕ) : Type 0 where
   pub order : from ≤ to
   pub within : to ≤ length text
-  pub space : (k : ℕ) → from ≤ k → k < to → IsTrue (is_space (get_or text k 0))
+  pub space : (k : ℕ) → from ≤ k → k < to → IsTrue (is_blank (get_or text k 0))
 
 -- the token is what stands at its start, as long as it can be
 pub record IsToken (text : List ℕ) (token : Token) : Type 0 where
   pub size : ℕ
-  pub is : first_token (drop token.start text) ≡ Some (token.kind, size)
+  pub is : longest_token (drop token.start text) ≡ Some (token.kind, size)
   pub end_is : token.end ≡ token.start + size
 
 -- from an offset on up to another the text is these tokens, with nothing but white space before, between and behind
@@ -110,14 +110,14 @@ AreTokens text at (token ∷ tokens) stop = IsGap text at token.start × IsToken
 -- no token begins at the offset, and no white space stands there
 pub record IsStuck (text : List ℕ) (offset : ℕ) : Type 0 where
   pub within : offset < length text
-  pub no_space : is_space (get_or text offset 0) ≡ false
-  pub no_token : first_token (drop offset text) ≡ None
+  pub no_space : is_blank (get_or text offset 0) ≡ false
+  pub no_token : longest_token (drop offset text) ≡ None
 
 -- a cut stops here: at the text's end, or where no token begins
 abbrev pub Stops : List ℕ → ℕ → Type 0
 Stops text stop = stop < length text → IsStuck text stop
 
 -- what is before the offset is cut into tokens, and nothing more is; or memory was refused
-abbrev pub IsFault : List ℕ → LexFault → Type 0
-IsFault text (InvalidQuery offset) = (tokens : List Token) × AreTokens text 0 tokens offset × IsStuck text offset
-IsFault text Memory = Unit {0}
+abbrev pub IsLexFault : List ℕ → LexFault → Type 0
+IsLexFault text (InvalidQuery offset) = (tokens : List Token) × AreTokens text 0 tokens offset × IsStuck text offset
+IsLexFault text Memory = Unit {0}

@@ -1,6 +1,6 @@
 // A text cut into tokens.
 ghost use Rattle.std.specs.Prelude.{◌≡◌, ◌<◌, ◌≤◌, IfOk, IfErr, length};
-ghost use Rattle.sql_lex.specs.Tokens.{AreTokens, IsFault, Stops};
+ghost use Rattle.sql_lex.specs.Tokens.{AreTokens, IsLexFault, Stops};
 
 use crate::scan::{is_space, token_at};
 use crate::{LexFault, Token};
@@ -47,7 +47,7 @@ pub fn cut(alloc: Global, text: &str) -> Result<Front, AllocError>
 /// offset of the first byte of the first piece that is no token.
 pub fn lex(alloc: Global, text: &str) -> Result<Vec<Token>, LexFault>
     ensures tokens { IfOk result (λ tokens. AreTokens text.now 0 tokens.items (length text.now)) }
-    ensures fault { IfErr result (IsFault text.now) }
+    ensures fault { IfErr result (IsLexFault text.now) }
 {
     let cut = cut(alloc, text)?;
     if cut.stop < text.len() {

@@ -1,12 +1,12 @@
 // The token at the front of some bytes.
 ghost use Rattle.std.specs.Prelude.{◌≡◌, ◌+◌, ◌<◌, ◌≤◌, ℕ, true, IfSome, length};
-ghost use Rattle.sql_lex.specs.Tokens.{bracket_size, closing, digits_size, first_token, is_space, is_word_byte, negative, next_is, sign_size, text_size, variable, word_size};
+ghost use Rattle.sql_lex.specs.Tokens.{bracket_size, closing, digits_size, longest_token, is_blank, is_word_byte, negative, begins_with_byte, sign_size, text_size, variable, word_size};
 
 use crate::TokenKind;
 
 // White space.
 pub(crate) fn is_space(byte: u8) -> bool
-    ensures { result ≡ is_space byte }
+    ensures { result ≡ is_blank byte }
 {
     byte == b' ' || byte == b'\t' || byte == b'\r' || byte == b'\n'
 }
@@ -91,7 +91,7 @@ fn text_size(bytes: &[u8]) -> Option<usize>
 
 // Whether the first byte is this one.
 fn next_is(byte: u8, bytes: &[u8]) -> bool
-    ensures { result ≡ next_is byte bytes.now }
+    ensures { result ≡ begins_with_byte byte bytes.now }
 {
     match bytes {
         [first, ..] => *first == byte,
@@ -157,7 +157,7 @@ fn variable(bytes: &[u8]) -> Option<usize>
 
 // The kind and the size of the token at the front.
 pub(crate) fn token_at(bytes: &[u8]) -> Option<(TokenKind, usize)>
-    ensures token { result ≡ first_token bytes.now }
+    ensures token { result ≡ longest_token bytes.now }
     ensures within { IfSome result (λ token. (0 < token.1) × (token.1 ≤ length bytes.now)) }
 {
     match bytes {

@@ -5,10 +5,10 @@ use Rattle.jr_value.specs.declared.value.Kind.{Kind}
 use Rattle.jr_value.specs.declared.value.Kind.TheVariants as kind
 use Rattle.jr_value.specs.declared.value.Value.{Value}
 use Rattle.jr_value.specs.declared.value.Value.TheVariants as value
-use Rattle.sql_pieces.specs.Firsts.{kind_first, literal_first, path_first, selector_first, text_first}
-use Rattle.sql_pieces.specs.Leaves.{is_a}
-use Rattle.sql_pieces.specs.Pieces.{IsReadAs}
-use Rattle.sql_pieces.specs.Reading.{◌>>=◌, State, Read, after, behind, call_first, many, place, required, sign_at, sign_first, word_at, word_first}
+use Rattle.sql_pieces.specs.Firsts.{cast_kind_first, literal_first, path_first, selector_first, cast_text_first}
+use Rattle.sql_pieces.specs.Leaves.{is_same_word}
+use Rattle.sql_pieces.specs.Pieces.{IsReadAsSql}
+use Rattle.sql_pieces.specs.Reading.{◌>>=◌, State, Read, after, behind, call_first, many, offset_at, required, read_sign, next_sign, word_at, word_first}
 use Rattle.sql_pieces.specs.declared.fault.SqlFault.{SqlFault}
 use Rattle.sql_pieces.specs.declared.fault.SqlFault.TheVariants as fault
 use Rattle.sql_pieces.specs.declared.piece.Placed.{Placed}
@@ -19,41 +19,41 @@ use Rattle.sql_query.specs.declared.query.Query.{Query}
 use Rattle.sql_query.specs.declared.query.PropertyOf.{PropertyOf}
 use Rattle.sql_query.specs.declared.query.Operator.{Operator}
 use Rattle.sql_query.specs.declared.query.Operator.TheVariants as operator
-use Rattle.sql_query.specs.Trees.{Asked, By, Look, Test, asked_of}
+use Rattle.sql_query.specs.Trees.{AskedQuery, By, Look, Test, asked_of}
 use Rattle.sql_query.specs.Trees as tree
 use Rattle.sql_query.specs.declared.query.Direction.{Direction}
 use Rattle.sql_query.specs.declared.query.Direction.TheVariants as direction
-use Rattle.sql_select.specs.Selected.{Names, declared_at, only_at, property_at, no_pieces, selected_at}
+use Rattle.sql_select.specs.Selected.{Names, declared_at, only_at, read_property, is_all_read, selected_at}
 
 -- ---- operands and values
 
 -- ( property ), behind the function's word
 abbrev pub property_call : Names → State → Read PropertyOf
 property_call names s = do
-  o ← sign_at sign.Open (after s)
-  p ← property_at names o.1
-  e ← sign_at sign.Close p.1
+  o ← read_sign sign.Open (after s)
+  p ← read_property names o.1
+  e ← read_sign sign.Close p.1
   Ok (p.0, e.1)
 
 -- name ), behind the `(` of NAME or LOCALNAME, as the place of the selector with that name
 abbrev pub selector_inside : Names → State → Read ℕ
 selector_inside names s = do
   d ← declared_at names s
-  e ← sign_at sign.Close d.1
+  e ← read_sign sign.Close d.1
   Ok (d.0, e.1)
 
 -- `)` right behind the `(` of NAME or LOCALNAME, as the place of the query's only selector; a fault
 -- where there is not exactly one
 abbrev pub selector_only : Names → State → Read ℕ
 selector_only names s = do
-  p ← only_at names (place s)
+  p ← only_at names (offset_at s)
   Ok (p, after s)
 
 -- ( [name] ), behind the function's word
 abbrev pub selector_call : Names → State → Read ℕ
 selector_call names s = do
-  o ← sign_at sign.Open (after s)
-  (if sign_first sign.Close o.1.pieces then selector_only names o.1 else selector_inside names o.1)
+  o ← read_sign sign.Open (after s)
+  (if next_sign sign.Close o.1.pieces then selector_only names o.1 else selector_inside names o.1)
 
 -- LENGTH(property), as an operand
 abbrev pub length_operand : Names → State → Read Look
@@ -76,7 +76,7 @@ local_name_operand names s = do
 -- a property, as an operand
 abbrev pub property_operand : Names → State → Read Look
 property_operand names s = do
-  p ← property_at names s
+  p ← read_property names s
   Ok (tree.Property p.0, p.1)
 
 -- property | LENGTH(property) | NAME([name]) | LOCALNAME([name])
@@ -90,9 +90,9 @@ plain_operand names s =
 -- ( operand ), behind the word LOWER or UPPER, where the given reader reads the operand
 abbrev pub operand_call : (State → Read Look) → State → Read Look
 operand_call inside s = do
-  a ← sign_at sign.Open (after s)
+  a ← read_sign sign.Open (after s)
   o ← inside a.1
-  e ← sign_at sign.Close o.1
+  e ← read_sign sign.Close o.1
   Ok (o.0, e.1)
 
 -- LOWER(operand), as an operand, where the given reader reads the operand inside
@@ -110,7 +110,7 @@ upper_operand inside s = do
 -- Each operand inside another takes a token, so there are no more of them than tokens.
 -- operand = property | LENGTH(property) | NAME([name]) | LOCALNAME([name]) | LOWER(operand) | UPPER(operand)
 abbrev pub operand_at : Names → List Placed → State → Read Look
-operand_at names [] s = Err (place s)
+operand_at names [] s = Err (offset_at s)
 operand_at names (_ ∷ room) s =
     if call_first (codes "LOWER") s.pieces then lower_operand (operand_at names room) s
     else (if call_first (codes "UPPER") s.pieces then upper_operand (operand_at names room) s
@@ -124,7 +124,7 @@ operator_in (says.Sign sign.Less) = Some operator.Less
 operator_in (says.Sign sign.AtMost) = Some operator.AtMost
 operator_in (says.Sign sign.Greater) = Some operator.Greater
 operator_in (says.Sign sign.AtLeast) = Some operator.AtLeast
-operator_in (says.Word name) = if is_a (codes "LIKE") name then Some operator.Like else None
+operator_in (says.Word name) = if is_same_word (codes "LIKE") name then Some operator.Like else None
 operator_in _ = None
 
 -- the operator of a comparison that the next token is, where it is one
@@ -135,25 +135,25 @@ operator_first (p ∷ ps) = operator_in p.says
 -- op = = | <> | < | <= | > | >= | LIKE
 abbrev pub operator_at : State → Read Operator
 operator_at s = do
-  o ← required (operator_first s.pieces) (place s)
+  o ← required (operator_first s.pieces) (offset_at s)
   Ok (o, after s)
 
 -- text | number | TRUE | FALSE | $name, as the value of the literal or of the bind variable
 abbrev pub literal_at : State → Read Value
 literal_at s = do
-  v ← required (literal_first s.pieces) (place s)
+  v ← required (literal_first s.pieces) (offset_at s)
   Ok (v, after s)
 
 -- the text in a CAST, and the value that it has as the kind behind AS, where it has one
-abbrev pub text_at : State → Read (List ℕ × Option Value)
-text_at s = do
-  t ← required (text_first s.pieces) (place s)
+abbrev pub cast_text : State → Read (List ℕ × Option Value)
+cast_text s = do
+  t ← required (cast_text_first s.pieces) (offset_at s)
   Ok (t, after s)
 
 -- the kind that a CAST names behind AS
 abbrev pub kind_at : State → Read Kind
 kind_at s = do
-  k ← required (kind_first s.pieces) (place s)
+  k ← required (cast_kind_first s.pieces) (offset_at s)
   Ok (k, after s)
 
 -- the kind noted by an earlier CAST that was refused, else the kind of the CAST read now
@@ -169,11 +169,11 @@ cast_value k (text, None) s = (value.Str text, record { pieces = s.pieces; stop 
 -- CAST(text AS kind)
 abbrev pub cast_at : State → Read Value
 cast_at s = do
-  o ← sign_at sign.Open (after s)
-  t ← text_at o.1
+  o ← read_sign sign.Open (after s)
+  t ← cast_text o.1
   a ← word_at (codes "AS") t.1
   k ← kind_at a.1
-  e ← sign_at sign.Close k.1
+  e ← read_sign sign.Close k.1
   Ok (cast_value k.0 t.0 e.1)
 
 -- static = text | number | TRUE | FALSE | $name | CAST(text AS kind)
@@ -183,23 +183,23 @@ static_at s = if word_first (codes "CAST") s.pieces then cast_at s else literal_
 -- ---- conditions
 
 -- a path, in brackets or as a text
-abbrev pub path_at : State → Read (List (List ℕ))
-path_at s = do
-  p ← required (path_first s.pieces) (place s)
+abbrev pub read_path : State → Read (List (List ℕ))
+read_path s = do
+  p ← required (path_first s.pieces) (offset_at s)
   Ok (p, after s)
 
 -- name , before a path, as the place of the selector with that name
 abbrev pub selector_comma : Names → State → Read ℕ
 selector_comma names s = do
   d ← declared_at names s
-  c ← sign_at sign.Comma d.1
+  c ← read_sign sign.Comma d.1
   Ok (d.0, c.1)
 
 -- nothing before a path, as the place of the query's only selector; a fault where there is not
 -- exactly one
 abbrev pub no_selector : Names → State → Read ℕ
 no_selector names s = do
-  p ← only_at names (place s)
+  p ← only_at names (offset_at s)
   Ok (p, s)
 
 -- [name ,]
@@ -209,10 +209,10 @@ selector_before names s = if selector_first s.pieces then selector_comma names s
 -- ( [name ,] path ), behind the function's word
 abbrev pub place_call : Names → State → Read (ℕ × List (List ℕ))
 place_call names s = do
-  o ← sign_at sign.Open (after s)
+  o ← read_sign sign.Open (after s)
   d ← selector_before names o.1
-  p ← path_at d.1
-  e ← sign_at sign.Close p.1
+  p ← read_path d.1
+  e ← read_sign sign.Close p.1
   Ok ((d.0, p.0), e.1)
 
 -- ISSAMENODE([name,] path), as the condition that a selector's node is the one at the path
@@ -271,7 +271,7 @@ test_at names s =
 
 -- what can follow a property's first name in a condition comes next: `.`, an operator or IS
 abbrev pub follows_name : List Placed → Bool
-follows_name ps = sign_first sign.Dot ps || is_some (operator_first ps) || word_first (codes "IS") ps
+follows_name ps = next_sign sign.Dot ps || is_some (operator_first ps) || word_first (codes "IS") ps
 
 -- a name comes next that what can follow a name follows; LIKE and IS too are names there
 abbrev pub led_name_first : List Placed → Bool
@@ -312,19 +312,19 @@ negated term s = do
   Ok (tree.Not c.0, c.1)
 
 -- ( or ), where this reads `not`
-unfoldable pub grouped : (State → Read Test) → State → Read Test
-grouped term s = do
+unfoldable pub in_brackets : (State → Read Test) → State → Read Test
+in_brackets term s = do
   c ← or_with term (after s)
-  e ← sign_at sign.Close c.1
+  e ← read_sign sign.Close c.1
   Ok (c.0, e.1)
 
 -- Each NOT and each `(` takes a token, so there are no more of them than tokens.
 -- not = NOT not | primary; primary = ( or ) | ..
 abbrev pub not_at : Names → List Placed → State → Read Test
-not_at names [] s = Err (place s)
+not_at names [] s = Err (offset_at s)
 not_at names (_ ∷ room) s =
     if not_first s.pieces then negated (not_at names room) s
-    else (if sign_first sign.Open s.pieces then grouped (not_at names room) s
+    else (if next_sign sign.Open s.pieces then in_brackets (not_at names room) s
     else test_at names s)
 
 -- the constraint behind WHERE
@@ -370,7 +370,7 @@ first_order names s = do
 abbrev pub order_list : Names → State → Read (List By)
 order_list names s = do
   o ← first_order names s
-  many (sign_first sign.Comma) (order_more names) o.1.pieces o.0 o.1
+  many (next_sign sign.Comma) (order_more names) o.1.pieces o.0 o.1
 
 -- [ORDER BY order {, order}]
 unfoldable pub orders_at : Names → State → Read (List By)
@@ -380,7 +380,7 @@ orders_at names s = if word_first (codes "ORDER") s.pieces then order_list names
 
 -- nothing is left
 abbrev pub end_at : State → Result (Unit {0}) ℕ
-end_at s = if no_pieces s.pieces then Ok tt else Err (place s)
+end_at s = if is_all_read s.pieces then Ok tt else Err (offset_at s)
 
 -- [WHERE or] [ORDER BY order {, order}], and the end
 unfoldable pub rest_at : Names → State → Read (Option Test × List By)
@@ -391,7 +391,7 @@ rest_at names s = do
   Ok ((f.0, o.0), o.1)
 
 -- query = SELECT columns FROM selector {join} [WHERE or] [ORDER BY order {, order}]
-abbrev pub query_at : State → Read Asked
+abbrev pub query_at : State → Read AskedQuery
 query_at s = do
   g ← selected_at s
   r ← rest_at g.0.0.names g.1
@@ -407,10 +407,10 @@ abbrev pub IsAnswer : List Placed → ℕ → Result Query SqlFault → Type 0
 IsAnswer pieces stop (Ok query) = (s : State) × (query_at (start pieces stop) ≡ Ok (asked_of query, s)) × (s.refused ≡ None)
 IsAnswer pieces stop (Err (fault.InvalidQuery offset)) = query_at (start pieces stop) ≡ Err offset
 IsAnswer pieces stop (Err (fault.Cast k found)) =
-    (found ≡ kind.Str) × (query : Asked) × (s : State) × (query_at (start pieces stop) ≡ Ok (query, s)) × (s.refused ≡ Some k)
+    (found ≡ kind.Str) × (query : AskedQuery) × (s : State) × (query_at (start pieces stop) ≡ Ok (query, s)) × (s.refused ≡ Some k)
 IsAnswer pieces stop (Err fault.Memory) = Unit {0}
 
 -- What a text is answered, with the values of its bind variables.
 abbrev pub IsParsed : List ℕ → List (List ℕ × Value) → Result Query SqlFault → Type 0
 IsParsed text vars (Err fault.Memory) = Unit {0}
-IsParsed text vars result = (pieces : List Placed) × IsReadAs text vars pieces × IsAnswer pieces (length text) result
+IsParsed text vars result = (pieces : List Placed) × IsReadAsSql text vars pieces × IsAnswer pieces (length text) result

@@ -1,7 +1,7 @@
 // What is asked of a row.
 ghost use Rattle.std.specs.Prelude.{◌≡◌};
 ghost use Rattle.std.specs.Option.{option_map};
-ghost use Rattle.sql_parse.specs.Grammar.{and_with, compared, filter_at, follows_name, grouped, led_name_first, negated, not_at, not_first, or_with, path_at, place_call, selector_before, test_at, tested};
+ghost use Rattle.sql_parse.specs.Grammar.{and_with, compared, filter_at, follows_name, in_brackets, led_name_first, negated, not_at, not_first, or_with, read_path, place_call, selector_before, test_at, tested};
 ghost use Rattle.sql_pieces.specs.Reading.{Reads, ReadsAs};
 ghost use Rattle.sql_parse.specs.Depths.{tested_in};
 ghost use Rattle.sql_query.specs.Trees.{look_of, test_of};
@@ -46,7 +46,7 @@ fn is_not(cursor: &Cursor<'_>) -> bool
 
 // A path, in quotes or in brackets.
 fn path(cursor: &mut Cursor<'_>) -> Result<Path, SqlFault>
-    ensures { Reads result cursor.new (path_at cursor.old) }
+    ensures { Reads result cursor.new (read_path cursor.old) }
 {
     let Some(path) = path_first(cursor.pieces)? else {
         return Err(cursor.fault());
@@ -153,7 +153,7 @@ fn negated(
 
 // ( or ); `level` counts this `(`.
 #[cycle(condition)]
-#[tactic(auto, unfolding(crate::specs::Grammar::grouped))]
+#[tactic(auto, unfolding(crate::specs::Grammar::in_brackets))]
 fn grouped(
     cursor: &mut Cursor<'_>,
     alloc: Global,
@@ -161,7 +161,7 @@ fn grouped(
     room: &[Placed],
     level: usize,
 ) -> Result<Nested, SqlFault>
-    ensures { ReadsAs tested_in result cursor.new (grouped (not_at names.now room.now) cursor.old) }
+    ensures { ReadsAs tested_in result cursor.new (in_brackets (not_at names.now room.now) cursor.old) }
 {
     cursor.advance();
     let nested = condition(cursor, alloc, names, room, level)?;

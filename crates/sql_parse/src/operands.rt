@@ -1,6 +1,6 @@
 // Operands and values.
 ghost use Rattle.std.specs.Prelude.{◌≡◌, IfErr, IfOk};
-ghost use Rattle.sql_parse.specs.Grammar.{cast_at, cast_value, first_kind, kind_at, literal_at, operand_at, operand_call, operator_at, operator_first, operator_in, plain_operand, property_call, selector_call, static_at, text_at};
+ghost use Rattle.sql_parse.specs.Grammar.{cast_at, cast_value, first_kind, kind_at, literal_at, operand_at, operand_call, operator_at, operator_first, operator_in, plain_operand, property_call, selector_call, static_at, cast_text};
 ghost use Rattle.sql_pieces.specs.Reading.{Reads, ReadsAs};
 ghost use Rattle.sql_query.specs.Trees.{look_of};
 ghost use Rattle.sql_query.specs.Trees as tree;
@@ -179,7 +179,7 @@ fn literal(cursor: &mut Cursor<'_>) -> Result<Value, SqlFault>
 
 // A text, with its value in a CAST.
 fn text(cursor: &mut Cursor<'_>) -> Result<(Text, Option<Value>), SqlFault>
-    ensures { Reads result cursor.new (text_at cursor.old) }
+    ensures { Reads result cursor.new (cast_text cursor.old) }
 {
     let Some(text) = text_first(cursor.pieces)? else {
         return Err(cursor.fault());

@@ -13,7 +13,7 @@ use Rattle.sql_lex.specs.declared.token.TokenKind.{TokenKind}
 use Rattle.sql_lex.specs.declared.token.TokenKind.TheVariants as token
 use Rattle.sql_lex.proofs.OneCut.{one_cut}
 use Rattle.sql_pieces.specs.Leaves.{sign_named, value_named}
-use Rattle.sql_pieces.specs.Pieces.{ArePieces, IsCast, IsPathOrNone, IsPiece, IsReadAs, IsSaid, Means, cast_kind, content, rest_pieces, token_bytes}
+use Rattle.sql_pieces.specs.Pieces.{AreSqlPieces, IsCast, IsPathOrNone, IsPiece, IsReadAsSql, IsSaidInSql, MeansInSql, cast_kind, token_content, rest_pieces, token_bytes}
 use Rattle.sql_pieces.specs.declared.piece.Placed.{Placed}
 use Rattle.sql_pieces.specs.declared.piece.Says.{Says}
 use Rattle.sql_pieces.specs.declared.piece.Says.TheVariants as says
@@ -38,7 +38,7 @@ path_or_none_one t (Some p) None h g = absurd (g p h)
 path_or_none_one t (Some p) (Some q) h g = ap Some (path_within_one t p q h g)
 
 -- what is written in a token of a kind says one thing
-said_one : (vars : List (List ℕ × Value)) (cast : Option Kind) (k : TokenKind) (t : List ℕ) (a b : Says) → IsSaid vars cast k t a → IsSaid vars cast k t b → a ≡ b
+said_one : (vars : List (List ℕ × Value)) (cast : Option Kind) (k : TokenKind) (t : List ℕ) (a b : Says) → IsSaidInSql vars cast k t a → IsSaidInSql vars cast k t b → a ≡ b
 said_one vars cast token.Word t (says.Word m) (says.Word n) h g = ap says.Word (h.1 ∙ sym g.1)
 said_one vars cast token.Word t (says.Word m) says.Nothing h g = absurd (g h.0)
 said_one vars cast token.Word t says.Nothing (says.Word n) h g = absurd (h g.0)
@@ -80,7 +80,7 @@ said_one vars cast token.Sign t (says.Sign c) b h g = absurd g
 said_one vars cast token.Sign t says.Nothing b h g = absurd g
 said_one vars cast k t a b h g = absurd h
 
-means_one : (vars : List (List ℕ × Value)) (cast : Option Kind) (k : TokenKind) (t : List ℕ) (a b : Says) → Means vars cast k t a → Means vars cast k t b → a ≡ b
+means_one : (vars : List (List ℕ × Value)) (cast : Option Kind) (k : TokenKind) (t : List ℕ) (a b : Says) → MeansInSql vars cast k t a → MeansInSql vars cast k t b → a ≡ b
 means_one vars cast k t a b h g = by (is_utf8 t) refl
   where
     by : (r : Bool) → is_utf8 t ≡ r → a ≡ b
@@ -90,9 +90,9 @@ means_one vars cast k t a b h g = by (is_utf8 t) refl
 piece_one : (text : List ℕ) (vars : List (List ℕ × Value)) (t : Token) (behind : List Token) (p q : Placed) → IsPiece text vars t behind p → IsPiece text vars t behind q → p ≡ q
 piece_one text vars t behind p q h g =
     ap (λ (n : ℕ). record { start = n; says = p.says }) (h.start ∙ sym g.start)
-    ∙ ap (λ (s : Says). record { start = q.start; says = s }) (means_one vars (cast_kind text behind) t.kind (content t.kind (token_bytes text t)) p.says q.says h.means g.means)
+    ∙ ap (λ (s : Says). record { start = q.start; says = s }) (means_one vars (cast_kind text behind) t.kind (token_content t.kind (token_bytes text t)) p.says q.says h.means g.means)
 
-pieces_one : (text : List ℕ) (vars : List (List ℕ × Value)) (ts : List Token) (ps qs : List Placed) → ArePieces text vars ts ps → ArePieces text vars ts qs → ps ≡ qs
+pieces_one : (text : List ℕ) (vars : List (List ℕ × Value)) (ts : List Token) (ps qs : List Placed) → AreSqlPieces text vars ts ps → AreSqlPieces text vars ts qs → ps ≡ qs
 pieces_one text vars [] [] [] h g = refl
 pieces_one text vars [] [] (q ∷ qs) h g = absurd g
 pieces_one text vars [] (p ∷ ps) qs h g = absurd h
@@ -101,8 +101,8 @@ pieces_one text vars (t ∷ ts) (p ∷ ps) [] h g = absurd g
 pieces_one text vars (t ∷ ts) (p ∷ ps) (q ∷ qs) h g = λ i. piece_one text vars t ts p q h.0 g.0 i ∷ pieces_one text vars ts ps qs h.1 g.1 i
 
 -- a text says one list of pieces
-pub read_one : (text : List ℕ) (vars : List (List ℕ × Value)) (ps qs : List Placed) → IsReadAs text vars ps → IsReadAs text vars qs → ps ≡ qs
+pub read_one : (text : List ℕ) (vars : List (List ℕ × Value)) (ps qs : List Placed) → IsReadAsSql text vars ps → IsReadAsSql text vars qs → ps ≡ qs
 read_one text vars ps qs h g =
     let cut = one_cut text 0 h.tokens g.tokens h.stop g.stop h.are_tokens h.stuck g.are_tokens g.stuck in
-    let front = pieces_one text vars g.tokens h.front g.front (subst (λ (ts : List Token). ArePieces text vars ts h.front) cut.0 h.are_pieces) g.are_pieces in
+    let front = pieces_one text vars g.tokens h.front g.front (subst (λ (ts : List Token). AreSqlPieces text vars ts h.front) cut.0 h.are_pieces) g.are_pieces in
     h.whole ∙ (ap (λ (fs : List Placed). fs ++ rest_pieces text h.stop) front ∙ (ap (λ (n : ℕ). g.front ++ rest_pieces text n) cut.1 ∙ sym g.whole))

@@ -34,12 +34,12 @@ sign_named (a ∷ b ∷ []) = two_signs a b
 sign_named (a ∷ b ∷ c ∷ bs) = None
 
 -- the same word, in any case of its ASCII letters
-abbrev pub is_a : List ℕ → List ℕ → Bool
-is_a = str_eq_ignore_ascii_case
+abbrev pub is_same_word : List ℕ → List ℕ → Bool
+is_same_word = str_eq_ignore_ascii_case
 
 -- the kind that a word names, in any case
-abbrev pub kind_named : List ℕ → Option Kind
-kind_named word = find (λ k. is_a (kind_text k) word) all_kinds
+abbrev pub kind_of_word : List ℕ → Option Kind
+kind_of_word word = find (λ k. is_same_word (kind_text k) word) all_kinds
 
 -- the place of a name among others, counted from so many on; below 2^32
 abbrev pub place_from : ℕ → List (List ℕ) → List ℕ → Option ℕ

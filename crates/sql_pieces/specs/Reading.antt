@@ -1,7 +1,7 @@
 -- What reading is: from what is left of a query to a thing and what is left then, or to the offset where it fails.
 use Rattle.std.specs.Prelude.{◌≡◌, ℕ, Bool, false, ◌&&◌, ◌==◌, List, [], ◌∷◌, Option, None, Some, Result, Ok, Err, if◌then◌else◌}
 use Rattle.jr_value.specs.declared.value.Kind.{Kind}
-use Rattle.sql_pieces.specs.Leaves.{is_a}
+use Rattle.sql_pieces.specs.Leaves.{is_same_word}
 use Rattle.sql_pieces.specs.declared.fault.SqlFault.{SqlFault}
 use Rattle.sql_pieces.specs.declared.fault.SqlFault.TheVariants as fault
 use Rattle.sql_pieces.specs.declared.piece.Placed.{Placed}
@@ -62,44 +62,44 @@ first_start [] stop = stop
 first_start (p ∷ ps) stop = p.start
 
 -- the offset of what comes next: the first byte of the next token, or the text's end
-abbrev pub place : State → ℕ
-place s = first_start s.pieces s.stop
+abbrev pub offset_at : State → ℕ
+offset_at s = first_start s.pieces s.stop
 
 -- behind the next token
 abbrev pub after : State → State
 after s = record { pieces = behind s.pieces; stop = s.stop; refused = s.refused }
 
 -- a number for each sign, by which signs are told apart
-abbrev pub sign_number : Sign → ℕ
-sign_number sign.Star = 0
-sign_number sign.Comma = 1
-sign_number sign.Dot = 2
-sign_number sign.Open = 3
-sign_number sign.Close = 4
-sign_number sign.Equal = 5
-sign_number sign.Unequal = 6
-sign_number sign.Less = 7
-sign_number sign.AtMost = 8
-sign_number sign.Greater = 9
-sign_number sign.AtLeast = 10
+abbrev pub number_of_sign : Sign → ℕ
+number_of_sign sign.Star = 0
+number_of_sign sign.Comma = 1
+number_of_sign sign.Dot = 2
+number_of_sign sign.Open = 3
+number_of_sign sign.Close = 4
+number_of_sign sign.Equal = 5
+number_of_sign sign.Unequal = 6
+number_of_sign sign.Less = 7
+number_of_sign sign.AtMost = 8
+number_of_sign sign.Greater = 9
+number_of_sign sign.AtLeast = 10
 
 -- two signs are one and the same
-abbrev pub same_sign : Sign → Sign → Bool
-same_sign a b = sign_number a == sign_number b
+abbrev pub is_same_sign : Sign → Sign → Bool
+is_same_sign a b = number_of_sign a == number_of_sign b
 
 -- what a token says is the wanted sign
-abbrev pub is_sign : Sign → Says → Bool
-is_sign wanted (says.Sign s) = same_sign s wanted
-is_sign wanted _ = false
+abbrev pub says_sign : Sign → Says → Bool
+says_sign wanted (says.Sign s) = is_same_sign s wanted
+says_sign wanted _ = false
 
 -- the next token is this sign
-abbrev pub sign_first : Sign → List Placed → Bool
-sign_first wanted [] = false
-sign_first wanted (p ∷ ps) = is_sign wanted p.says
+abbrev pub next_sign : Sign → List Placed → Bool
+next_sign wanted [] = false
+next_sign wanted (p ∷ ps) = says_sign wanted p.says
 
 -- what a token says is the wanted word, in any case
 abbrev pub is_word : List ℕ → Says → Bool
-is_word wanted (says.Word name) = is_a wanted name
+is_word wanted (says.Word name) = is_same_word wanted name
 is_word wanted _ = false
 
 -- the next token is this word, in any case
@@ -109,18 +109,18 @@ word_first wanted (p ∷ ps) = is_word wanted p.says
 
 -- the next two tokens are this word and `(`
 abbrev pub call_first : List ℕ → List Placed → Bool
-call_first wanted ps = word_first wanted ps && sign_first sign.Open (behind ps)
+call_first wanted ps = word_first wanted ps && next_sign sign.Open (behind ps)
 
 -- the name that a token says, as a word or in brackets
-abbrev pub name_in : Says → Option (List ℕ)
-name_in (says.Word name) = Some name
-name_in (says.Bracketed name) = Some name
-name_in _ = None
+abbrev pub said_name : Says → Option (List ℕ)
+said_name (says.Word name) = Some name
+said_name (says.Bracketed name) = Some name
+said_name _ = None
 
 -- the name that the next token is
-abbrev pub name_first : List Placed → Option (List ℕ)
-name_first [] = None
-name_first (p ∷ ps) = name_in p.says
+abbrev pub next_name : List Placed → Option (List ℕ)
+next_name [] = None
+next_name (p ∷ ps) = said_name p.says
 
 -- ---- reading one token
 
@@ -130,23 +130,23 @@ required (Some x) at = Ok x
 required None at = Err at
 
 -- reads the wanted sign, and fails where anything else comes next
-abbrev pub sign_at : Sign → State → Read (Unit {0})
-sign_at wanted s = if sign_first wanted s.pieces then Ok (tt, after s) else Err (place s)
+abbrev pub read_sign : Sign → State → Read (Unit {0})
+read_sign wanted s = if next_sign wanted s.pieces then Ok (tt, after s) else Err (offset_at s)
 
 -- reads the wanted word in any case, and fails where anything else comes next
 abbrev pub word_at : List ℕ → State → Read (Unit {0})
-word_at wanted s = if word_first wanted s.pieces then Ok (tt, after s) else Err (place s)
+word_at wanted s = if word_first wanted s.pieces then Ok (tt, after s) else Err (offset_at s)
 
 -- reads a name, as a word or in brackets, and fails where anything else comes next
-abbrev pub name_at : State → Read (List ℕ)
-name_at s = do
-  name ← required (name_first s.pieces) (place s)
+abbrev pub read_name : State → Read (List ℕ)
+read_name s = do
+  name ← required (next_name s.pieces) (offset_at s)
   Ok (name, after s)
 
 -- a name, that means nothing here
 abbrev pub any_name_at : State → Read (Unit {0})
 any_name_at s = do
-  name ← required (name_first s.pieces) (place s)
+  name ← required (next_name s.pieces) (offset_at s)
   Ok (tt, after s)
 
 -- ---- repetition

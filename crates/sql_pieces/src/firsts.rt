@@ -1,10 +1,10 @@
 // What the first pieces are.
 ghost use Rattle.std.specs.Prelude.{◌≡◌, IfOk};
 ghost use Rattle.std.specs.Option.{option_copied};
-ghost use Rattle.sql_pieces.specs.Firsts.{is_selector, kind_first, kind_in, literal_first, literal_in, path_first};
-ghost use Rattle.sql_pieces.specs.Firsts.{path_in, selector_first, text_first, truth_in};
-ghost use Rattle.sql_pieces.specs.Reading.{behind, call_first, is_sign, is_word, name_first, name_in, same_sign};
-ghost use Rattle.sql_pieces.specs.Reading.{sign_first, word_first};
+ghost use Rattle.sql_pieces.specs.Firsts.{is_selector, cast_kind_first, cast_kind_in, literal_first, literal_in, path_first};
+ghost use Rattle.sql_pieces.specs.Firsts.{said_path, selector_first, cast_text_first, truth_in};
+ghost use Rattle.sql_pieces.specs.Reading.{behind, call_first, says_sign, is_word, next_name, said_name, is_same_sign};
+ghost use Rattle.sql_pieces.specs.Reading.{next_sign, word_first};
 
 use crate::leaves::{is_a, kind_named};
 use crate::piece::{Placed, Says, Sign};
@@ -23,13 +23,13 @@ pub fn behind(pieces: &[Placed]) -> &[Placed]
 }
 
 fn same_sign(a: Sign, b: Sign) -> bool
-    ensures { result ≡ same_sign a b }
+    ensures { result ≡ is_same_sign a b }
 {
     a == b
 }
 
 fn is_sign(wanted: Sign, says: &Says) -> bool
-    ensures { result ≡ is_sign wanted says.now }
+    ensures { result ≡ says_sign wanted says.now }
 {
     match says {
         Says::Sign(sign) => same_sign(*sign, wanted),
@@ -39,7 +39,7 @@ fn is_sign(wanted: Sign, says: &Says) -> bool
 
 /// Whether the first piece is this sign.
 pub fn sign_first(wanted: Sign, pieces: &[Placed]) -> bool
-    ensures { result ≡ sign_first wanted pieces.now }
+    ensures { result ≡ next_sign wanted pieces.now }
 {
     match pieces {
         [piece, ..] => is_sign(wanted, &piece.says),
@@ -74,7 +74,7 @@ pub fn call_first(wanted: &str, pieces: &[Placed]) -> bool
 }
 
 fn name_in(says: &Says) -> Option<&Name>
-    ensures { option_copied result ≡ name_in says.now }
+    ensures { option_copied result ≡ said_name says.now }
 {
     match says {
         Says::Word(name) => Some(name),
@@ -85,7 +85,7 @@ fn name_in(says: &Says) -> Option<&Name>
 
 /// The name that comes first.
 pub fn name_first(pieces: &[Placed]) -> Option<&Name>
-    ensures { option_copied result ≡ name_first pieces.now }
+    ensures { option_copied result ≡ next_name pieces.now }
 {
     match pieces {
         [piece, ..] => name_in(&piece.says),
@@ -129,7 +129,7 @@ pub fn literal_first(pieces: &[Placed]) -> Result<Option<Value>, AllocError>
 
 /// The text that comes first, with its value in a CAST.
 pub fn text_first(pieces: &[Placed]) -> Result<Option<(Text, Option<Value>)>, AllocError>
-    ensures { IfOk result (λ text. text ≡ text_first pieces.now) }
+    ensures { IfOk result (λ text. text ≡ cast_text_first pieces.now) }
 {
     match pieces {
         [
@@ -144,7 +144,7 @@ pub fn text_first(pieces: &[Placed]) -> Result<Option<(Text, Option<Value>)>, Al
 }
 
 fn kind_in(says: &Says) -> Option<Kind>
-    ensures { result ≡ kind_in says.now }
+    ensures { result ≡ cast_kind_in says.now }
 {
     match says {
         Says::Word(name) => kind_named(name.as_str().as_bytes()),
@@ -154,7 +154,7 @@ fn kind_in(says: &Says) -> Option<Kind>
 
 /// The kind whose word comes first.
 pub fn kind_first(pieces: &[Placed]) -> Option<Kind>
-    ensures { result ≡ kind_first pieces.now }
+    ensures { result ≡ cast_kind_first pieces.now }
 {
     match pieces {
         [piece, ..] => kind_in(&piece.says),
@@ -163,7 +163,7 @@ pub fn kind_first(pieces: &[Placed]) -> Option<Kind>
 }
 
 fn path_in(says: &Says) -> Result<Option<Path>, AllocError>
-    ensures { IfOk result (λ path. path ≡ path_in says.now) }
+    ensures { IfOk result (λ path. path ≡ said_path says.now) }
 {
     match says {
         Says::Path(path) => Ok(Some(path.copy()?)),

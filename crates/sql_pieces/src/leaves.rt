@@ -1,7 +1,7 @@
 // What words mean by themselves: signs, kinds, names among others, bind variables, texts in quotes.
 ghost use Rattle.std.specs.Prelude.{◌≡◌, ◌&&◌, ◌==◌, IfOk, false};
 ghost use Rattle.std.specs.Option.{option_copied};
-ghost use Rattle.sql_pieces.specs.Leaves.{is_a, kind_named, one_sign, place_named, sign_named};
+ghost use Rattle.sql_pieces.specs.Leaves.{is_same_word, kind_of_word, one_sign, place_named, sign_named};
 ghost use Rattle.sql_pieces.specs.Leaves.{two_signs, unquoted, value_named};
 
 use crate::piece::Sign;
@@ -60,14 +60,14 @@ pub(crate) fn sign_named(bytes: &[u8]) -> Option<Sign>
 
 /// Whether a word is another, but for case.
 pub fn is_a(word: &str, text: &[u8]) -> bool
-    ensures { result ≡ is_a word.now text.now }
+    ensures { result ≡ is_same_word word.now text.now }
 {
     word.as_bytes().eq_ignore_ascii_case(text)
 }
 
 // The kind that a word names, in any case.
 pub(crate) fn kind_named(word: &[u8]) -> Option<Kind>
-    ensures { result ≡ kind_named word.now }
+    ensures { result ≡ kind_of_word word.now }
 {
     ALL_KINDS
         .iter()

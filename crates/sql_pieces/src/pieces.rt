@@ -1,6 +1,6 @@
 // Tokens, read one by one for what they say.
 ghost use Rattle.std.specs.Prelude.{◌≡◌, IfOk, length};
-ghost use Rattle.sql_pieces.specs.Pieces.{ArePieces, IsCast, IsPiece, IsReadAs, IsSaid, Means, cast_kind, content, inner, token_bytes, unbracketed, variable_name};
+ghost use Rattle.sql_pieces.specs.Pieces.{AreSqlPieces, IsCast, IsPiece, IsReadAsSql, IsSaidInSql, MeansInSql, cast_kind, token_content, within_quotes, token_bytes, unbracketed, variable_name};
 
 use crate::leaves::{is_a, kind_named, sign_named, unquoted, value_named};
 use crate::piece::{Placed, Says};
@@ -23,7 +23,7 @@ fn token_bytes(text: &[u8], token: Token) -> &[u8]
 
 // Without the first and the last byte.
 fn inner(bytes: &[u8]) -> &[u8]
-    ensures { result.now ≡ inner bytes.now }
+    ensures { result.now ≡ within_quotes bytes.now }
 {
     if bytes.len() < 2 {
         return &[];
@@ -72,7 +72,7 @@ fn word_says(
     vars: &[(Name, Value)],
     cast: Option<Kind>,
 ) -> Result<Says, AllocError>
-    ensures { IfOk result (IsSaid vars.now cast TokenKind.Word text.now) }
+    ensures { IfOk result (IsSaidInSql vars.now cast TokenKind.Word text.now) }
 {
     match name_of(alloc, text)? {
         Some(name) => Ok(Says::Word(name)),
@@ -86,7 +86,7 @@ fn bracketed_says(
     vars: &[(Name, Value)],
     cast: Option<Kind>,
 ) -> Result<Says, AllocError>
-    ensures { IfOk result (IsSaid vars.now cast TokenKind.Bracketed text.now) }
+    ensures { IfOk result (IsSaidInSql vars.now cast TokenKind.Bracketed text.now) }
 {
     match name_of(alloc, text)? {
         Some(name) => Ok(Says::Bracketed(name)),
@@ -113,7 +113,7 @@ fn text_says(
     vars: &[(Name, Value)],
     cast: Option<Kind>,
 ) -> Result<Says, AllocError>
-    ensures { IfOk result (IsSaid vars.now cast TokenKind.Text text.now) }
+    ensures { IfOk result (IsSaidInSql vars.now cast TokenKind.Text text.now) }
 {
     let path = path_of(alloc, text)?;
     let value = cast_of(alloc, text, cast)?;
@@ -122,7 +122,7 @@ fn text_says(
 }
 
 fn number_says(text: &str, vars: &[(Name, Value)], cast: Option<Kind>) -> Says
-    ensures { IsSaid vars.now cast TokenKind.Number text.now result }
+    ensures { IsSaidInSql vars.now cast TokenKind.Number text.now result }
 {
     match whole_number(text) {
         Some(number) => Says::Number(number),
@@ -131,7 +131,7 @@ fn number_says(text: &str, vars: &[(Name, Value)], cast: Option<Kind>) -> Says
 }
 
 fn variable_says(text: &str, vars: &[(Name, Value)], cast: Option<Kind>) -> Result<Says, AllocError>
-    ensures { IfOk result (IsSaid vars.now cast TokenKind.Variable text.now) }
+    ensures { IfOk result (IsSaidInSql vars.now cast TokenKind.Variable text.now) }
 {
     match value_named(vars, text) {
         Some(value) => Ok(Says::Variable(value.copy()?)),
@@ -140,7 +140,7 @@ fn variable_says(text: &str, vars: &[(Name, Value)], cast: Option<Kind>) -> Resu
 }
 
 fn sign_says(text: &str, vars: &[(Name, Value)], cast: Option<Kind>) -> Says
-    ensures { IsSaid vars.now cast TokenKind.Sign text.now result }
+    ensures { IsSaidInSql vars.now cast TokenKind.Sign text.now result }
 {
     match sign_named(text.as_bytes()) {
         Some(sign) => Says::Sign(sign),
@@ -156,7 +156,7 @@ fn text_of_kind_says(
     vars: &[(Name, Value)],
     cast: Option<Kind>,
 ) -> Result<Says, AllocError>
-    ensures { IfOk result (IsSaid vars.now cast kind text.now) }
+    ensures { IfOk result (IsSaidInSql vars.now cast kind text.now) }
 {
     match kind {
         TokenKind::Word => Ok(word_says(alloc, text, vars, cast)?),
@@ -176,7 +176,7 @@ fn bytes_say(
     vars: &[(Name, Value)],
     cast: Option<Kind>,
 ) -> Result<Says, AllocError>
-    ensures { IfOk result (Means vars.now cast kind bytes.now) }
+    ensures { IfOk result (MeansInSql vars.now cast kind bytes.now) }
 {
     match str::from_utf8(bytes) {
         Ok(text) => Ok(text_of_kind_says(alloc, kind, text, vars, cast)?),
@@ -192,7 +192,7 @@ fn token_says(
     vars: &[(Name, Value)],
     cast: Option<Kind>,
 ) -> Result<Says, AllocError>
-    ensures { IfOk result (Means vars.now cast kind (content kind bytes.now)) }
+    ensures { IfOk result (MeansInSql vars.now cast kind (token_content kind bytes.now)) }
 {
     match kind {
         TokenKind::Text => {
@@ -237,7 +237,7 @@ fn token_pieces(
     vars: &[(Name, Value)],
     tokens: &[Token],
 ) -> Result<Vec<Placed>, AllocError>
-    ensures { IfOk result (λ pieces. ArePieces text.now vars.now tokens.now pieces.items) }
+    ensures { IfOk result (λ pieces. AreSqlPieces text.now vars.now tokens.now pieces.items) }
 {
     let mut pieces = Vec::new(alloc);
     let mut rest = tokens;
@@ -255,7 +255,7 @@ pub fn pieces_of(
     text: &str,
     vars: &[(Name, Value)],
 ) -> Result<Vec<Placed>, AllocError>
-    ensures { IfOk result (λ pieces. IsReadAs text.now vars.now pieces.items) }
+    ensures { IfOk result (λ pieces. IsReadAsSql text.now vars.now pieces.items) }
 {
     let front = cut(alloc, text)?;
     let mut pieces = token_pieces(alloc, text.as_bytes(), vars, front.tokens.as_slice())?;

@@ -20,17 +20,17 @@ use Rattle.sql_query.specs.declared.query.On.{On}
 use Rattle.sql_query.specs.declared.query.On.TheVariants as join_on
 use Rattle.sql_query.specs.declared.query.PropertyOf.{PropertyOf}
 use Rattle.sql_query.specs.declared.query.Operator.TheVariants as op
-use Rattle.sql_eval.specs.Conditions.{Spot, Tuple, is_child, is_descendant, is_same, property_in, property_of, spot_of}
+use Rattle.sql_eval.specs.Conditions.{Spot, Tuple, is_child, is_descendant, is_same_node, property_in, tuple_property, spot_of}
 use Rattle.sql_eval.specs.Joins.{joins, paths_pass, with_spot}
 use Rattle.sql_eval.specs.Keys.{kinds_first_total}
 use Rattle.sql_values.specs.Values.{compares, some_equal, values_in}
-use Rattle.sql_plan.specs.Index.{Sought, Any as AnyKey, Value, Path, is_same_key, key_cmp, path_in, value_in}
-use Rattle.sql_plan.specs.Links.{Equal as EqualBy, Paths, above, chosen, equal_link, keys_of_node, keys_of_tuple, link_of, paths_link, reached, reached_by, values_sought}
+use Rattle.sql_plan.specs.Index.{Sought, Any as AnyKey, Value, Path, is_same_key, key_cmp, path_in, sought_value}
+use Rattle.sql_plan.specs.Links.{Equal as EqualBy, Paths, paths_above, chosen, equal_link, keys_of_node, keys_of_tuple, link_of, paths_link, reached, reached_by, values_sought}
 use Rattle.sql_plan.specs.declared.link.Reach.{Reach}
 use Rattle.sql_plan.specs.declared.link.Reach.TheVariants.{Itself, Parent, Above}
 
 pub key_total : IsTotalOrder key_cmp
-key_total = then_total (on_total value_in (options_total kinds_first_total)) (on_total path_in (options_total path_total))
+key_total = then_total (on_total sought_value (options_total kinds_first_total)) (on_total path_in (options_total path_total))
 
 -- a key of the first list and one of the second are the same
 pub record Common (ks ms : List Sought) : Type 0 where
@@ -111,24 +111,24 @@ path_itself p = ap is_eq (itself (key_cmp (Path p) (Path p)) (key_total.antisymm
 paths_meet : (ks ms : List Sought) (p : PathOf) → Contains ks (Path p) → Contains ms (Path p) → Common ks ms
 paths_meet ks ms p a b = record { k = Path p; m = Path p; in_ks = a; in_ms = b; same = path_itself p }
 
-above_has : (p q : PathOf) → is_under p q ≡ true → is_same p q ≡ false → Contains (above p) q
+above_has : (p q : PathOf) → is_under p q ≡ true → is_same_node p q ≡ false → Contains (paths_above p) q
 above_has [] [] u n = absurd (false≢true (sym n))
 above_has [] (m ∷ q) u n = absurd (false≢true u)
-above_has (n ∷ p) [] u s = here [] (map (λ q. n ∷ q) (above p))
+above_has (n ∷ p) [] u s = here [] (map (λ q. n ∷ q) (paths_above p))
 above_has (n ∷ p) (m ∷ q) u s =
     let parts : (eq_by_cmp name_cmp m n ≡ true) × (is_under p q ≡ true) = and_parts _ _ u in
     let name : n ≡ m = sym (name_exact m n (exactly _ parts.0)) in
     let back : is_eq (name_cmp n m) ≡ true = ap is_eq (nat_list_cmp_total.antisymm n m) ∙ back_equal (name_cmp m n) parts.0 in
-    let other : is_same p q ≡ false = rest (name_cmp n m) back s in
-    Contains-append_right ([] ∷ []) (map (λ r. n ∷ r) (above p)) (m ∷ q)
-    (subst (λ k. Contains (map (λ r. n ∷ r) (above p)) (k ∷ q)) name (contains_map (λ r. n ∷ r) (above p) q (above_has p q parts.1 other)))
+    let other : is_same_node p q ≡ false = rest (name_cmp n m) back s in
+    Contains-append_right ([] ∷ []) (map (λ r. n ∷ r) (paths_above p)) (m ∷ q)
+    (subst (λ k. Contains (map (λ r. n ∷ r) (paths_above p)) (k ∷ q)) name (contains_map (λ r. n ∷ r) (paths_above p) q (above_has p q parts.1 other)))
   where
     rest : (o : Ordering) → is_eq o ≡ true → is_eq (ordering_then o (path_cmp p q)) ≡ false → is_eq (path_cmp p q) ≡ false
     rest Less e h = absurd (false≢true e)
     rest Equal e h = h
     rest Greater e h = absurd (false≢true e)
 
-same_reached : (p q : PathOf) → is_same p q ≡ true → Contains (reached Itself p) (Path q)
+same_reached : (p q : PathOf) → is_same_node p q ≡ true → Contains (reached Itself p) (Path q)
 same_reached p q h = subst (λ r. Contains (reached Itself p) (Path r)) (path_exact p q (exactly _ h)) (here (Path p) [])
 
 child_reached : (p q : PathOf) → is_child p q ≡ true → Contains (reached Parent p) (Path q)
@@ -140,8 +140,8 @@ child_reached p q h = by (parent_of p) h
 
 descendant_reached : (p q : PathOf) → is_descendant p q ≡ true → Contains (reached Above p) (Path q)
 descendant_reached p q h =
-    let parts : (is_under p q ≡ true) × (not (is_same p q) ≡ true) = and_parts _ _ h in
-    contains_map Path (above p) q (above_has p q parts.0 (unsame (is_same p q) parts.1))
+    let parts : (is_under p q ≡ true) × (not (is_same_node p q) ≡ true) = and_parts _ _ h in
+    contains_map Path (paths_above p) q (above_has p q parts.0 (unsame (is_same_node p q) parts.1))
   where
     unsame : (b : Bool) → not b ≡ true → b ≡ false
     unsame true e = sym e
@@ -168,7 +168,7 @@ spot_at l r k false e = other_spot l r k (eqb-false k (length l) e)
 any_meets : Common (AnyKey ∷ []) (AnyKey ∷ [])
 any_meets = record { k = AnyKey; m = AnyKey; in_ks = here AnyKey []; in_ms = here AnyKey []; same = refl }
 
-equal_meets : (p q : PropertyOf) (l : Tuple) (r : Spot) → some_equal (property_of (with_spot l r) p) (property_of (with_spot l r) q) ≡ true → Common (keys_of_tuple (equal_link p q (length l)) l) (keys_of_node (equal_link p q (length l)) r)
+equal_meets : (p q : PropertyOf) (l : Tuple) (r : Spot) → some_equal (tuple_property (with_spot l r) p) (tuple_property (with_spot l r) q) ≡ true → Common (keys_of_tuple (equal_link p q (length l)) l) (keys_of_node (equal_link p q (length l)) r)
 equal_meets p q l r h = by (nat_eq p.selector (length l)) (nat_eq q.selector (length l)) refl refl
   where
     both : (s u : Option Spot) → spot_of (with_spot l r) p.selector ≡ s → spot_of (with_spot l r) q.selector ≡ u → Common (values_sought (values_in (property_in s p.name))) (values_sought (values_in (property_in u q.name)))
@@ -204,6 +204,6 @@ module _ (f : PathOf → PathOf → Bool) (reach : Reach) (reaches : (p q : Path
 -- what is joined has a key in common
 pub meets : (on : On) (l : Tuple) (r : Spot) → joins on (with_spot l r) ≡ true → Common (keys_of_tuple (link_of on (length l)) l) (keys_of_node (link_of on (length l)) r)
 meets (join_on.Equal p q) l r h = equal_meets p q l r h
-meets (join_on.Same a b) l r h = path_meets is_same Itself same_reached a b l r h
+meets (join_on.Same a b) l r h = path_meets is_same_node Itself same_reached a b l r h
 meets (join_on.Child a b) l r h = path_meets is_child Parent child_reached a b l r h
 meets (join_on.Descendant a b) l r h = path_meets is_descendant Above descendant_reached a b l r h

@@ -4,7 +4,7 @@ use Rattle.std.specs.List.{Contains, list_any}
 use Rattle.std.proofs.lemmas.List.{map-append, take_more, take_all}
 use Rattle.std.proofs.lemmas.List.Elements.{Contains-append_left, Contains-append_right}
 use Rattle.sql_plan.specs.Index.{Sought, Path}
-use Rattle.sql_plan.specs.Links.{above}
+use Rattle.sql_plan.specs.Links.{paths_above}
 use Rattle.jr_path.specs.declared.path.Path.{Path as PathOf}
 use Rattle.sql_plan.proofs.Meets.{contains_map}
 
@@ -44,34 +44,34 @@ more_places {K = K} {E = E} sought same holds entry place keys i key old new es 
 
 -- ---- the paths above one, one more
 
-length_above : (p : PathOf) → length (above p) ≡ length p
+length_above : (p : PathOf) → length (paths_above p) ≡ length p
 length_above [] = refl
-length_above (n ∷ p) = ap suc (length_map (above p) ∙ length_above p)
+length_above (n ∷ p) = ap suc (length_map (paths_above p) ∙ length_above p)
   where
     length_map : (ps : List PathOf) → length (map (λ q. n ∷ q) ps) ≡ length ps
     length_map [] = refl
     length_map (q ∷ ps) = ap suc (length_map ps)
 
-take_above : (p : PathOf) (d : ℕ) → d < length p → take (suc d) (above p) ≡ take d (above p) ++ take d p ∷ []
+take_above : (p : PathOf) (d : ℕ) → d < length p → take (suc d) (paths_above p) ≡ take d (paths_above p) ++ take d p ∷ []
 take_above [] d h = absurd (omega (arith, h))
 take_above (n ∷ p) zero h = refl
 take_above (n ∷ p) (suc d) h =
-    ap (λ ps. [] ∷ ps) (take_map (suc d) (above p) ∙ ap (map (λ q. n ∷ q)) (take_above p d (omega (arith, h))) ∙ map-append (λ q. n ∷ q) (take d (above p)) (take d p ∷ []) ∙ ap (λ ps. ps ++ (n ∷ take d p) ∷ []) (sym (take_map d (above p))))
+    ap (λ ps. [] ∷ ps) (take_map (suc d) (paths_above p) ∙ ap (map (λ q. n ∷ q)) (take_above p d (omega (arith, h))) ∙ map-append (λ q. n ∷ q) (take d (paths_above p)) (take d p ∷ []) ∙ ap (λ ps. ps ++ (n ∷ take d p) ∷ []) (sym (take_map d (paths_above p))))
   where
     take_map : (k : ℕ) (ps : List PathOf) → take k (map (λ q. n ∷ q) ps) ≡ map (λ q. n ∷ q) (take k ps)
     take_map zero ps = refl
     take_map (suc k) [] = refl
     take_map (suc k) (q ∷ ps) = ap (λ r. (n ∷ q) ∷ r) (take_map k ps)
 
-pub above_more : {K : Type 0} (sought : K → Sought) (p : PathOf) (d : ℕ) (first old new : List K) (key : K) → d < length p → map sought old ≡ map sought first ++ map Path (take d (above p)) → new ≡ old ++ key ∷ [] → sought key ≡ Path (take d p)
-    → map sought new ≡ map sought first ++ map Path (take (d + 1) (above p))
+pub above_more : {K : Type 0} (sought : K → Sought) (p : PathOf) (d : ℕ) (first old new : List K) (key : K) → d < length p → map sought old ≡ map sought first ++ map Path (take d (paths_above p)) → new ≡ old ++ key ∷ [] → sought key ≡ Path (take d p)
+    → map sought new ≡ map sought first ++ map Path (take (d + 1) (paths_above p))
 above_more sought p d first old new key within before pushed is =
     let next : d + 1 ≡ suc d = omega arith in
     ap (map sought) pushed
     ∙ map-append sought old (key ∷ [])
     ∙ (λ i. before i ++ is i ∷ [])
-    ∙ append_assoc (map sought first) (map Path (take d (above p))) (Path (take d p) ∷ [])
-    ∙ ap (λ ks. map sought first ++ ks) (sym (map-append Path (take d (above p)) (take d p ∷ [])) ∙ ap (map Path) (sym (take_above p d within) ∙ ap (λ k. take k (above p)) (sym next)))
+    ∙ append_assoc (map sought first) (map Path (take d (paths_above p))) (Path (take d p) ∷ [])
+    ∙ ap (λ ks. map sought first ++ ks) (sym (map-append Path (take d (paths_above p)) (take d p ∷ [])) ∙ ap (map Path) (sym (take_above p d within) ∙ ap (λ k. take k (paths_above p)) (sym next)))
 
-pub above_all : {K : Type 0} (sought : K → Sought) (p : PathOf) (d : ℕ) (first last : List K) → length p ≤ d → map sought last ≡ map sought first ++ map Path (take d (above p)) → map sought last ≡ map sought first ++ map Path (above p)
-above_all sought p d first last end h = h ∙ ap (λ ps. map sought first ++ map Path ps) (take_all d (above p) (omega (arith, length_above p, end)))
+pub above_all : {K : Type 0} (sought : K → Sought) (p : PathOf) (d : ℕ) (first last : List K) → length p ≤ d → map sought last ≡ map sought first ++ map Path (take d (paths_above p)) → map sought last ≡ map sought first ++ map Path (paths_above p)
+above_all sought p d first last end h = h ∙ ap (λ ps. map sought first ++ map Path ps) (take_all d (paths_above p) (omega (arith, length_above p, end)))

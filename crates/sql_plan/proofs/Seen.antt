@@ -17,15 +17,15 @@ use Rattle.sql_query.specs.declared.query.On.{On}
 use Rattle.sql_query.specs.declared.query.Operand.{Operand}
 use Rattle.sql_query.specs.declared.query.Operand.TheVariants as operand
 use Rattle.sql_query.specs.declared.query.PropertyOf.{PropertyOf}
-use Rattle.sql_eval.specs.Conditions.{Spot, Tuple, holds, operand_of, property_in, property_of, spot_of}
-use Rattle.sql_eval.specs.Joins.{is_lonely_spot, is_lonely_tuple, joined, joined_all, joins, lonely, lonely_spots, lonely_tuples, nodes_of_type, pairs, tuples_of, with_spot}
-use Rattle.sql_eval.specs.Conditions.{is_child, is_descendant, is_same, name_of, path_passes}
+use Rattle.sql_eval.specs.Conditions.{Spot, Tuple, holds, operand_of, property_in, tuple_property, spot_of}
+use Rattle.sql_eval.specs.Joins.{is_lonely_spot, is_lonely_tuple, joined_tuples, joined_all, joins, lonely, lonely_spots, lonely_tuples, nodes_of_type, pairs, tuples_of, with_spot}
+use Rattle.sql_eval.specs.Conditions.{is_child, is_descendant, is_same_node, node_name, path_passes}
 use Rattle.sql_eval.specs.Rows.{that_pass}
 use Rattle.sql_values.specs.Texts.{lengths_of, local_part}
 use Rattle.sql_values.specs.Values.{some_compares}
 use Rattle.jr_value.specs.declared.value.Value.TheVariants as value
 use Rattle.jr_value.specs.declared.value.Property.TheVariants.{Single}
-use Rattle.sql_plan.specs.Early.{alone, asked, asked_in, asks_only, early_nodes, is_right_outer, joined_early, kind_is, looks_only, only_asked, passes, tuples_early}
+use Rattle.sql_plan.specs.Early.{alone, asked_early, asked_in, asks_only, early_nodes, is_right_outer, joined_early, kind_is, looks_only, only_asked, passes, tuples_early}
 use Rattle.sql_plan.proofs.Meets.{own_spot}
 
 -- ---- a condition that asks of one selector
@@ -34,14 +34,14 @@ module _ (s : ℕ) (t u : Tuple) (same : spot_of t s ≡ spot_of u s) where
   same_spot : (k : ℕ) → (k == s) ≡ true → spot_of t k ≡ spot_of u k
   same_spot k h = let e : k ≡ s = eqb-true k s h in ap (spot_of t) e ∙ same ∙ ap (spot_of u) (sym e)
 
-  same_property : (p : PropertyOf) → (p.selector == s) ≡ true → property_of t p ≡ property_of u p
+  same_property : (p : PropertyOf) → (p.selector == s) ≡ true → tuple_property t p ≡ tuple_property u p
   same_property p h = ap (λ o. property_in o p.name) (same_spot p.selector h)
 
   same_operand : (o : Operand) → looks_only s o ≡ true → operand_of t o ≡ operand_of u o
   same_operand (operand.Property p) h = same_property p h
   same_operand (operand.Length p) h = ap (option_map lengths_of) (same_property p h)
-  same_operand (operand.Name k) h = ap (option_map (λ e. Single (value.Str (name_of e.0)))) (same_spot k h)
-  same_operand (operand.LocalName k) h = ap (option_map (λ e. Single (value.Str (local_part (name_of e.0))))) (same_spot k h)
+  same_operand (operand.Name k) h = ap (option_map (λ e. Single (value.Str (node_name e.0)))) (same_spot k h)
+  same_operand (operand.LocalName k) h = ap (option_map (λ e. Single (value.Str (local_part (node_name e.0))))) (same_spot k h)
   same_operand (operand.Lower' b o) h = rw (same_operand o h) refl
   same_operand (operand.Upper' b o) h = rw (same_operand o h) refl
 
@@ -51,7 +51,7 @@ module _ (s : ℕ) (t u : Tuple) (same : spot_of t s ≡ spot_of u s) where
   same_holds (condition.Or' b c d e) h = let parts = and_parts _ _ h in λ i. same_holds c parts.0 i || same_holds e parts.1 i
   same_holds (condition.Has p) h = ap is_some (same_property p h)
   same_holds (condition.Compare o operator x) h = ap (λ v. some_compares operator v x) (same_operand o h)
-  same_holds (condition.Same k q) h = ap (path_passes (λ p. is_same p q)) (same_spot k h)
+  same_holds (condition.Same k q) h = ap (path_passes (λ p. is_same_node p q)) (same_spot k h)
   same_holds (condition.Child k q) h = ap (path_passes (λ p. is_child p q)) (same_spot k h)
   same_holds (condition.Descendant k q) h = ap (path_passes (λ p. is_descendant p q)) (same_spot k h)
 
@@ -108,7 +108,7 @@ module _ (s : ℕ) where
 abbrev pub hold : Option Condition → Tuple → Bool
 hold asks t = option_map_or (holds t) asks true
 
-asked_hold : (asks : Option Condition) (s : ℕ) (outer : Bool) (later : List Join) (t : Tuple) → hold asks t ≡ true → list_all (holds t) (asked asks s outer later) ≡ true
+asked_hold : (asks : Option Condition) (s : ℕ) (outer : Bool) (later : List Join) (t : Tuple) → hold asks t ≡ true → list_all (holds t) (asked_early asks s outer later) ≡ true
 asked_hold asks s outer later t h = by (outer || list_any is_right_outer later) (of asks h)
   where
     of : (asks : Option Condition) → hold asks t ≡ true → list_all (holds t) (option_map_or (asked_in s) asks []) ≡ true
@@ -119,7 +119,7 @@ asked_hold asks s outer later t h = by (outer || list_any is_right_outer later) 
     by true e = refl
     by false e = e
 
-pub asked_only : (asks : Option Condition) (s : ℕ) (outer : Bool) (later : List Join) → AllByRecursion (λ d. asks_only s d ≡ true) (asked asks s outer later)
+pub asked_only : (asks : Option Condition) (s : ℕ) (outer : Bool) (later : List Join) → AllByRecursion (λ d. asks_only s d ≡ true) (asked_early asks s outer later)
 asked_only asks s outer later = by (outer || list_any is_right_outer later) (of asks)
   where
     of : (asks : Option Condition) → AllByRecursion (λ d. asks_only s d ≡ true) (option_map_or (asked_in s) asks [])
@@ -231,7 +231,7 @@ sized_lonely LeftOuter on n ls rs all =
     each_map (λ l. l ++ None ∷ []) _ (filter (is_lonely_tuple on rs) ls) (weaker (λ l e. longer l None ∙ ap (λ k. k + 1) e) _ (each_filter _ (is_lonely_tuple on rs) ls all))
 sized_lonely RightOuter on n ls rs all = each_map (alone n) _ (filter (is_lonely_spot on ls) rs) (each (λ r. length_alone n r) _)
 
-pub sized_joined : (j : Join) (n : ℕ) (ls : List Tuple) (rs : List Spot) → Sized n ls → Sized (n + 1) (joined j n ls rs)
+pub sized_joined : (j : Join) (n : ℕ) (ls : List Tuple) (rs : List Spot) → Sized n ls → Sized (n + 1) (joined_tuples j n ls rs)
 sized_joined j n ls rs all = each_append _ (pairs j.on ls rs) (lonely j.kind j.on n ls rs) (sized_pairs j.on n ls rs all) (sized_lonely j.kind j.on n ls rs all)
 
 module _ (n : ℕ) (g g' : Tuple → Bool) (local : (l : Tuple) (x : Option Spot) → length l ≡ n → g' (l ++ x ∷ []) ≡ true → g l ≡ true) where
@@ -288,7 +288,7 @@ module _ (n : ℕ) (g g' : Tuple → Bool) (local : (l : Tuple) (x : Option Spot
 
       seen : (j : Join) (ls ls' : List Tuple) (rs : List Spot) → Sized n ls → Sized n ls' → filter g ls' ≡ filter g ls
           → (kind_is LeftOuter j.kind ≡ true → (r : Spot) → q r ≡ true) → (kind_is RightOuter j.kind ≡ true → (l : Tuple) → g l ≡ true)
-          → filter g' (joined j n ls' (filter q rs)) ≡ filter g' (joined j n ls rs)
+          → filter g' (joined_tuples j n ls' (filter q rs)) ≡ filter g' (joined_tuples j n ls rs)
       seen j ls ls' rs all all' same left right =
           filter-append g' (pairs j.on ls' (filter q rs)) (lonely j.kind j.on n ls' (filter q rs))
           ∙ (λ i. seen_pairs j.on ls ls' rs all all' same i ++ seen_lonely j.kind j.on ls ls' rs all all' same left right i)
@@ -319,7 +319,7 @@ or_true false = refl
 or_left : (b c : Bool) → b ≡ true → (b || c) ≡ true
 or_left b c e = ap (λ d. d || c) e
 
-asked_none : (asks : Option Condition) (s : ℕ) (outer : Bool) (later : List Join) → (outer || list_any is_right_outer later) ≡ true → asked asks s outer later ≡ []
+asked_none : (asks : Option Condition) (s : ℕ) (outer : Bool) (later : List Join) → (outer || list_any is_right_outer later) ≡ true → asked_early asks s outer later ≡ []
 asked_none asks s outer later e = ap (λ b. cond b [] (option_map_or (asked_in s) asks [])) e
 
 module _ (asks : Option Condition) (tree : Nodes) where
@@ -332,11 +332,11 @@ module _ (asks : Option Condition) (tree : Nodes) where
   early_joins [] sets n ls ls' g local needs right all all' same = sym (refine g (hold asks) needs ls') ∙ ap (filter (hold asks)) same ∙ refine g (hold asks) needs ls
   early_joins (j ∷ js) [] n ls ls' g local needs right all all' same = sym (refine g (hold asks) needs ls') ∙ ap (filter (hold asks)) same ∙ refine g (hold asks) needs ls
   early_joins (j ∷ js) (set ∷ sets) n ls ls' g local needs right all all' same =
-      let parts : List Condition = asked asks n (kind_is LeftOuter j.kind) js in
+      let parts : List Condition = asked_early asks n (kind_is LeftOuter j.kind) js in
       let only : AllByRecursion (λ d. asks_only n d ≡ true) parts = asked_only asks n (kind_is LeftOuter j.kind) js in
       let nodes : List Spot = nodes_of_type tree set in
       let next : Tuple → Bool = λ t. g t && list_all (holds t) parts in
-      early_joins js sets (n + 1) (joined j n ls nodes) (joined j n ls' (early_nodes tree set parts n)) next
+      early_joins js sets (n + 1) (joined_tuples j n ls nodes) (joined_tuples j n ls' (early_nodes tree set parts n)) next
       (λ l x h. λ i. local l x (omega (arith, h)) i && all_same n (l ++ x ∷ []) l (spot_before l x n (omega (arith, h))) parts only i)
       (λ t h. and_from _ _ (needs t h) (asked_hold asks n (kind_is LeftOuter j.kind) js t h))
       (λ e l. and_from _ _ (right (ap (λ b. is_right_outer j || b) e ∙ or_true (is_right_outer j)) l)
@@ -354,7 +354,7 @@ module _ (asks : Option Condition) (tree : Nodes) where
   early_tuples : (js : List Join) (sets : List (List Name)) → filter (hold asks) (tuples_early asks tree js sets) ≡ filter (hold asks) (tuples_of tree js sets)
   early_tuples js [] = refl
   early_tuples js (set ∷ sets) =
-      let parts : List Condition = asked asks 0 false js in
+      let parts : List Condition = asked_early asks 0 false js in
       let only : AllByRecursion (λ d. asks_only 0 d ≡ true) parts = asked_only asks 0 false js in
       let nodes : List Spot = nodes_of_type tree set in
       let single : Spot → Tuple = λ e. Some e ∷ [] in

@@ -14,7 +14,7 @@ use Rattle.sql_query.specs.declared.query.JoinKind.TheVariants.{Inner, LeftOuter
 use Rattle.jr_path.specs.declared.name.Name.{Name}
 use Rattle.jr_tree.specs.Trees.{Nodes}
 use Rattle.sql_eval.specs.Conditions.{Spot, Tuple, holds}
-use Rattle.sql_eval.specs.Joins.{joined, nodes_of_type}
+use Rattle.sql_eval.specs.Joins.{joined_tuples, nodes_of_type}
 
 -- two kinds of joins are equal
 abbrev pub kind_is : JoinKind → JoinKind → Bool
@@ -58,8 +58,8 @@ is_right_outer j = kind_is RightOuter j.kind
 
 -- what may be asked of a selector before the join: nothing where an outer join may put a tuple without a node in the
 -- place of one that is refused
-abbrev pub asked : Option Condition → ℕ → Bool → List Join → List Condition
-asked asks s is_outer later = if is_outer || list_any is_right_outer later then [] else option_map_or (asked_in s) asks []
+abbrev pub asked_early : Option Condition → ℕ → Bool → List Join → List Condition
+asked_early asks s is_outer later = if is_outer || list_any is_right_outer later then [] else option_map_or (asked_in s) asks []
 
 -- a node behind so many missing ones
 abbrev pub alone : ℕ → Spot → Tuple
@@ -78,13 +78,13 @@ abbrev pub joined_early : Option Condition → Nodes → ℕ → List Tuple → 
 joined_early asks tree n ls [] sets = ls
 joined_early asks tree n ls (j ∷ js) [] = ls
 joined_early asks tree n ls (j ∷ js) (set ∷ sets) =
-    joined_early asks tree (n + 1) (joined j n ls (early_nodes tree set (asked asks n (kind_is LeftOuter j.kind) js) n)) js sets
+    joined_early asks tree (n + 1) (joined_tuples j n ls (early_nodes tree set (asked_early asks n (kind_is LeftOuter j.kind) js) n)) js sets
 
 -- the tuples of all selectors, each asked early
 abbrev pub tuples_early : Option Condition → Nodes → List Join → List (List Name) → List Tuple
 tuples_early asks tree js [] = []
 tuples_early asks tree js (set ∷ sets) =
-    joined_early asks tree 1 (map (λ e. Some e ∷ []) (early_nodes tree set (asked asks 0 false js) 0)) js sets
+    joined_early asks tree 1 (map (λ e. Some e ∷ []) (early_nodes tree set (asked_early asks 0 false js) 0)) js sets
 
 -- the path at or below which a condition asks for a node
 abbrev pub path_in : Condition → Option Path

@@ -24,9 +24,9 @@ sought (key.Value x) = Value x.now
 sought (key.Path p) = Path p.now
 
 -- the value that is sought, if it is one
-abbrev pub value_in : Sought → Option ValueOf
-value_in (Value x) = Some x
-value_in _ = None
+abbrev pub sought_value : Sought → Option ValueOf
+sought_value (Value x) = Some x
+sought_value _ = None
 
 -- the path that is sought, if it is one
 abbrev pub path_in : Sought → Option PathOf
@@ -35,7 +35,7 @@ path_in _ = None
 
 -- values by their kinds and within one kind by their order, paths name by name
 abbrev pub key_cmp : Sought → Sought → Ordering
-key_cmp = then_cmp (on value_in (option_cmp kinds_first)) (on path_in (option_cmp path_cmp))
+key_cmp = then_cmp (on sought_value (option_cmp kinds_first)) (on path_in (option_cmp path_cmp))
 
 -- two keys are equal in their order
 abbrev pub is_same_key : Sought → Sought → Bool

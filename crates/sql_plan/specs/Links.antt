@@ -9,7 +9,7 @@ use Rattle.jr_value.specs.declared.value.Value.{Value as ValueOf}
 use Rattle.sql_query.specs.declared.query.On.{On}
 use Rattle.sql_query.specs.declared.query.On.TheVariants as join_on
 use Rattle.sql_query.specs.declared.query.PropertyOf.{PropertyOf}
-use Rattle.sql_eval.specs.Conditions.{Spot, Tuple, property_in, property_of, spot_of}
+use Rattle.sql_eval.specs.Conditions.{Spot, Tuple, property_in, tuple_property, spot_of}
 use Rattle.sql_values.specs.Values.{values_in}
 use Rattle.sql_plan.specs.Index.{Sought, Any, Value, Path}
 use Rattle.sql_plan.specs.declared.link.Link.{Link}
@@ -55,15 +55,15 @@ abbrev pub values_sought : List ValueOf → List Sought
 values_sought xs = map Value xs
 
 -- the paths above one, from the root on
-abbrev pub above : PathOf → List PathOf
-above [] = []
-above (n ∷ ns) = [] ∷ map (λ p. n ∷ p) (above ns)
+abbrev pub paths_above : PathOf → List PathOf
+paths_above [] = []
+paths_above (n ∷ ns) = [] ∷ map (λ p. n ∷ p) (paths_above ns)
 
 -- the paths that a node reaches
 abbrev pub reached : Reach → PathOf → List Sought
 reached Itself p = Path p ∷ []
 reached Parent p = option_map_or (λ q. Path q ∷ []) (parent_of p) []
-reached Above p = map Path (above p)
+reached Above p = map Path (paths_above p)
 
 -- the paths that a node of a tuple reaches; none where the node is missing
 abbrev pub reached_by : Reach → Option Spot → List Sought
@@ -72,7 +72,7 @@ reached_by reach s = option_map_or (λ e. reached reach e.0) s []
 -- the keys of a tuple, and of a node
 abbrev pub keys_of_tuple : Linked → Tuple → List Sought
 keys_of_tuple All t = Any ∷ []
-keys_of_tuple (Equal p n) t = values_sought (values_in (property_of t p))
+keys_of_tuple (Equal p n) t = values_sought (values_in (tuple_property t p))
 keys_of_tuple (Paths selector a b) t = reached_by a (spot_of t selector)
 
 -- the keys of a node of the new selector

@@ -8,7 +8,7 @@ ghost use Rattle.jr_path.specs.Names.{path_cmp};
 ghost use Rattle.sql_query.specs.declared.query.JoinKind.TheVariants.{LeftOuter};
 ghost use Rattle.sql_eval.specs.Conditions.{holds};
 ghost use Rattle.sql_eval.specs.Joins.{type_properties};
-ghost use Rattle.sql_plan.specs.Early.{asked, asked_in, asks_only, early_nodes, is_right_outer, kind_is, looks_only, only_asked, passes};
+ghost use Rattle.sql_plan.specs.Early.{asked_early, asked_in, asks_only, early_nodes, is_right_outer, kind_is, looks_only, only_asked, passes};
 
 use crate::range::range_of;
 use jr_path::Name;
@@ -26,7 +26,7 @@ pub(crate) fn asked_early<'q>(
     is_outer: bool,
     later: &[Join],
 ) -> Result<Vec<&'q Condition>, AllocError>
-    ensures { IfOk result (λ parts. map deref parts.items ≡ asked (option_copied filter.entry) selector is_outer later.now) }
+    ensures { IfOk result (λ parts. map deref parts.items ≡ asked_early (option_copied filter.entry) selector is_outer later.now) }
 {
     let mut parts = Vec::new(alloc);
     if let Some(condition) = filter {

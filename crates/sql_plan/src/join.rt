@@ -2,7 +2,7 @@
 ghost use Rattle.std.specs.Prelude.{◌≡◌, ◌+◌, ◌∷◌, ◌++◌, ℕ, [], None, Some, true, IfOk, OnOk, length, map, not};
 ghost use Rattle.std.specs.List.{AllByRecursion, Contains, filter, list_any};
 ghost use Rattle.std.specs.Map.Iter.{deref_pair};
-ghost use Rattle.sql_eval.specs.Joins.{is_lonely_spot, is_lonely_tuple, joined, joins, lonely_spots, lonely_tuples, pairs, with_spot};
+ghost use Rattle.sql_eval.specs.Joins.{is_lonely_spot, is_lonely_tuple, joined_tuples, joins, lonely_spots, lonely_tuples, pairs, with_spot};
 ghost use Rattle.sql_plan.specs.Index.{Sought, placed_key, sought};
 ghost use Rattle.sql_plan.specs.Links.{at_places, keys_of_node, keys_of_tuple, link_of, linked, placed};
 
@@ -21,7 +21,7 @@ pub(crate) fn joined<'a>(
     right: &[Spot<'a>],
 ) -> Result<Vec<Tuple<'a>>, AllocError>
     requires { AllByRecursion (λ l. length l ≡ count) left.now }
-    ensures { IfOk result (λ tuples. tuples.items ≡ joined join.now count left.now (map deref_pair right.now)) }
+    ensures { IfOk result (λ tuples. tuples.items ≡ joined_tuples join.now count left.now (map deref_pair right.now)) }
 {
     let link = link_of(&join.on, count);
     let nodes = index_of_nodes(alloc, &link, right)?;

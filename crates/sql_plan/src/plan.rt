@@ -7,7 +7,7 @@ ghost use Rattle.jr_path.specs.Names.{path_cmp};
 ghost use Rattle.sql_query.specs.declared.query.JoinKind.TheVariants.{LeftOuter};
 ghost use Rattle.sql_eval.specs.Joins.{type_properties};
 ghost use Rattle.sql_eval.specs.Rows.{AreRows, filtered};
-ghost use Rattle.sql_plan.specs.Early.{asked, early_nodes, kind_is, tuples_early};
+ghost use Rattle.sql_plan.specs.Early.{asked_early, early_nodes, kind_is, tuples_early};
 
 use crate::early::{asked_early, is_left_outer, nodes_of};
 use crate::join::joined;
@@ -117,7 +117,7 @@ fn first_tuples<'a>(
 ) -> Result<Vec<Tuple<'a>>, AllocError>
     requires properties { properties.now ≡ type_properties }
     requires sorted { IsTrue (is_sorted path_cmp (map deref_pair nodes.now)) }
-    ensures { IfOk result (λ tuples. tuples.items ≡ map (λ e. Some e ∷ []) (early_nodes (map deref_pair nodes.now) set.now (asked (option_copied filter.entry) 0 false joins.now) 0)) }
+    ensures { IfOk result (λ tuples. tuples.items ≡ map (λ e. Some e ∷ []) (early_nodes (map deref_pair nodes.now) set.now (asked_early (option_copied filter.entry) 0 false joins.now) 0)) }
 {
     let parts = asked_early(alloc, filter, 0, false, joins)?;
     let spots = nodes_of(alloc, nodes, properties, set, &parts, 0)?;
@@ -137,7 +137,7 @@ fn spots_of<'a>(
 ) -> Result<Vec<Spot<'a>>, AllocError>
     requires properties { properties.now ≡ type_properties }
     requires sorted { IsTrue (is_sorted path_cmp (map deref_pair nodes.now)) }
-    ensures { IfOk result (λ spots. map deref_pair spots.items ≡ early_nodes (map deref_pair nodes.now) set.now (asked (option_copied filter.entry) selector (kind_is LeftOuter join.now.kind) later.now) selector) }
+    ensures { IfOk result (λ spots. map deref_pair spots.items ≡ early_nodes (map deref_pair nodes.now) set.now (asked_early (option_copied filter.entry) selector (kind_is LeftOuter join.now.kind) later.now) selector) }
 {
     let parts = asked_early(alloc, filter, selector, is_left_outer(join), later)?;
     nodes_of(alloc, nodes, properties, set, &parts, selector)

@@ -39,7 +39,7 @@ pub record By : Type 0 where
   pub direction : Direction
 
 -- a query
-pub record Asked : Type 0 where
+pub record AskedQuery : Type 0 where
   pub types : List (List ℕ)
   pub joins : List Join
   pub columns : List Column
@@ -80,5 +80,5 @@ abbrev pub rest_of : Option Condition × List Order → Option Test × List By
 rest_of (filter, orders) = (option_map test_of filter, map by_of orders)
 
 -- what a query asks, without where its parts lie in memory
-abbrev pub asked_of : Query → Asked
+abbrev pub asked_of : Query → AskedQuery
 asked_of q = record { types = q.types; joins = q.joins; columns = q.columns; filter = option_map test_of q.filter; orders = map by_of q.orders }

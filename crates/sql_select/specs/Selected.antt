@@ -2,7 +2,7 @@
 -- its line.
 use Rattle.std.specs.Prelude.{ℕ, ◌+◌, nat_lt, Bool, true, false, ◌&&◌, ◌||◌, List, [], ◌∷◌, ◌++◌, Option, None, Some, Result, Ok, Err, if◌then◌else◌, codes}
 use Rattle.sql_pieces.specs.Leaves.{place_named}
-use Rattle.sql_pieces.specs.Reading.{◌>>=◌, State, Read, after, any_name_at, behind, call_first, many, name_at, place, required, sign_at, sign_first, word_at, word_first}
+use Rattle.sql_pieces.specs.Reading.{◌>>=◌, State, Read, after, any_name_at, behind, call_first, many, read_name, offset_at, required, read_sign, next_sign, word_at, word_first}
 use Rattle.sql_pieces.specs.declared.piece.Placed.{Placed}
 use Rattle.sql_pieces.specs.declared.piece.Sign.TheVariants as sign
 use Rattle.sql_select.specs.declared.sources.Sources.{Sources}
@@ -30,8 +30,8 @@ is_one (_ ∷ _ ∷ _) = false
 -- the name of a selector that is declared, as its place
 abbrev pub declared_at : Names → State → Read ℕ
 declared_at names s = do
-  n ← name_at s
-  p ← required (place_named names n.0) (place s)
+  n ← read_name s
+  p ← required (place_named names n.0) (offset_at s)
   Ok (p, n.1)
 
 -- without a selector's name, the one there is; else the fault is at the offset
@@ -39,9 +39,9 @@ abbrev pub only_at : Names → ℕ → Result ℕ ℕ
 only_at names at = if is_one names then Ok 0 else Err at
 
 -- . name, behind a selector's name, of which is asked once the property is read
-abbrev pub property_of : Names → ℕ → List ℕ → State → Read PropertyOf
-property_of names at name s = do
-  n ← name_at (after s)
+abbrev pub selector_property : Names → ℕ → List ℕ → State → Read PropertyOf
+selector_property names at name s = do
+  n ← read_name (after s)
   p ← required (place_named names name) at
   Ok (record { selector = p; name = n.0 }, n.1)
 
@@ -53,10 +53,10 @@ bare_property names at name s = do
   Ok (record { selector = p; name = name }, s)
 
 -- property = [name .] name
-abbrev pub property_at : Names → State → Read PropertyOf
-property_at names s = do
-  n ← name_at s
-  (if sign_first sign.Dot n.1.pieces then property_of names (place s) n.0 n.1 else bare_property names (place s) n.0 n.1)
+abbrev pub read_property : Names → State → Read PropertyOf
+read_property names s = do
+  n ← read_name s
+  (if next_sign sign.Dot n.1.pieces then selector_property names (offset_at s) n.0 n.1 else bare_property names (offset_at s) n.0 n.1)
 
 -- ---- columns
 
@@ -66,7 +66,7 @@ alias_at s = if word_first (codes "AS") s.pieces then any_name_at (after s) else
 
 -- name.*
 abbrev pub nodes_first : List Placed → Bool
-nodes_first ps = sign_first sign.Dot (behind ps) && sign_first sign.Star (behind (behind ps))
+nodes_first ps = next_sign sign.Dot (behind ps) && next_sign sign.Star (behind (behind ps))
 
 -- name [AS name], behind the selector's name and `.` of a column, while the selectors aren't known
 abbrev pub skim_dotted : State → Read (Option ℕ)
@@ -86,33 +86,33 @@ skim_bare at s = do
 abbrev pub skim_column : State → Read (Option ℕ)
 skim_column s = do
   n ← any_name_at s
-  (if sign_first sign.Dot n.1.pieces
-      then (if sign_first sign.Star (behind n.1.pieces) then Ok (None, after (after n.1)) else skim_dotted (after n.1))
-      else skim_bare (place s) n.1)
+  (if next_sign sign.Dot n.1.pieces
+      then (if next_sign sign.Star (behind n.1.pieces) then Ok (None, after (after n.1)) else skim_dotted (after n.1))
+      else skim_bare (offset_at s) n.1)
 
 -- the first offset, or where there is none the second
-abbrev pub first_of : Option ℕ → Option ℕ → Option ℕ
-first_of (Some a) b = Some a
-first_of None b = b
+abbrev pub first_offset : Option ℕ → Option ℕ → Option ℕ
+first_offset (Some a) b = Some a
+first_offset None b = b
 
 -- One more column behind a comma, while the selectors aren't known: the offset of the first
 -- property without a selector's name, in it or in the columns before.
 abbrev pub skim_more : Option ℕ → State → Read (Option ℕ)
 skim_more bare s = do
   c ← skim_column (after s)
-  Ok (first_of bare c.0, c.1)
+  Ok (first_offset bare c.0, c.1)
 
 -- column {, column} while the selectors aren't known, as the offset of the first property without a
 -- selector's name
 abbrev pub skim_list : State → Read (Option ℕ)
 skim_list s = do
   c ← skim_column s
-  many (sign_first sign.Comma) skim_more c.1.pieces c.0 c.1
+  many (next_sign sign.Comma) skim_more c.1.pieces c.0 c.1
 
 -- The columns as long as the selectors aren't known: the offset of the first property without a selector's name.
 -- columns = * | column {, column}
 abbrev pub skim_columns : State → Read (Option ℕ)
-skim_columns s = if sign_first sign.Star s.pieces then Ok (None, after s) else skim_list s
+skim_columns s = if next_sign sign.Star s.pieces then Ok (None, after s) else skim_list s
 
 -- name.*, as the column of the node of the selector with that name
 abbrev pub nodes_column : Names → State → Read Column
@@ -123,7 +123,7 @@ nodes_column names s = do
 -- property [AS name], as the column of that property; the name behind AS means nothing
 abbrev pub property_column : Names → State → Read Column
 property_column names s = do
-  p ← property_at names s
+  p ← read_property names s
   a ← alias_at p.1
   Ok (column.Property p.0, a.1)
 
@@ -147,7 +147,7 @@ first_column names s = do
 abbrev pub column_list : Names → State → Read (List Column)
 column_list names s = do
   c ← first_column names s
-  many (sign_first sign.Comma) (column_more names) c.1.pieces c.0 c.1
+  many (next_sign sign.Comma) (column_more names) c.1.pieces c.0 c.1
 
 -- the node of each selector, from a place on (below 2^32)
 abbrev pub node_columns : ℕ → Names → List Column
@@ -156,21 +156,21 @@ node_columns at (_ ∷ names) = column.Node at ∷ (if nat_lt (at + 1) 429496729
 
 -- columns = * | column {, column}
 abbrev pub columns_at : Names → State → Read (List Column)
-columns_at names s = if sign_first sign.Star s.pieces then Ok (node_columns 0 names, after s) else column_list names s
+columns_at names s = if next_sign sign.Star s.pieces then Ok (node_columns 0 names, after s) else column_list names s
 
 -- ---- selectors and joins
 
 -- the name of a selector, behind AS, with the selector's node type
 abbrev pub selector_named : List ℕ → State → Read (List ℕ × List ℕ)
 selector_named type s = do
-  n ← name_at s
+  n ← read_name s
   Ok ((type, n.0), n.1)
 
 -- The type and the name of a selector; without AS the type's name is its name.
 -- selector = name [AS name]
 abbrev pub selector_at : State → Read (List ℕ × List ℕ)
 selector_at s = do
-  t ← name_at s
+  t ← read_name s
   (if word_first (codes "AS") t.1.pieces then selector_named t.0 (after t.1) else Ok ((t.0, t.0), t.1))
 
 -- a join comes next: one of the words JOIN, INNER, LEFT and RIGHT
@@ -201,11 +201,11 @@ join_kind_at s =
 -- ( name , name ), behind the function's word
 abbrev pub pair_at : Names → State → Read (ℕ × ℕ)
 pair_at names s = do
-  o ← sign_at sign.Open (after s)
+  o ← read_sign sign.Open (after s)
   a ← declared_at names o.1
-  c ← sign_at sign.Comma a.1
+  c ← read_sign sign.Comma a.1
   b ← declared_at names c.1
-  e ← sign_at sign.Close b.1
+  e ← read_sign sign.Close b.1
   Ok ((a.0, b.0), e.1)
 
 -- ISSAMENODE(name, name): two selectors are joined where their nodes are one
@@ -231,9 +231,9 @@ descendant_nodes names s = do
 -- property = property: two selectors are joined where properties of their nodes are equal
 abbrev pub equal_properties : Names → State → Read On
 equal_properties names s = do
-  p ← property_at names s
-  e ← sign_at sign.Equal p.1
-  q ← property_at names e.1
+  p ← read_property names s
+  e ← read_sign sign.Equal p.1
+  q ← read_property names e.1
   Ok (on.Equal p.0 q.0, q.1)
 
 -- on = property = property | ISSAMENODE(name, name) | ISCHILDNODE(name, name) | ISDESCENDANTNODE(name, name)
@@ -250,8 +250,8 @@ no_bare None = Ok tt
 no_bare (Some at) = Err at
 
 -- the sources with one more selector, given by its node type and its name, and with its join
-abbrev pub joined : Sources → List ℕ × List ℕ → Join → Sources
-joined sources t j = record { types = sources.types ++ t.0 ∷ []; names = sources.names ++ t.1 ∷ []; joins = sources.joins ++ j ∷ [] }
+abbrev pub with_join : Sources → List ℕ × List ℕ → Join → Sources
+with_join sources t j = record { types = sources.types ++ t.0 ∷ []; names = sources.names ++ t.1 ∷ []; joins = sources.joins ++ j ∷ [] }
 
 -- Only the selectors up to its own are declared in a join's condition.
 -- join = [INNER | LEFT OUTER | RIGHT OUTER] JOIN selector ON on
@@ -262,7 +262,7 @@ join_at bare sources s = do
   b ← no_bare bare
   w ← word_at (codes "ON") t.1
   o ← on_at (sources.names ++ t.0.1 ∷ []) w.1
-  Ok (joined sources t.0 (record { kind = k.0; on = o.0 }), o.1)
+  Ok (with_join sources t.0 (record { kind = k.0; on = o.0 }), o.1)
 
 -- the first selector of a query, as sources with no join yet
 abbrev pub source_at : State → Read Sources
@@ -282,22 +282,22 @@ sources_at bare s = do
 abbrev pub skim_property : State → Read (Unit {0})
 skim_property s = do
   n ← any_name_at s
-  (if sign_first sign.Dot n.1.pieces then any_name_at (after n.1) else Ok (tt, n.1))
+  (if next_sign sign.Dot n.1.pieces then any_name_at (after n.1) else Ok (tt, n.1))
 
 -- ( name , name ), behind the function's word
 abbrev pub skim_pair : State → Read (Unit {0})
 skim_pair s = do
-  o ← sign_at sign.Open (after s)
+  o ← read_sign sign.Open (after s)
   a ← any_name_at o.1
-  c ← sign_at sign.Comma a.1
+  c ← read_sign sign.Comma a.1
   b ← any_name_at c.1
-  sign_at sign.Close b.1
+  read_sign sign.Close b.1
 
 -- property = property
 abbrev pub skim_equal : State → Read (Unit {0})
 skim_equal s = do
   p ← skim_property s
-  e ← sign_at sign.Equal p.1
+  e ← read_sign sign.Equal p.1
   skim_property e.1
 
 -- a join's condition on two nodes comes next: ISSAMENODE, ISCHILDNODE or ISDESCENDANTNODE, and `(`
@@ -336,31 +336,31 @@ names_more names s = do
   Ok (names ++ n.0 ∷ [], n.1)
 
 -- the first selector of a query, as a list of its name alone
-abbrev pub first_name : State → Read Names
-first_name s = do
+abbrev pub first_selector : State → Read Names
+first_selector s = do
   n ← skim_selector s
   Ok (n.0 ∷ [], n.1)
 
 -- selector {join}, as the names of the selectors
 abbrev pub skim_sources : State → Read Names
 skim_sources s = do
-  n ← first_name s
+  n ← first_selector s
   many join_first names_more n.1.pieces n.0 n.1
 
 -- ---- as far as the selectors
 
 -- no tokens are left
-abbrev pub no_pieces : List Placed → Bool
-no_pieces [] = true
-no_pieces (_ ∷ _) = false
+abbrev pub is_all_read : List Placed → Bool
+is_all_read [] = true
+is_all_read (_ ∷ _) = false
 
 -- the list of selectors is whole where WHERE, ORDER or the end comes
 abbrev pub is_whole : List Placed → Bool
-is_whole ps = no_pieces ps || word_first (codes "WHERE") ps || word_first (codes "ORDER") ps
+is_whole ps = is_all_read ps || word_first (codes "WHERE") ps || word_first (codes "ORDER") ps
 
 -- a fault at what comes next unless the list of selectors ends there, with WHERE, ORDER or the end
 abbrev pub whole_at : State → Result (Unit {0}) ℕ
-whole_at s = if is_whole s.pieces then Ok tt else Err (place s)
+whole_at s = if is_whole s.pieces then Ok tt else Err (offset_at s)
 
 -- columns FROM selector {join}, as far as the selectors
 abbrev pub froms_at : State → Read Sources

@@ -1,6 +1,6 @@
 // The columns of a query.
 ghost use Rattle.std.specs.Prelude.{◌≡◌, IfOk};
-ghost use Rattle.sql_select.specs.Selected.{alias_at, column_at, column_more, columns_at, first_column, first_of, node_columns, nodes_first, skim_column, skim_columns, skim_more};
+ghost use Rattle.sql_select.specs.Selected.{alias_at, column_at, column_more, columns_at, first_column, first_offset, node_columns, nodes_first, skim_column, skim_columns, skim_more};
 ghost use Rattle.sql_pieces.specs.Reading.{any_name_at, Reads};
 
 use crate::cursor::Cursor;
@@ -17,7 +17,7 @@ fn nodes_first(pieces: &[Placed]) -> bool
 }
 
 fn first_of(first: Option<usize>, second: Option<usize>) -> Option<usize>
-    ensures { result ≡ first_of first second }
+    ensures { result ≡ first_offset first second }
 {
     match first {
         Some(at) => Some(at),

@@ -1,6 +1,6 @@
 // A place in the pieces of a query, and the reading of one piece.
 ghost use Rattle.std.specs.Prelude.{◌≡◌, Err, IfErr, IfOk, Ok, OnOk};
-ghost use Rattle.sql_pieces.specs.Reading.{Reads, ReadsAs, after, call_first, name_at, paired, place, sign_at, sign_first, word_at, word_first};
+ghost use Rattle.sql_pieces.specs.Reading.{Reads, ReadsAs, after, call_first, read_name, paired, offset_at, read_sign, next_sign, word_at, word_first};
 
 use jr_path::{DeepCopy, Name};
 use jr_value::Kind;
@@ -51,7 +51,7 @@ pub(crate) fn kept<A: Drop>(value: A, outcome: Result<(), SqlFault>) -> Result<A
 impl<'a> Cursor<'a> {
     /// The offset of what comes next.
     pub fn place(&self) -> usize
-        ensures { result ≡ place self.now }
+        ensures { result ≡ offset_at self.now }
     {
         match self.pieces {
             [piece, ..] => piece.start,
@@ -61,7 +61,7 @@ impl<'a> Cursor<'a> {
 
     /// What comes next can't stand there.
     pub fn fault(&self) -> SqlFault
-        ensures { result ≡ SqlFault.InvalidQuery (place self.now) }
+        ensures { result ≡ SqlFault.InvalidQuery (offset_at self.now) }
     {
         SqlFault::InvalidQuery(self.place())
     }
@@ -75,7 +75,7 @@ impl<'a> Cursor<'a> {
 
     /// Whether the sign comes next.
     pub fn is_sign(&self, wanted: Sign) -> bool
-        ensures { result ≡ sign_first wanted self.now.pieces }
+        ensures { result ≡ next_sign wanted self.now.pieces }
     {
         sign_first(wanted, self.pieces)
     }
@@ -96,7 +96,7 @@ impl<'a> Cursor<'a> {
 
     /// Reads a sign.
     pub fn sign(&mut self, wanted: Sign) -> Result<(), SqlFault>
-        ensures { Reads result self.new (sign_at wanted self.old) }
+        ensures { Reads result self.new (read_sign wanted self.old) }
     {
         if !self.is_sign(wanted) {
             return Err(self.fault());
@@ -107,7 +107,7 @@ impl<'a> Cursor<'a> {
 
     /// Reads `(` behind a function's word.
     pub fn open(&mut self) -> Result<(), SqlFault>
-        ensures { Reads result self.new (sign_at Sign.Open (after self.old)) }
+        ensures { Reads result self.new (read_sign Sign.Open (after self.old)) }
     {
         self.advance();
         self.sign(Sign::Open)
@@ -116,7 +116,7 @@ impl<'a> Cursor<'a> {
     /// Reads `)` behind a value, and gives the value back.
     pub fn closed<A: Drop>(&mut self, value: A) -> Result<A, SqlFault>
         ensures same { IfOk result (λ closed. closed ≡ value) }
-        ensures read { ReadsAs (λ _. tt) result self.new (sign_at Sign.Close self.old) }
+        ensures read { ReadsAs (λ _. tt) result self.new (read_sign Sign.Close self.old) }
     {
         let close = self.sign(Sign::Close);
         kept(value, close)
@@ -135,7 +135,7 @@ impl<'a> Cursor<'a> {
 
     /// Reads a name.
     pub fn name(&mut self) -> Result<Name, SqlFault>
-        ensures { Reads result self.new (name_at self.old) }
+        ensures { Reads result self.new (read_name self.old) }
     {
         match name_first(self.pieces) {
             Some(name) => {

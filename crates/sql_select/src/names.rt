@@ -1,6 +1,6 @@
 // Names of selectors and properties.
 ghost use Rattle.std.specs.Prelude.{◌≡◌};
-ghost use Rattle.sql_select.specs.Selected.{declared_at, is_one, only_at, property_at, property_of};
+ghost use Rattle.sql_select.specs.Selected.{declared_at, is_one, only_at, read_property, selector_property};
 ghost use Rattle.sql_pieces.specs.Leaves.{place_named};
 ghost use Rattle.sql_pieces.specs.Reading.{Gives, Reads, required};
 
@@ -60,7 +60,7 @@ impl<'a> Cursor<'a> {
         at: usize,
         first: &Name,
     ) -> Result<PropertyOf, SqlFault>
-        ensures { Reads result self.new (property_of names.now at first.now self.old) }
+        ensures { Reads result self.new (selector_property names.now at first.now self.old) }
     {
         self.advance();
         let Some(name) = name_first(self.pieces) else {
@@ -74,7 +74,7 @@ impl<'a> Cursor<'a> {
 
     /// property = [name .] name
     pub fn property(&mut self, names: &[Name]) -> Result<PropertyOf, SqlFault>
-        ensures { Reads result self.new (property_at names.now self.old) }
+        ensures { Reads result self.new (read_property names.now self.old) }
     {
         let at = self.place();
         let Some(first) = name_first(self.pieces) else {

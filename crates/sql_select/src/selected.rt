@@ -1,7 +1,7 @@
 // A query as far as its selectors.
 ghost use Rattle.std.specs.Prelude.{◌≡◌};
 ghost use Rattle.sql_pieces.specs.Reading.{Gives, Reads};
-ghost use Rattle.sql_select.specs.Selected.{columns_before, columns_named, columns_stand, froms_at, is_whole, no_pieces, selected_at, skim_froms, whole_at};
+ghost use Rattle.sql_select.specs.Selected.{columns_before, columns_named, columns_stand, froms_at, is_whole, is_all_read, selected_at, skim_froms, whole_at};
 
 use crate::cursor::{Cursor, kept};
 use crate::sources::Sources;
@@ -13,7 +13,7 @@ use std::alloc::Global;
 impl<'a> Cursor<'a> {
     /// Whether nothing is left.
     pub fn is_over(&self) -> bool
-        ensures { result ≡ no_pieces self.now.pieces }
+        ensures { result ≡ is_all_read self.now.pieces }
     {
         self.pieces.is_empty()
     }

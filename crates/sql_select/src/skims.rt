@@ -1,6 +1,6 @@
 // The selectors of a query as far as the grammar reads them, whatever the names in ON mean.
 ghost use Rattle.std.specs.Prelude.{◌≡◌};
-ghost use Rattle.sql_select.specs.Selected.{first_name, names_more, pair_first, skim_condition, skim_equal, skim_join, skim_on, skim_pair, skim_property, skim_selector, skim_sources};
+ghost use Rattle.sql_select.specs.Selected.{first_selector, names_more, pair_first, skim_condition, skim_equal, skim_join, skim_on, skim_pair, skim_property, skim_selector, skim_sources};
 ghost use Rattle.sql_pieces.specs.Reading.{Reads};
 
 use crate::cursor::{Cursor, kept};
@@ -105,7 +105,7 @@ impl<'a> Cursor<'a> {
 
     // The names, as far as the first.
     fn first_name(&mut self, alloc: Global) -> Result<List<Name>, SqlFault>
-        ensures { Reads result self.new (first_name self.old) }
+        ensures { Reads result self.new (first_selector self.old) }
     {
         let name = self.skim_selector()?;
         let mut names = List::new(alloc);

@@ -42,13 +42,13 @@ first_is q p [] = false
 first_is q p (c ∷ cs) = q c && p cs
 
 -- no characters are left
-abbrev pub is_empty : List ℕ → Bool
-is_empty [] = true
-is_empty (c ∷ cs) = false
+abbrev pub is_at_end : List ℕ → Bool
+is_at_end [] = true
+is_at_end (c ∷ cs) = false
 
 -- the characters are of the pattern
 abbrev pub matches : List Part → List ℕ → Bool
-matches [] cs = is_empty cs
+matches [] cs = is_at_end cs
 matches (AnyText ∷ ps) cs = some_rest (matches ps) cs
 matches (AnyCharacter ∷ ps) cs = first_is (λ c. true) (matches ps) cs
 matches (Exactly d ∷ ps) cs = first_is (λ c. c == d) (matches ps) cs

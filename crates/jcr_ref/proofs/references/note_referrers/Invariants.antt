@@ -1,7 +1,7 @@
 use Rattle.std.proofs.Common.{◌≡◌, ◌++◌}
-use Rattle.jcr_ref.specs.References.{items_at, refers}
+use Rattle.jcr_ref.specs.References.{properties_where, refers}
 use Rattle.jcr_ref.proofs.references.note_referrers.Given as goal
 
 -- what is left decides
 abbrev pub invariant-loop-name : goal.invariant-loop-name
-invariant-loop-name l = l.items.items ++ items_at (refers l.id) l.at l.name-iterator ≡ l.initial.items.items ++ items_at (refers l.id) l.at l.node.props
+invariant-loop-name l = l.items.items ++ properties_where (refers l.id) l.at l.name-iterator ≡ l.initial.items.items ++ properties_where (refers l.id) l.at l.node.props

@@ -1,6 +1,6 @@
 use Rattle.std.proofs.Common.{subst, sym, ap}
 use Rattle.jcr_run.specs.declared.run.Phase.{Phase}
-use Rattle.jcr_run.specs.Standing.{HasEnded, is_committing, is_detaching, is_on_errand, is_told}
+use Rattle.jcr_run.specs.Standing.{HasCommitEnded, is_committing, is_detaching, is_on_errand, is_told}
 use Rattle.jcr_run.proofs.Looking.{over_ends}
 use Rattle.jcr_session.proofs.Nearer.{reply_steps, steps_sooner}
 use Rattle.jcr_session.proofs.Undrawn.{reply_undrawn}
@@ -16,7 +16,7 @@ pub commit_on-requires-clause-commits : goal.commit_on-requires-clause-commits
 commit_on-requires-clause-commits g c = ap is_committing c.in-Committing.is
 
 pub say_end-requires-clause-ended : goal.say_end-requires-clause-ended
-say_end-requires-clause-ended g c = subst (λ (f : Phase). HasEnded f) (sym c.in-Committed.is) tt
+say_end-requires-clause-ended g c = subst (λ (f : Phase). HasCommitEnded f) (sym c.in-Committed.is) tt
 
 pub work_on-requires-clause-works : goal.work_on-requires-clause-works
 work_on-requires-clause-works g c = ap is_on_errand c.in-Working.is

@@ -1,6 +1,6 @@
 use Rattle.std.proofs.Common.{◌≡◌, ◌-◌, ◌*◌, ◌∙◌, arith, ap}
 use Rattle.serde_json.proofs.Views.{view-Array}
-use Rattle.jr_gen.specs.Scripts.{listed}
+use Rattle.jr_gen.specs.Scripts.{json_list}
 use Rattle.jr_gen.proofs.Left.{no_sessions, none_after, sessions_further, sessions_join}
 use Rattle.jr_gen.proofs.script.sessions_json.Goals as goal
 
@@ -18,7 +18,7 @@ pub returns-clause-json : goal.returns-clause-json
 returns-clause-json c =
     let none : c.args.sessions - c.loop-session.session ≡ 0 = omega (arith, c.loop-session-test.false) in
     view-Array c.loop-session.items
-    ∙ ap listed (no_sessions _ _ _ _ _ _ none c.loop-session.invariant.sessions)
+    ∙ ap json_list (no_sessions _ _ _ _ _ _ none c.loop-session.invariant.sessions)
 
 pub returns-clause-state : goal.returns-clause-state
 returns-clause-state c =

@@ -1,7 +1,7 @@
 use Rattle.std.proofs.Common.{rules, ◌≡◌, map}
 use Rattle.std.specs.List.{flat_map}
 use Rattle.jr_rules.specs.Checking.{IsFirstBreak, child_rule, child_rule_among, first_break}
-use Rattle.jr_rules.specs.Violations.{is_one_of}
+use Rattle.jr_rules.specs.Violations.{is_among_names}
 use Rattle.jr_types.specs.Rules.{node_types}
 use Rattle.jr_types.specs.Types.{types_of}
 use Rattle.jr_types.proofs.Alike.{flat-alike}
@@ -15,5 +15,5 @@ pub returns : goal.returns
 returns c =
     let k : map (λ n. n.now) c.deref-2.result.now ≡ c.args.names.now = search rules in
     if_ok (λ b. b ≡ first_break (child_rule c.args.types.now c.args.tree.now c.args.path.now) (map (λ n. n.now) c.deref-2.result.now))
-    (IsFirstBreak (child_rule_among (is_one_of c.args.names.now) c.args.types.now c.args.tree.now c.args.path.now)) c.first_child.result
+    (IsFirstBreak (child_rule_among (is_among_names c.args.names.now) c.args.types.now c.args.tree.now c.args.path.now)) c.first_child.result
     (λ b e. first_among c.args.types.now c.args.tree.now c.args.path.now c.args.names.now b (rw k at e)) c.first_child.ensures

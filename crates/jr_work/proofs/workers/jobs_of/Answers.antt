@@ -3,7 +3,7 @@ use Rattle.std.proofs.lemmas.List.Elements.{All-push}
 use Rattle.std.proofs.lemmas.Option.{slice_get_within}
 use Rattle.seat_lock.specs.Passes.{view_of}
 use Rattle.jr_work.specs.declared.worker.Job.{Job}
-use Rattle.jr_work.specs.Hands.{IsInHand}
+use Rattle.jr_work.specs.Hands.{AreInHandOf}
 use Rattle.jr_work.specs.Workers.{AreInOrder, HasHandedOut, IsJob}
 use Rattle.jr_stage.proofs.Beginning.{all_yielded, comes_next, goes_over}
 use Rattle.jr_work.proofs.Orders.{in_order_more}
@@ -27,7 +27,7 @@ pub job_of-requires-clause-hand : goal.job_of-requires-clause-hand
 job_of-requires-clause-hand g c =
     let jobs : vec_len c.loop-hand.jobs ≡ length c.loop-hand.jobs.items = search rules in
     let next = comes_next c.loop-hand.yielded c.next.new.self.rest.items c.loop-hand.hand-iterator.rest.items c.args.hands.items c.in-Some.hand c.loop-hand.invariant.whole c.in-Some.ensures.steps.0 in
-    subst (λ n. IsInHand c.args.crew.now.script.now.value.sessions c.args.crew.now.workers n 0 c.in-Some.hand) (sym (c.len.ensures ∙ (jobs ∙ c.loop-hand.invariant.count))) (c.requires.dealt.each (length c.loop-hand.yielded) c.in-Some.hand next)
+    subst (λ n. AreInHandOf c.args.crew.now.script.now.value.sessions c.args.crew.now.workers n 0 c.in-Some.hand) (sym (c.len.ensures ∙ (jobs ∙ c.loop-hand.invariant.count))) (c.requires.dealt.each (length c.loop-hand.yielded) c.in-Some.hand next)
 
 pub loop-hand-preserved : goal.loop-hand-preserved
 loop-hand-preserved g c =

@@ -2,8 +2,8 @@ use Rattle.std.proofs.Common.{◌≡◌, ◌-◌, length, take, drop, ap, map, s
 use Rattle.std.specs.Map.Iter.{deref_pair}
 use Rattle.std.specs.Option.{option_copied}
 use Rattle.sql_query.specs.declared.query.JoinKind.TheVariants.{LeftOuter}
-use Rattle.sql_eval.specs.Joins.{joined}
-use Rattle.sql_plan.specs.Early.{asked, early_nodes, kind_is}
+use Rattle.sql_eval.specs.Joins.{joined_tuples}
+use Rattle.sql_plan.specs.Early.{asked_early, early_nodes, kind_is}
 use Rattle.sql_plan.proofs.Asked.{begins, begins_sized, goes_on}
 use Rattle.sql_plan.proofs.Seen.{Sized, sized_joined}
 use Rattle.sql_plan.proofs.plan.tuples_of.Goals as goal
@@ -23,10 +23,10 @@ loop-joins_left-preserved c =
     let nodes = map deref_pair c.args.nodes.now in
     let asks = option_copied c.args.filter in
     let later = take (length c.loop-joins_left.joins_left.now - 1) (drop 1 c.loop-joins_left.joins_left.now) in
-    let more : c.in_ok-tuples-2.tuples.items ≡ joined c.join-item.result c.loop-joins_left.count c.loop-joins_left.tuples.items (early_nodes nodes c.set-item.result.items (asked asks c.loop-joins_left.count (kind_is LeftOuter c.join-item.result.kind) later) c.loop-joins_left.count) =
+    let more : c.in_ok-tuples-2.tuples.items ≡ joined_tuples c.join-item.result c.loop-joins_left.count c.loop-joins_left.tuples.items (early_nodes nodes c.set-item.result.items (asked_early asks c.loop-joins_left.count (kind_is LeftOuter c.join-item.result.kind) later) c.loop-joins_left.count) =
     c.in_ok-tuples-2.ensures
-    ∙ (λ i. joined c.join-item.result c.loop-joins_left.count (c.deref-in-len1-up-joins_left-3.ensures.value i) (map deref_pair (c.deref-in-len1-up-joins_left-4.ensures.value i)))
-    ∙ ap (joined c.join-item.result c.loop-joins_left.count c.loop-joins_left.tuples.items) (c.in_ok-spots.ensures ∙ ap (λ set. early_nodes nodes set (asked asks c.loop-joins_left.count (kind_is LeftOuter c.join-item.result.kind) later) c.loop-joins_left.count) c.deref-in-len1-up-joins_left-2.ensures.value)
+    ∙ (λ i. joined_tuples c.join-item.result c.loop-joins_left.count (c.deref-in-len1-up-joins_left-3.ensures.value i) (map deref_pair (c.deref-in-len1-up-joins_left-4.ensures.value i)))
+    ∙ ap (joined_tuples c.join-item.result c.loop-joins_left.count c.loop-joins_left.tuples.items) (c.in_ok-spots.ensures ∙ ap (λ set. early_nodes nodes set (asked_early asks c.loop-joins_left.count (kind_is LeftOuter c.join-item.result.kind) later) c.loop-joins_left.count) c.deref-in-len1-up-joins_left-2.ensures.value)
     in
     record {
       places = grind arith;

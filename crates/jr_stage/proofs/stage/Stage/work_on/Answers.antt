@@ -1,5 +1,5 @@
 use Rattle.std.proofs.Common.{◌∙◌, sym}
-use Rattle.jr_stage.specs.Stages.{IsThrough}
+use Rattle.jr_stage.specs.Stages.{IsEntryOver}
 use Rattle.jr_stage.proofs.Going.{task_begins, task_ends, task_sooner, task_steps, task_through}
 use Rattle.jr_stage.proofs.Reaching.{as_many, seats_on}
 use Rattle.jr_stage.proofs.Taking.{come_as}
@@ -26,7 +26,7 @@ returns c = task_through c.args.self.now c.task.self c.args.s c.args.until c.tas
 pub returns-in_default : goal.returns-in_default
 returns-in_default c =
     task_ends c.args.self.now c.task.self c.args.s c.args.until c.task.invariant (sym c.is_under_way.ensures ∙ c.task-test.true) c.turn.new.self
-    (IsThrough c.args.self.now c.turn.new.self c.args.s c.args.until) _ c.in_default.not-Stepped c.in_ok-turn.ensures
+    (IsEntryOver c.args.self.now c.turn.new.self c.args.s c.args.until) _ c.in_default.not-Stepped c.in_ok-turn.ensures
 
 pub task-preserved : goal.task-preserved
 task-preserved c =

@@ -4,14 +4,14 @@ use Rattle.std.proofs.lemmas.List.Sorted.{IsPartitionPoint-from_clause}
 use Rattle.jr_rev.specs.Vectors.{Entries, is_below, sees}
 use Rattle.oak_node.specs.declared.pending.Note.{Note}
 use Rattle.oak_node.specs.Changes.{changed_since, known_from}
-use Rattle.oak_node.specs.Fields.{state_of}
+use Rattle.oak_node.specs.Fields.{memory_state}
 use Rattle.oak_node.specs.Memory.{NodeState}
 use Rattle.oak_node.proofs.Changes.{seen_first, told_is}
 use Rattle.oak_node.proofs.memory.NodeMem.changed_since.Goals as goal
 
 pub returns : goal.returns
 returns c =
-    let s : NodeState = state_of c.self.inside in
+    let s : NodeState = memory_state c.self.inside in
     let v : Entries = c.args.v.now in
     let i : ℕ = c.partition_point-seen.result in
     let value = c.deref.ensures.value in

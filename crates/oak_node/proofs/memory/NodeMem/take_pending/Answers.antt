@@ -7,7 +7,7 @@ use Rattle.jr_rev.specs.Vectors.{sees}
 use Rattle.oak_node.specs.declared.pending.Note.{Note}
 use Rattle.jr_rev.specs.Revisions.{is_before}
 use Rattle.oak_node.specs.Changes.{oldest_own}
-use Rattle.oak_node.specs.Fields.{state_of}
+use Rattle.oak_node.specs.Fields.{memory_state}
 use Rattle.oak_node.specs.Memory.{NodeState}
 use Rattle.oak_node.specs.Notes.{IsPending, without_seen}
 use Rattle.oak_node.specs.Seen.{seen_paths}
@@ -30,9 +30,9 @@ pub returns-clause-ok : goal.returns-clause-ok
 returns-clause-ok c =
     let noted = filter_same _ (λ (note : Note). not (sees c.self.inside.head note.revision)) _ (λ x b f' k. search rules) _ _ c.retain.ensures.filtered in
     let now = filter_same _ (λ (note : Note). is_before c.oldest_own-oldest.result note.revision) _ (λ x b f' k. search rules) _ _ c.retain-2.ensures.filtered in
-    dropped_is (state_of c.self.inside) _ _ c.oldest_own-oldest.result noted (c.oldest_own-oldest.ensures ∙ ap oldest_own (sym c.self.view_is)) now ∙ ap without_seen c.self.view_is
+    dropped_is (memory_state c.self.inside) _ _ c.oldest_own-oldest.result noted (c.oldest_own-oldest.ensures ∙ ap oldest_own (sym c.self.view_is)) now ∙ ap without_seen c.self.view_is
 
 pub invariant_of-self : goal.invariant_of-self
 invariant_of-self c =
     let now = filter_same _ (λ (note : Note). is_before c.oldest_own-oldest.result note.revision) _ (λ x b f' k. search rules) _ _ c.retain-2.ensures.filtered in
-    drop_memory (state_of c.self.inside) _ _ c.oldest_own-oldest.result c.self.invariant (c.oldest_own-oldest.ensures ∙ ap oldest_own (sym c.self.view_is)) now
+    drop_memory (memory_state c.self.inside) _ _ c.oldest_own-oldest.result c.self.invariant (c.oldest_own-oldest.ensures ∙ ap oldest_own (sym c.self.view_is)) now
