@@ -21,7 +21,7 @@ pub struct StdSource<R> {
 impl<R> Model for StdSource<R> {
     ghost use Rattle.jr_io.specs.Standard.{ReaderState};
 
-    ghost Value = { Reading R };
+    ghost Value = { ReaderState R };
 
     ghost view = { λ s. record { inner = s.inner; given = s.given; faults = s.faults } };
 }
