@@ -92,7 +92,7 @@ module _ (law : JcrLaw) (m : Command) (c : Call) where
           nodes = asked.inside.nodes;
           run = asked.inside.run;
           later = subst (λ (h : History). IsRun (starts_of law) (says_of law) h) beside.grows.grown beside.grows.run;
-          others = beside.grows.theirs
+          others = beside.grows.theirs;
         }) says)
 
 -- ---- a reply is said
