@@ -41,7 +41,7 @@ use Rattle.core_begun.specs.Kept.{ShowsStart}
 abbrev node_chosen : Bool → Bool → Bool → Option Node
 node_chosen a b c =
     cond c (Some (typed_node (Some first_revision) (codes "nt:unstructured")))
-    (cond b (Some (typed_node (Some first_revision) (codes "rep:path_of_system")))
+    (cond b (Some (typed_node (Some first_revision) (codes "rep:system")))
     (cond a (Some (typed_node (Some first_revision) (codes "rep:versionStorage"))) None))
 
 dated_chosen : (a b c : Bool) → is_some (node_chosen a b c) ≡ is_some (born_of (node_chosen a b c))
@@ -60,7 +60,7 @@ module _ (s : RevVec) (seen : sees s the_start ≡ true) (v : RevVec) where
   -- the document, by which of the three paths it is
   abbrev chosen : Path → Bool → Bool → Bool → Option Document
   chosen p a b c =
-      cond a (Some (start_document v p (codes "rep:versionStorage"))) (cond b (Some (start_document v p (codes "rep:path_of_system"))) (cond c (Some (start_document v p (codes "nt:unstructured"))) None))
+      cond a (Some (start_document v p (codes "rep:versionStorage"))) (cond b (Some (start_document v p (codes "rep:system"))) (cond c (Some (start_document v p (codes "nt:unstructured"))) None))
 
   abbrev all_chosen : Path → Bool → Bool → Bool → List Document
   all_chosen p a b c = option_map_or (with_previous (start_documents v) p) (chosen p a b c) []
@@ -101,7 +101,7 @@ module _ (s : RevVec) (seen : sees s the_start ≡ true) (v : RevVec) where
 
       by : (a b c : Bool) → eq_by_cmp path_cmp p versions ≡ a → eq_by_cmp path_cmp p path_of_system ≡ b → eq_by_cmp path_cmp p [] ≡ c → Shown p n
       by true b c h k l = subst (λ (x : Path). Shown x n) (sym (same_path p versions h)) (value_shown (codes "rep:versionStorage") typed)
-      by false true c h k l = subst (λ (x : Path). Shown x n) (sym (same_path p path_of_system k)) (value_shown (codes "rep:path_of_system") typed)
+      by false true c h k l = subst (λ (x : Path). Shown x n) (sym (same_path p path_of_system k)) (value_shown (codes "rep:system") typed)
       by false false true h k l = subst (λ (x : Path). Shown x n) (sym (same_path p [] l)) (value_shown (codes "nt:unstructured") typed)
       by false false false h k l = none_shown p n _ _ _ h k l
 
@@ -124,7 +124,7 @@ module _ (s : RevVec) (seen : sees s the_start ≡ true) (v : RevVec) where
 
   no_prop : (p : Path) (n : Name) (r : Revision) → eq_by_cmp revision_cmp r the_start ≡ false → (a b c : Bool) → of_revision (values_in n (all_chosen p a b c)) r ≡ None
   no_prop p n r h true b c = no_value (codes "rep:versionStorage") n r h (eq_by_cmp name_cmp n (codes "jcr:primaryType"))
-  no_prop p n r h false true c = no_value (codes "rep:path_of_system") n r h (eq_by_cmp name_cmp n (codes "jcr:primaryType"))
+  no_prop p n r h false true c = no_value (codes "rep:system") n r h (eq_by_cmp name_cmp n (codes "jcr:primaryType"))
   no_prop p n r h false false true = no_value (codes "nt:unstructured") n r h (eq_by_cmp name_cmp n (codes "jcr:primaryType"))
   no_prop p n r h false false false = refl
 

@@ -29,7 +29,8 @@ pub fn calls_are_at_bases()
         → c ≡ call_at law begin past s c.who.base (session_state law begin past s) }
     ensures called { (law : JcrLaw) (begin : Begin) (past : Past) (s : ℕ) (v : RevVec)
         → base_of past s ≡ Some v
-        → call_of law begin past s ≡ Some (call_at law begin past s v (session_state law begin past s)) }
+        → call_of law begin past s
+        ≡ Some (call_at law begin past s v (session_state law begin past s)) }
 {}
 
 /// Where sessions see trees, a call is on a tree.

@@ -53,7 +53,8 @@ abbrev pub AreObservable : Start → RevVec → Pin → Instant → List Instant
 AreObservable start from pin i [] = Unit {0}
 AreObservable start from pin i (n ∷ ns) =
     ObservesOn start from pin (documents_at i) (documents_at n) i.moment.past n.moment.past
-    × FormersGrow i.formers n.formers × CanObserve start from pin n × AreObservable start from pin n ns
+    × FormersGrow i.formers n.formers × CanObserve start from pin n
+    × AreObservable start from pin n ns
 
 -- a reader after the documents of each of some instants have answered it, one after another
 abbrev pub after_instants : List Instant → ChangesReader → ChangesReader

@@ -134,7 +134,8 @@ pub record Sound (s : Core) : Type 0 where
       → IsWriterOf s p r
   -- each committer of a node that isn't stopped has written exactly the first documents of its
   -- list, or has undone exactly the first of those that it wrote
-  pub listed : (r : Revision) → is_stopped s.past r.cluster ≡ false → AreDocumentsListed (s.writers r)
+  pub listed : (r : Revision) → is_stopped s.past r.cluster ≡ false
+      → AreDocumentsListed (s.writers r)
   -- each document is written once, and each marked one is written or still to be
   pub once : (r : Revision) → Once ((s.writers r).written ++ (s.writers r).left)
   pub covered : (r : Revision) (p : Path) (m : Mark) → In (mark_at p m) (marks_of s.past r)

@@ -40,7 +40,8 @@ pub data Step : Core → Core → Type 0 where
   undo : {s : Core} (d : Draw) (p : Path) (rest : List Path) → MayUndo s d p rest
       → Step s (core_undone s d p rest)
   finish : {s : Core} (d : Draw) → MayFinish s d → Step s (core_finished s d)
-  bound : {s : Core} (m t : RevVec) → MayBoundCore s.past m t → Step s (after_event s (event.Bound m t))
+  bound : {s : Core} (m t : RevVec) → MayBoundCore s.past m t
+      → Step s (after_event s (event.Bound m t))
   prune :
       {s : Core} (e : Event) (m t : RevVec) (p : Path) (old : Document) (op : UpdateOp)
       (keep : Document → Bool) → is_quiet e ≡ true → MayPruneCore s m t p old op keep

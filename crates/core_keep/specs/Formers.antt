@@ -118,7 +118,8 @@ pub record StaysOn (ds now : Documents) (c later : Course) : Type 0 where
 
 -- the former documents that there were are among those that there are
 abbrev pub FormersGrow : Formers → Formers → Type 0
-FormersGrow formers more = (p : Path) (k : ℕ) (f : Former) → formers p k ≡ Some f → more p k ≡ Some f
+FormersGrow formers more = (p : Path) (k : ℕ) (f : Former) → formers p k ≡ Some f
+    → more p k ≡ Some f
 
 -- a document becomes a former one: it lists a previous document of this number now
 abbrev pub with_former : Formers → Path → ℕ → Former → Formers

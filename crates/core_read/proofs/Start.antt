@@ -14,7 +14,7 @@ use Rattle.core_read.specs.Start.{start_document, start_documents, path_of_syste
 -- the document, by which of the three paths it is
 abbrev chosen : RevVec → Path → Bool → Bool → Bool → Option Document
 chosen v p a b c =
-    cond a (Some (start_document v p (codes "rep:versionStorage"))) (cond b (Some (start_document v p (codes "rep:path_of_system"))) (cond c (Some (start_document v p (codes "nt:unstructured"))) None))
+    cond a (Some (start_document v p (codes "rep:versionStorage"))) (cond b (Some (start_document v p (codes "rep:system"))) (cond c (Some (start_document v p (codes "nt:unstructured"))) None))
 
 from_some : (c d : Document) → Some c ≡ Some d → c ≡ d
 from_some c d h = ap (λ o. unwrap_or o c) h

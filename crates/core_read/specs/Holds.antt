@@ -74,7 +74,8 @@ pub record IsSameBut (r : Revision) (p : Path) (o : Option Document) (d : Docume
   pub named : d.id ≡ id.Node p
 
 -- all of an edit stands as entries of r, with the node at root as commit root
-pub record IsEditWhole (ds : Documents) (r : Revision) (ws : List Write) (root : Path) : Type 0 where
+pub record IsEditWhole (ds : Documents) (r : Revision) (ws : List Write)
+    (root : Path) : Type 0 where
   pub node : (p : Path) → here_entry (ds (id.Node p)) r ≡ written (here_of p) ws
   pub prop : (p : Path) (n : Name) → prop_entry (ds (id.Node p)) n r ≡ written (put_of p n) ws
   pub rooted : (p : Path) → IsTrue (list_any (is_at_path p) ws)

@@ -23,17 +23,17 @@ start_document v p type = record (document_of None (id.Node p)) {
 
 -- the path of `jcr:system`
 abbrev pub path_of_system : Path
-path_of_system = codes "jcr:path_of_system" ∷ []
+path_of_system = codes "jcr:system" ∷ []
 
 -- the path of the version storage, `jcr:versionStorage` in `jcr:system`
 abbrev pub versions : Path
-versions = codes "jcr:path_of_system" ∷ codes "jcr:versionStorage" ∷ []
+versions = codes "jcr:system" ∷ codes "jcr:versionStorage" ∷ []
 
 -- the three documents of the start, with v as what is published and swept
 abbrev pub start_documents : RevVec → Documents
 start_documents v (id.Node p) =
     cond (eq_by_cmp path_cmp p versions) (Some (start_document v p (codes "rep:versionStorage")))
-    (cond (eq_by_cmp path_cmp p path_of_system) (Some (start_document v p (codes "rep:path_of_system")))
+    (cond (eq_by_cmp path_cmp p path_of_system) (Some (start_document v p (codes "rep:system")))
     (cond (eq_by_cmp path_cmp p []) (Some (start_document v p (codes "nt:unstructured"))) None))
 start_documents v (id.Prev n p) = None
 start_documents v id.Settings = None

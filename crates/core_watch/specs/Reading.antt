@@ -108,7 +108,8 @@ module _ (ds : Documents) (c : Course) (formers : Formers) (tree : Nodes) (pin :
   Stands None at known names step.Main = known ≡ []
   Stands (Some p) at known names step.Main = HasBegun p at names × (known ≡ [])
   Stands None at known names step.Next = ⊥
-  Stands (Some p) at known names step.Next = HasNames is_le tree p at names × IsUnknownBehind at known
+  Stands (Some p) at known names step.Next = HasNames is_le tree p at names
+      × IsUnknownBehind at known
   Stands parent at known names (step.Previous left) =
       IsAsking ds c formers pin.base pin.sweep known ((left.first, tt) ∷ left.rest) at
       × IsOnWay is_lt tree parent at names × IsUnknownBehind at known

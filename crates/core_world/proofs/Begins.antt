@@ -122,8 +122,8 @@ module _ (c n : ℕ) where
 
   mine_none : (p : Path) → eq_by_cmp path_cmp p [] ≡ false → eq_by_cmp path_cmp p path_of_system ≡ false → eq_by_cmp path_cmp p versions ≡ false → mine c n (id.Node p) ≡ None
   mine_none p k l m =
-      ap (λ x. cond x (Some (start_root c)) (cond (eq_by_cmp id_cmp (id.Node p) (id.Node path_of_system)) (Some (node_of_start path_of_system (codes "rep:path_of_system") 2)) (cond (eq_by_cmp id_cmp (id.Node p) (id.Node versions)) (Some (node_of_start versions (codes "rep:versionStorage") 3)) None))) (other_node p [] k)
-      ∙ (ap (λ x. cond x (Some (node_of_start path_of_system (codes "rep:path_of_system") 2)) (cond (eq_by_cmp id_cmp (id.Node p) (id.Node versions)) (Some (node_of_start versions (codes "rep:versionStorage") 3)) None)) (other_node p path_of_system l)
+      ap (λ x. cond x (Some (start_root c)) (cond (eq_by_cmp id_cmp (id.Node p) (id.Node path_of_system)) (Some (node_of_start path_of_system (codes "rep:system") 2)) (cond (eq_by_cmp id_cmp (id.Node p) (id.Node versions)) (Some (node_of_start versions (codes "rep:versionStorage") 3)) None))) (other_node p [] k)
+      ∙ (ap (λ x. cond x (Some (node_of_start path_of_system (codes "rep:system") 2)) (cond (eq_by_cmp id_cmp (id.Node p) (id.Node versions)) (Some (node_of_start versions (codes "rep:versionStorage") 3)) None)) (other_node p path_of_system l)
       ∙ ap (λ x. cond x (Some (node_of_start versions (codes "rep:versionStorage") 3)) None) (other_node p versions m))
 
   alike : (p : Path) → IsAlike p (mine c n (id.Node p)) (core_documents (start c) (id.Node p))
@@ -131,8 +131,8 @@ module _ (c n : ℕ) where
     where
       core_none : eq_by_cmp path_cmp p [] ≡ false → eq_by_cmp path_cmp p path_of_system ≡ false → eq_by_cmp path_cmp p versions ≡ false → core_documents (start c) (id.Node p) ≡ None
       core_none k l m =
-          ap (λ x. cond x (Some (core_document (start c) p (codes "rep:versionStorage"))) (cond (eq_by_cmp path_cmp p path_of_system) (Some (core_document (start c) p (codes "rep:path_of_system"))) (cond (eq_by_cmp path_cmp p []) (Some (core_document (start c) p (codes "nt:unstructured"))) None))) m
-          ∙ (ap (λ x. cond x (Some (core_document (start c) p (codes "rep:path_of_system"))) (cond (eq_by_cmp path_cmp p []) (Some (core_document (start c) p (codes "nt:unstructured"))) None)) l
+          ap (λ x. cond x (Some (core_document (start c) p (codes "rep:versionStorage"))) (cond (eq_by_cmp path_cmp p path_of_system) (Some (core_document (start c) p (codes "rep:system"))) (cond (eq_by_cmp path_cmp p []) (Some (core_document (start c) p (codes "nt:unstructured"))) None))) m
+          ∙ (ap (λ x. cond x (Some (core_document (start c) p (codes "rep:system"))) (cond (eq_by_cmp path_cmp p []) (Some (core_document (start c) p (codes "nt:unstructured"))) None)) l
           ∙ ap (λ x. cond x (Some (core_document (start c) p (codes "nt:unstructured"))) None) k)
 
       by : (a : Bool) → eq_by_cmp path_cmp p [] ≡ a → (b : Bool) → eq_by_cmp path_cmp p path_of_system ≡ b → (e : Bool) → eq_by_cmp path_cmp p versions ≡ e → IsAlike p (mine c n (id.Node p)) (core_documents (start c) (id.Node p))
@@ -178,7 +178,7 @@ module _ (c n : ℕ) where
       }
 
   -- each document of a node is one of three
-  each_start : (P : Path → Option Document → Type 0) → P [] (Some (start_root c)) → P path_of_system (Some (node_of_start path_of_system (codes "rep:path_of_system") 2)) → P versions (Some (node_of_start versions (codes "rep:versionStorage") 3)) → ((p : Path) → P p None) → (p : Path) → P p (mine c n (id.Node p))
+  each_start : (P : Path → Option Document → Type 0) → P [] (Some (start_root c)) → P path_of_system (Some (node_of_start path_of_system (codes "rep:system") 2)) → P versions (Some (node_of_start versions (codes "rep:versionStorage") 3)) → ((p : Path) → P p None) → (p : Path) → P p (mine c n (id.Node p))
   each_start P root of_system of_versions none p = by (eq_by_cmp path_cmp p []) refl (eq_by_cmp path_cmp p path_of_system) refl (eq_by_cmp path_cmp p versions) refl
     where
       by : (a : Bool) → eq_by_cmp path_cmp p [] ≡ a → (b : Bool) → eq_by_cmp path_cmp p path_of_system ≡ b → (e : Bool) → eq_by_cmp path_cmp p versions ≡ e → P p (mine c n (id.Node p))
@@ -197,7 +197,7 @@ module _ (c n : ℕ) where
   pub start_is : (old : Sight) → old (start_of 1) ≡ true → IsCoreStart old (nodes_in (start_table c n)) (λ p. [])
   start_is old first = record {
     ordered = each_start AreOrdered (refl, record { names = refl }) (refl, record { names = refl }) (refl, record { names = refl }) (λ p. tt);
-    marks = λ p r m h. known r (each_start (λ q o. marked o r m ≡ true → r ≡ start_of 1) (only_root r m) (only_start path_of_system (codes "rep:path_of_system") 2 r m) (only_start versions (codes "rep:versionStorage") 3 r m) (λ q h. absurd (false≢true h)) p h);
+    marks = λ p r m h. known r (each_start (λ q o. marked o r m ≡ true → r ≡ start_of 1) (only_root r m) (only_start path_of_system (codes "rep:system") 2 r m) (only_start versions (codes "rep:versionStorage") 3 r m) (λ q h. absurd (false≢true h)) p h);
     notes = λ p r h. known r (each_start (λ q o. noted o r ≡ true → r ≡ start_of 1) (λ h. absurd (false≢true h)) (λ h. absurd (false≢true h)) (λ h. absurd (false≢true h)) (λ q h. absurd (false≢true h)) p h);
     roots = λ p r h. known r (each_start (λ q o. is_some (root_entry o r) ≡ true → r ≡ start_of 1) (λ h. absurd (false≢true h)) (λ h. absurd (false≢true h)) (λ h. absurd (false≢true h)) (λ q h. absurd (false≢true h)) p h);
     collisions = λ p r. each_start (λ q o. collision o r ≡ None) refl refl refl (λ q. refl) p;

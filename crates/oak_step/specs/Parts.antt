@@ -227,7 +227,8 @@ abbrev pub IsLast : Table → Table → List Event → List Event → Committing
 IsLast t u es fs c d = IsLastMade t u es fs c d ⊎ IsLastRefused t u es fs c d
 
 -- the first document that is written and not undone is undone
-pub record IsDocumentUndone (s : ℕ) (t u : Table) (es fs : List Event) (c d : Committing) : Type 0 where
+pub record IsDocumentUndone (s : ℕ) (t u : Table) (es fs : List Event)
+    (c d : Committing) : Type 0 where
   pub path : Path
   pub rest : List Path
   pub first : c.writer.written ≡ path ∷ rest
@@ -245,7 +246,8 @@ abbrev pub UpdatesDocument : ℕ → Table → List Event → Committing → Tab
 UpdatesDocument s t es c u fs d kind.Mark = (stage_of c ≡ stage.Mark) × IsMarked s t u es fs c d
 UpdatesDocument s t es c u fs d kind.Write = (stage_of c ≡ stage.Write) × IsWritten s t u es fs c d
 UpdatesDocument s t es c u fs d kind.Last = (stage_of c ≡ stage.Last) × IsLast t u es fs c d
-UpdatesDocument s t es c u fs d kind.Undo = (stage_of c ≡ stage.Undo) × IsDocumentUndone s t u es fs c d
+UpdatesDocument s t es c u fs d kind.Undo = (stage_of c ≡ stage.Undo)
+    × IsDocumentUndone s t u es fs c d
 UpdatesDocument s t es c u fs d _ = ⊥
 
 -- an operation on a document is due
@@ -276,7 +278,8 @@ EndsSo c v _ = ⊥
 
 -- its revision ends
 abbrev pub EndsCommit : ℕ → Parts → Committing → Parts → Work → StepOut → Type 0
-EndsCommit k p c q v o = (stage_of c ≡ stage.Finish) × (q ≡ parts_ended k p c.revision) × EndsSo c v o
+EndsCommit k p c q v o = (stage_of c ≡ stage.Finish) × (q ≡ parts_ended k p c.revision)
+    × EndsSo c v o
 
 -- the operation that is due is made, or answered
 abbrev pub CommitGoesOn : ℕ → Table → List Event → Committing → Table → List Event → Work → StepOut
@@ -301,7 +304,8 @@ UpdatesOn s t es c u fs v o = CommitGoesOn s t es c u fs v o ⊎ IsGivenUp t es 
 -- a step of a commit: its end, or an operation on a document, which leaves the memory
 abbrev pub CommitsOn : ℕ → ℕ → Parts → Committing → Parts → Work → StepOut → Type 0
 CommitsOn s k p c q v o =
-    EndsCommit k p c q v o ⊎ ((q.memory ≡ p.memory) × UpdatesOn s p.table p.list c q.table q.list v o)
+    EndsCommit k p c q v o ⊎ ((q.memory ≡ p.memory)
+    × UpdatesOn s p.table p.list c q.table q.list v o)
 
 -- the base moves to the head once that sees r, and awaits an earlier revision until then
 abbrev pub Moves : ℕ → NodeState → List Event → Revision → NodeState → List Event → Work → StepOut
@@ -344,7 +348,8 @@ PublishesOn s k p b q v _ = ⊥
 abbrev pub PublishesFirst : ℕ → ℕ → Parts → Pending → Parts → Work → StepOut → Type 0
 PublishesFirst s k p n q v o =
     ((o ≡ answers.Memory) × Refused p q v)
-    ⊎ ((a : Global) × (b : BackWrite) × publishing.HasWrittenNothing a n b × PublishesOn s k p b q v o)
+    ⊎ ((a : Global) × (b : BackWrite) × publishing.HasWrittenNothing a n b
+    × PublishesOn s k p b q v o)
 
 -- a background read, once the documents have answered what it asked
 abbrev pub learned_on : Table → BackRead → BackRead

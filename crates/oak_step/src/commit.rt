@@ -36,7 +36,8 @@ pub(crate) fn begin(
 ) -> Result<Committer, AllocError>
     requires { known_time memory.old < 2 ^ 64 - 1 }
     ensures committer { IfOk result
-        (λ committer. committer ≡ begun (next_draw memory.old) (pinned_base memory.old s) edit marks) }
+        (λ committer. committer
+        ≡ begun (next_draw memory.old) (pinned_base memory.old s) edit marks) }
     ensures memory { OnOk result (memory.new ≡ with_notes (next_draw memory.old)
         (with_draw memory.old (next_draw memory.old)) (marked_paths marks)) }
     ensures list { OnOk result (events.new.list ≡ events.old.list ++ event.Draw (record {

@@ -127,7 +127,8 @@ fn update(
     requires updating { IsUpdating (stage_of committer.old) }
     requires places { needed_by committer.old ≤ events.old.places }
     requires table { IsTable table.old.documents }
-    ensures made { IfOk result (λ kind. UpdatesDocument s table.old events.old.list committer.old table.new
+    ensures made { IfOk result
+        (λ kind. UpdatesDocument s table.old events.old.list committer.old table.new
         events.new.list committer.new kind) }
     ensures going { OnErr result (committer.old.outcome ≡ None) }
     ensures table { OnErr result (table.new ≡ table.old) }

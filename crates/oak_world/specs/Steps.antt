@@ -125,7 +125,8 @@ MakesBackWrite s w b u v _ = ⊥
 abbrev pub BeginsBackWrite : ℕ → State → Pending → State → Work → StepOut → Type 0
 BeginsBackWrite s w n u v o =
     ((o ≡ answers.Memory) × (u ≡ w) × (v ≡ work.Rest))
-    ⊎ ((a : Global) × (b : BackWrite) × publishing.HasWrittenNothing a n b × MakesBackWrite s w b u v o)
+    ⊎ ((a : Global) × (b : BackWrite) × publishing.HasWrittenNothing a n b
+    × MakesBackWrite s w b u v o)
 
 -- a background read reads the root's document; then the memory learns the two vectors that it read,
 -- and the task ends
