@@ -82,7 +82,8 @@ fn is_change(old: &Tree, new: &Edited<'_>, write: &Write) -> bool
 
 // Whether the property is there, and the same as this one.
 fn is_same(found: Option<&Property>, property: &Property) -> bool
-    ensures { result ≡ option_map_or (same_property property.now) (option_copied found.entry) false }
+    ensures { result
+        ≡ option_map_or (same_property property.now) (option_copied found.entry) false }
 {
     match found {
         Some(found) => property == found,
