@@ -86,7 +86,8 @@ committed_reply law h s m = option_and_then (reply_to_draw law h s m) (draw_sinc
 -- the reply where the commit was refused for a clash
 abbrev pub clash_reply : History → ℕ → Option (List ℕ)
 clash_reply h s = option_and_then (λ r. cond (is_ended h.past r)
-    (option_map (λ x. no_text (clash_refusal x.0 x.1)) (refusal_of h.past r)) None) (drawn_since h.past s)
+    (option_map (λ x. no_text (clash_refusal x.0 x.1)) (refusal_of h.past r)) None)
+    (drawn_since h.past s)
 
 -- a command that commits isn't committed, or was refused for a clash
 abbrev pub UncommittedCause : JcrLaw → History → ℕ → Command → List ℕ → Type 0
