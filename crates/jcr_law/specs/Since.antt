@@ -66,7 +66,8 @@ is_stopping s _ = false
 -- where the base of s stood when it was detached, if it was detached after its base moved
 abbrev pub detached_among : Past → ℕ → Option RevVec
 detached_among [] s = None
-detached_among (event.Detach t ∷ past) s = cond (t == s) (refreshed_among past s) (detached_among past s)
+detached_among (event.Detach t ∷ past) s =
+    cond (t == s) (refreshed_among past s) (detached_among past s)
 detached_among (_ ∷ past) s = detached_among past s
 
 -- the position in the journal, from 0 on, at which cluster node k was stopped

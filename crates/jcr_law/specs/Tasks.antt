@@ -56,7 +56,8 @@ finds_stopped s k earlier e = is_stopping s e && is_stopped earlier k
 -- the vector has of each other cluster node at least what it had published
 abbrev pub knows_published : ℕ → Begin → Past → (k : ℕ) → RevVec → Bool
 knows_published clusters begin past k v = list_all (λ m. (m == k)
-    || option_map_or (is_at_most (published begin past m)) (entry v m) false) (range_with_len 1 clusters)
+    || option_map_or (is_at_most (published begin past m)) (entry v m) false)
+    (range_with_len 1 clusters)
 
 -- why a document can't be split: the path's limits, or there is no node
 abbrev pub split_refusal : Nodes → Path → Option Refusal
