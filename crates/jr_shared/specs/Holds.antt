@@ -105,7 +105,8 @@ module _ {L : Type 0} where
     pub steady_is : old.seen ≡ journal_of got → old.steady ≡ Some (steady_of got)
 
   -- under one hold of the lock one call of the world was made for session s
-  pub record OneHold (law : Ghosts L) (old new : PassKnown L) (s : ℕ) (made : WorldOf L → WorldOf L → Type 0) : Type 0 where
+  pub record OneHold (law : Ghosts L) (old new : PassKnown L) (s : ℕ)
+      (made : WorldOf L → WorldOf L → Type 0) : Type 0 where
     -- the world that was got, and the world that was given back, which is whole
     pub got : WorldOf L
     pub left : WorldOf L
@@ -120,14 +121,17 @@ module _ {L : Type 0} where
   -- ---- the calls of a world
 
   -- session s is told a task; where memory is refused nothing changes
-  pub record Begun (w : WorldOf L) (s : ℕ) (t : Task) (r : Result Unit AllocError) (u : WorldOf L) : Type 0 where
+  pub record Begun (w : WorldOf L) (s : ℕ) (t : Task) (r : Result Unit AllocError)
+      (u : WorldOf L) : Type 0 where
     pub ok : OnOk r ((v : Work) × Begins (actor_pin (state_of w) s) t v × (u ≡ with_work w s v))
     pub err : OnErr r (u ≡ w)
 
   -- session s makes a step, of which a port tells what it may tell, and which lowers the number of steps that are left of its task, or it waits
-  pub record Stepped (law : Ghosts L) (w : WorldOf L) (s : ℕ) (o : StepOut) (u : WorldOf L) : Type 0 where
+  pub record Stepped (law : Ghosts L) (w : WorldOf L) (s : ℕ) (o : StepOut)
+      (u : WorldOf L) : Type 0 where
     pub made : StepsIn w s u o
-    pub told : (name : GName) → Steps (law.may_start w.law) (law.may_say w.law) (shown_at name w s) (shown_at name u s) o
+    pub told : (name : GName)
+        → Steps (law.may_start w.law) (law.may_say w.law) (shown_at name w s) (shown_at name u s) o
     pub lowers : IsWait o ⊎ (left_in u s < left_in w s)
 
   -- the kind of the session's next step was told, and the world is as it was; where no step is left,
@@ -142,10 +146,12 @@ module _ {L : Type 0} where
   pub record PinIs (w : WorldOf L) (s : ℕ) (r : Option Pin) (u : WorldOf L) : Type 0 where
     pub same : u ≡ w
     pub pin : r ≡ actor_pin (state_of w) s
-    pub base : IsFalse (has_left w.history.past s) → option_map (λ pin. pin.base) r ≡ base_of w.history.past s
+    pub base : IsFalse (has_left w.history.past s)
+        → option_map (λ pin. pin.base) r ≡ base_of w.history.past s
 
   -- so many bytes, and a place of the journal, are kept for its next reply; where memory is refused nothing changes
-  pub record Reserved (w : WorldOf L) (s bytes : ℕ) (r : Result Unit AllocError) (u : WorldOf L) : Type 0 where
+  pub record Reserved (w : WorldOf L) (s bytes : ℕ) (r : Result Unit AllocError)
+      (u : WorldOf L) : Type 0 where
     pub ok : OnOk r (u ≡ with_reply w s (Some bytes))
     pub err : OnErr r (u ≡ w)
 

@@ -9,7 +9,8 @@ use Rattle.jr_shared.specs.declared.locked.WorldFrame.{WorldFrame}
 -- the events of session s, the newest first
 abbrev pub own_events : Past → ℕ → Past
 own_events [] s = []
-own_events (e ∷ past) s = cond (is_event_of (e ∷ past) s e) (e ∷ own_events past s) (own_events past s)
+own_events (e ∷ past) s =
+    cond (is_event_of (e ∷ past) s e) (e ∷ own_events past s) (own_events past s)
 
 -- what a session owns of a world: what it does and what is kept for it, where it is one of the world's, and its events
 pub record Owned : Type 0 where

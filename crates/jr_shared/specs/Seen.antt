@@ -32,7 +32,12 @@ module _ {L : Type 0} where
 
   -- the history that the pass has seen
   abbrev pub history_by : PassKnown L → History
-  history_by v = record { clusters = clusters_by v; sessions = sessions_by v; begin = None; past = reverse v.seen }
+  history_by v = record {
+    clusters = clusters_by v;
+    sessions = sessions_by v;
+    begin = None;
+    past = reverse v.seen;
+  }
 
   -- what session s is shown through a pass to which a reference of this name leads; others may step the world
   abbrev pub shown_through : GName → PassKnown L → ℕ → Shown
