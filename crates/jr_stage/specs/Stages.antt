@@ -132,7 +132,8 @@ pub record IsTurnedIn (s : ℕ) (old new : WorldOf JcrLaw) (run now : SessionRun
       (turns_left run) (turns_left now) answer
 
 -- a reading step of session s, where one is due
-abbrev pub MakesReading : GName → ℕ → WorldOf JcrLaw → WorldOf JcrLaw → SessionRun → SessionRun → Type 0
+abbrev pub MakesReading : GName → ℕ → WorldOf JcrLaw → WorldOf JcrLaw → SessionRun → SessionRun
+    → Type 0
 MakesReading n s old new run now =
     (new.law ≡ old.law) × HasLooked old.law (shown_at n old s) (shown_at n new s) run now
 

@@ -370,7 +370,8 @@ pub fn session_of(
 fn read_one(world: &mut World<JcrLaw>, run: &mut SessionRun, s: u32) -> Result<bool, AllocError>
     requires there { IsTrue (is_some (slice_get world.old.history.sessions s)) }
     requires stands { (name : GName) → Stands world.old.law (shown_at name world.old s) run.old }
-    ensures { OnOk result ((name : GName) × MakesReading name s world.old world.new run.old run.new) }
+    ensures { OnOk result
+        ((name : GName) × MakesReading name s world.old world.new run.old run.new) }
 {
     let mut port = SoloPort::new(world, s);
     read(run, &mut port)
