@@ -87,7 +87,8 @@ fn run_sessions<R: Wait, G: Gate>(
     requires crew { IsCrewOf crew.now.script.now.value crew.now.types.now crew.now.sessions }
     requires some { 1 ≤ crew.now.workers }
     requires own { IsOf crew.now.shared.now.lock pass.old }
-    requires out { IsHandedOut crew.now.script.now.value crew.now.workers worker (view_of pass.old) }
+    requires out { IsHandedOut crew.now.script.now.value crew.now.workers worker
+        (view_of pass.old) }
     requires hand { AreInHandOf crew.now.script.now.value.sessions crew.now.workers worker 0 hand }
     ensures own { OnOk result (IsOf crew.now.shared.now.lock pass.new) }
     ensures worked { OnOk result (HasWorked crew.now.script.now.value crew.now.workers worker

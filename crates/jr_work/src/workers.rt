@@ -156,7 +156,8 @@ fn job_of<R, G>(
     requires few { crew.now.workers ≤ 16 }
     requires below { worker < crew.now.workers }
     requires own { IsOf crew.now.shared.now.lock main.old }
-    requires out { HasHandedOut crew.now.script.now.value crew.now.workers worker (view_of main.old) }
+    requires out { HasHandedOut crew.now.script.now.value crew.now.workers worker
+        (view_of main.old) }
     requires hand { AreInHandOf crew.now.script.now.value.sessions crew.now.workers worker 0 hand }
     ensures own { IsOf crew.now.shared.now.lock main.new }
     ensures out { IfOk result (λ job. HasHandedOut crew.now.script.now.value crew.now.workers
@@ -205,7 +206,8 @@ fn run_jobs<R: Threads + Wait + Sync, G: Gate + Sync>(
         crew.rt,
         jobs,
         &|job: Job| -> Result<WorldPass, AllocError>
-            requires crew { IsCrewOf crew.now.script.now.value crew.now.types.now crew.now.sessions }
+            requires crew { IsCrewOf crew.now.script.now.value crew.now.types.now
+                crew.now.sessions }
             requires some { 1 ≤ crew.now.workers }
             requires job { IsJob crew.now.script.now.value crew.now.workers
                 crew.now.shared.now.lock job }
