@@ -134,7 +134,8 @@ pub record IsReadWhole (before now : Input) (bytes : List ℕ) : Type 0 where
 
 -- a source was read to its end, and its bytes are this script
 abbrev pub IsInputRead : Input → Input → Script → Type 0
-IsInputRead before now script = (bytes : List ℕ) × IsReadWhole before now bytes × SpellsScript bytes script
+IsInputRead before now script =
+    (bytes : List ℕ) × IsReadWhole before now bytes × SpellsScript bytes script
 
 -- the bytes have the fault: they break a rule of scripts, or are no text of node types
 abbrev pub HasFault : SourceKind → List ℕ → Unrun → Type 0

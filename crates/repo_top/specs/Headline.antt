@@ -8,7 +8,12 @@ use Rattle.jr_print.specs.Replies.{reply_text}
 
 -- a journal that tells this history
 abbrev pub journal_of : History → Journal
-journal_of h = record { clusters = h.clusters; sessions = h.sessions; events = record { list = reverse h.past; places = 0 }; start = h.begin }
+journal_of h = record {
+  clusters = h.clusters;
+  sessions = h.sessions;
+  events = record { list = reverse h.past; places = 0 };
+  start = h.begin;
+}
 
 -- the replies of a history, as they are printed
 abbrev pub replies_of : History → List ℕ
