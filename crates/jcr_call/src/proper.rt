@@ -17,9 +17,9 @@ use jr_value::Property;
 use std::alloc::{AllocError, Global};
 use std::collections::BTreeSet;
 
-/// Whether an edit is proper on a tree: the tree after it, which the caller lends, is one, it writes
-/// each item once and changes it, and it unsets each property of a node that goes (JSR 283, 10.11
-/// Saving). Where the tree before is known to be one, it looks only at what is written.
+/// Whether an edit is proper on a tree: the tree after it, which the caller lends, is one, it
+/// writes each item once and changes it, and it unsets each property of a node that goes (JSR 283,
+/// 10.11 Saving). Where the tree before is known to be one, it looks only at what is written.
 pub fn is_proper(
     alloc: Global,
     known: bool,
