@@ -16,9 +16,9 @@ use Rattle.jcr_law.specs.Since.{stop_position}
 use Rattle.jcr_law.specs.State.{Call, call_of}
 use Rattle.jcr_law.specs.Tasks.{stopped_at}
 
--- once the draw d was made for the command m of s, its reply accepts the commit that was made, tells
--- of the clash for which it was refused, of the stop of the cluster node, or, where nothing was
--- committed, of want of memory
+-- once the draw d was made for the command m of s, its reply accepts the commit that was made,
+-- tells of the clash for which it was refused, of the stop of the cluster node, or, where nothing
+-- was committed, of want of memory
 pub data AfterDraw (law : JcrLaw) (h : History) (s : ℕ) (m : Command) (d : Draw) : List ℕ
     → Type 0 where
   accepted : (c : Call) → IsTrue (is_committed h.past d.revision)

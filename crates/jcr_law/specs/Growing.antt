@@ -1,4 +1,5 @@
--- What the law lets start and say, it lets start and say at a later past that has all of what it asks for.
+-- What the law lets start and say, it lets start and say at a later past that has all of what it
+-- asks for.
 use Rattle.std.proofs.Common.{◌≡◌, ℕ, Bool, true, false, cond, not, ◌&&◌, Option, None, Some, List, [], ◌∷◌, refl, sym, ap, ◌∙◌, subst}
 use Rattle.std.specs.Prelude.{Contains, Ok, Err, Result, option_map, map}
 use Rattle.std.specs.List.{filter}

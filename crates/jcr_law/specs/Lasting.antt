@@ -1,4 +1,5 @@
--- What the law lets start and say lasts while events of others are added, and what it lets start is proper.
+-- What the law lets start and say lasts while events of others are added, and what it lets start is
+-- proper.
 use Rattle.std.proofs.Common.{◌≡◌, ℕ, Bool, true, false, cond, Option, None, Some, List, [], ◌∷◌, ◌++◌, arith, refl, sym, ap, ◌∙◌, subst, inl, inr}
 use Rattle.std.specs.Prelude.{◌+◌, ◌==◌, Contains}
 use Rattle.std.specs.List.{filter, list_any}

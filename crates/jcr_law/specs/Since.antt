@@ -18,7 +18,8 @@ abbrev pub before_turn : Past → ℕ → Past
 before_turn [] s = []
 before_turn (e ∷ past) s = cond (is_beginning s e) (e ∷ past) (before_turn past s)
 
--- since the command of s began some event came that passes the test, which is told what lay behind it
+-- since the command of s began some event came that passes the test, which is told what lay behind
+-- it
 abbrev pub came : ℕ → (Past → Event → Bool) → Past → Bool
 came s test [] = false
 came s test (e ∷ past) = not (is_beginning s e) && (test past e || came s test past)

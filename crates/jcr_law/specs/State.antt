@@ -1,4 +1,5 @@
--- What a history says of a session: the view over its base, its lock tokens, its cursor, and its identifiers.
+-- What a history says of a session: the view over its base, its lock tokens, its cursor, and its
+-- identifiers.
 use Rattle.std.specs.Prelude.{ℕ, ◌+◌, min, Bool, false, true, cond, not, ◌==◌, nat_eq, List, [], ◌∷◌, slice_get, codes, Option, None, Some, is_some, option_and_then, option_map}
 use Rattle.std.specs.List.{filter, list_any, starts_with}
 use Rattle.std.specs.Option.{option_map_or}

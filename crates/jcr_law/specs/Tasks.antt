@@ -1,4 +1,5 @@
--- What the commands of the cluster answer: background work, checkpoints, splits, collections, stops.
+-- What the commands of the cluster answer: background work, checkpoints, splits, collections,
+-- stops.
 use Rattle.std.specs.Prelude.{ℕ, Bool, true, false, ◌==◌, ◌||◌, ◌&&◌, not, nat_eq, List, [], ◌∷◌, codes, Option, None, Some, is_none, is_some, map}
 use Rattle.std.specs.List.{list_all, range_with_len}
 use Rattle.std.specs.Option.{option_map_or}
