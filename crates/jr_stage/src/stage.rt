@@ -212,8 +212,9 @@ impl Stage {
         Ok(())
     }
 
-    // Turns of a session to its next reply. Its commit is in flight, and none of another session
-    // keeps it waiting: so the head sees the commit once it has ended, and the session never waits.
+    // Turns of a session to its next reply. The session's commit is in flight, and none of another
+    // session keeps it waiting: so the head sees the commit once it has ended, and the session
+    // never waits.
     pub(crate) fn reply(&mut self, s: u32) -> Result<(), AllocError>
         requires stage { IsStage self.old }
         requires there { s < length self.old.seats.items }
