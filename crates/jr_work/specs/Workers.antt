@@ -108,7 +108,8 @@ pub record HasWorked (script : Script) (workers worker : ℕ) (v : PassKnown Jcr
   pub weight : v.weight ≡ 1
   pub over : (s : ℕ) → s < length script.sessions → s % workers ≡ worker → HasOver script v s
 
--- a worker begins with a pass of the lock that is handed out to it, and the commands of its sessions
+-- a worker begins with a pass of the lock that is handed out to it, and the commands of its
+-- sessions
 abbrev pub IsJob : Script → ℕ
     → SeatLock (LockedWorld JcrLaw) Event Owned (WorldFrame JcrLaw) (WorldOf JcrLaw)
     → Job → Type 0
@@ -158,8 +159,8 @@ pub record HasAll (script : Script) (v : PassKnown JcrLaw) : Type 0 where
   pub weight : v.weight ≡ 1024
   pub over : (s : ℕ) → s < length script.sessions → HasOver script v s
 
--- the script was run to its end by workers, whatever its schedule: the world is of its law, and what
--- its journal tells answers the script
+-- the script was run to its end by workers, whatever its schedule: the world is of its law, and
+-- what its journal tells answers the script
 pub record HasRunByWorkers (script : Script) (w : WorldOf JcrLaw) : Type 0 where
   pub law : w.law ≡ law_of script
   pub answers : AnswersScript script (live w.history)

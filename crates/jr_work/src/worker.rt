@@ -77,7 +77,7 @@ pub(crate) fn work<R: Wait, G: Gate>(
     Ok(pass)
 }
 
-// Runs the sessions of a worker, one after another. Their commands are in hand.
+// Runs the sessions of a worker, one after another. The sessions' commands are in hand.
 fn run_sessions<R: Wait, G: Gate>(
     crew: &Crew<'_, R, G>,
     pass: &mut WorldPass,
