@@ -1,4 +1,5 @@
--- What is printed of a run: the reply lines of its history, and the lines of the documents that it left.
+-- What is printed of a run: the reply lines of its history, and the lines of the documents that it
+-- left.
 use Rattle.std.specs.Prelude.{ℕ, Bool, true, false, List, ◌++◌, reverse}
 use Rattle.oak_machine.specs.declared.event.Journal.{Journal}
 use Rattle.oak_machine.specs.History.{History}
@@ -19,8 +20,8 @@ journal_of h = record {
 abbrev pub replies_of : History → List ℕ
 replies_of h = reply_text (journal_of h)
 
--- what is printed of a run that left this world: the replies of its history; and, where the documents
--- are asked for, behind them a line for each document of the world, in store order
+-- what is printed of a run that left this world: the replies of its history; and, where the
+-- documents are asked for, behind them a line for each document of the world, in store order
 abbrev pub printed_of : {L : Type 0} → Bool → WorldOf L → List ℕ
 printed_of false world = replies_of (live world.history)
 printed_of true world = replies_of (live world.history) ++ documents_text world.table

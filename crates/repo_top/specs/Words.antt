@@ -46,8 +46,8 @@ abbrev pub option_word : List ℕ → Option (List ℕ) → List ℕ
 option_word name None = 45 ∷ (45 ∷ name)
 option_word name (Some value) = 45 ∷ (45 ∷ (name ++ (61 ∷ value)))
 
--- how an option is given by the value in its word and by the words behind it, which go on with the rest: a flag has no value, and a
--- number's digits are the value or the next word
+-- how an option is given by the value in its word and by the words behind it, which go on with the
+-- rest: a flag has no value, and a number's digits are the value or the next word
 abbrev pub IsGivenBy : Given → Option (List ℕ) → List (List ℕ) → List (List ℕ) → Type 0
 IsGivenBy given.Flag None words rest = words ≡ rest
 IsGivenBy given.Flag (Some value) words rest = ⊥
@@ -143,7 +143,7 @@ seed_option = record {
 abbrev pub sessions_option : RowOption
 sessions_option = record { name = codes "sessions"; takes = takes.Number 1 64; required = true }
 
--- it is run
+-- the script that was made is run
 abbrev pub run_option : RowOption
 run_option = record { name = codes "run"; takes = takes.Nothing; required = false }
 

@@ -9,21 +9,21 @@ ghost use Rattle.repo_top.specs.declared.words.Words.TheVariants.{Gen, Run, Step
 /// What a list of words means.
 #[derive(Clone, Copy, PartialEq, Eq)]
 pub enum Words {
-    /// `steps`: reads a script from the source, runs it on one thread, prints the replies, and behind
-    /// them the documents where these are asked for.
+    /// `steps`: reads a script from the source, runs it on one thread, prints the replies, and
+    /// behind them the documents where these are asked for.
     Steps {
         documents: bool,
     },
     /// `types`: reads a text of node types from the source, prints its canonical form.
     Types,
-    /// `run`: reads a script from the source, runs it by so many worker threads, 1 to 16, prints the
-    /// replies, and behind them the documents where these are asked for.
+    /// `run`: reads a script from the source, runs it by so many worker threads, 1 to 16, prints
+    /// the replies, and behind them the documents where these are asked for.
     Run {
         workers: u32,
         documents: bool,
     },
-    /// `gen`: makes a script from a seed for so many sessions, 1 to 64, and prints it; or runs it on
-    /// one thread and prints one line that counts what came of it. The source isn't read.
+    /// `gen`: makes a script from a seed for so many sessions, 1 to 64, and prints it; or runs it
+    /// on one thread and prints one line that counts what came of it. The source isn't read.
     Gen {
         seed: u64,
         sessions: u32,
@@ -321,7 +321,8 @@ fn first_given<'w>(options: &[WordOption], words: &'w [String]) -> Option<FirstG
     Some(FirstGiven { name, given, rest })
 }
 
-// How an option is given by the value in its word and by the words behind it, and the rest of these.
+// How an option is given by the value in its word and by the words behind it, and the rest of
+// these.
 fn how_given<'w>(
     takes: Takes,
     value: Option<&str>,
