@@ -27,8 +27,8 @@ use std::thread::Threads;
 /// Runs a script by a number of workers, 1 to 16, on threads of their own: worker w runs sessions
 /// w, w + N, w + 2N and so on, each to its end, and calls the gate before each step. The schedule
 /// is ignored. Answers the world once the last worker has returned. Where a worker's run ends for
-/// want of memory the others go on to their end, and no world is answered. Waits for the lock of the
-/// world, and nothing is said of when it returns.
+/// want of memory the others go on to their end, and no world is answered. Waits for the lock of
+/// the world, and nothing is said of when it returns.
 pub fn run_workers<R: Threads + Wait + Sync, G: Gate + Sync>(
     rt: &R,
     alloc: Global,
