@@ -20,7 +20,7 @@ pub enum Due {
     Refresh,
     /// A query is answered by the tree at the base.
     Query,
-    /// What is due for it is committed.
+    /// What is due for the command is committed.
     Commit,
     /// Background work is done, or a checkpoint is made or released.
     Errand,
@@ -28,9 +28,9 @@ pub enum Due {
     Attach,
     /// The session leaves its checkpoint: the base moves to the head.
     Detach,
-    /// Its cursor over the changes is set at the base.
+    /// The session's cursor over the changes is set at the base.
     Observe,
-    /// What changed since its cursor is shown.
+    /// What changed since the session's cursor is shown.
     Events,
     /// Another command is answered by the view.
     See,

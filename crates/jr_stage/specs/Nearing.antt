@@ -24,7 +24,7 @@ phase_at stage s = option_map (λ seat. seat.run.phase) (slice_get stage.seats.i
 abbrev pub works_at : Stage → ℕ → Bool
 works_at stage s = option_map_or is_working (phase_at stage s) false
 
--- it has drawn, and has not replied yet
+-- session s has drawn for its next command, and has not replied yet
 abbrev pub saves_at : Stage → ℕ → Bool
 saves_at stage s = option_map_or is_saving (phase_at stage s) false
 
@@ -65,8 +65,8 @@ abbrev pub ReadsThrough : (old new : Stage) → ℕ → Type 0
 ReadsThrough old new s = (unread_at new s ≤ unread_at old s)
     × (IsTrue (reads_at old s) → unread_at new s < unread_at old s)
 
--- s has less left; or a task of its next command is under way as it was, and fewer steps of that are
--- left
+-- s has less left; or a task of its next command is under way as it was, and fewer steps of that
+-- are left
 abbrev pub StepsNearer : (still : Bool) → (old new : Stage) → ℕ → Type 0
 StepsNearer true old new s = (left_at new s ≡ left_at old s) × (steps_at new s < steps_at old s)
 StepsNearer false old new s = left_at new s < left_at old s

@@ -108,7 +108,7 @@ impl Actor {
         Ok(())
     }
 
-    // Says a reply for which room is kept. It takes no memory.
+    // Says a reply for which room is kept. No memory is taken.
     pub(crate) fn say(&mut self, events: &mut Events, s: u32, index: u32, text: &str)
         requires room { IsSomeAnd self.old.reply (λ bytes. length text.now ≤ bytes) }
         requires placed { IsPlaced self.old }

@@ -87,7 +87,8 @@ fn byte(word: &str) -> u8 {
     u8::from_str_radix(word, 16).unwrap_or(0)
 }
 
-// The words, and which calls fail to read and to write; the input; and how many bytes may be written.
+// The words, and which calls fail to read and to write; the input; and how many bytes may be
+// written.
 fn add_call(words: (&str, &str, &str), input: &[u8], room: usize, out: &mut Out) {
     let (word, read, write) = words;
     let fails_to_read = fails(read, out);
