@@ -60,7 +60,7 @@ pub(crate) fn add_octets(rest: &str, out: &mut Out) {
     add_call(words, bytes.as_slice(), 1000, out);
 }
 
-// WORDS: the same of words that read nothing; a read would fail.
+// WORDS: a call of words that read nothing; a read would fail.
 pub(crate) fn add_unread(words: &str, out: &mut Out) {
     add_call((words, "0", "-"), &[], 1000, out);
 }
