@@ -216,7 +216,7 @@ fn is_begun_there(journal: &Journal, session: u32, draw: &Draw) -> bool
     }
 }
 
-// Whether such a draw is committed, and the base sees it.
+// Whether a draw at the base at which the command began is committed, and the base sees it.
 fn is_seen_commit(journal: &Journal, session: u32, draw: &Draw) -> bool
     ensures { result ≡ is_seen_commit (history_of journal.now) session draw.now }
 {

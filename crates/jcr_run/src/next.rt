@@ -10,9 +10,9 @@ use jcr_trans::Command;
 /// What is to be done for the next command.
 #[derive(Clone, Copy, PartialEq, Eq)]
 pub enum Due {
-    /// There is none: the session leaves.
+    /// No command is left: the session leaves.
     Leave,
-    /// The session may not run it, or it isn't built: it is refused.
+    /// The session may not run the command, or it isn't built: the command is refused.
     Bar,
     /// `head`: the base is shown.
     ShowBase,

@@ -41,11 +41,11 @@ module _ {L : Type 0} where
   abbrev pub owned_by : PassKnown L → ℕ → Option Owned
   owned_by v s = lookup (λ a. a == s) v.parts
 
-  -- what it does, and what is kept for it, where it is one of the world's
+  -- what session s does, and what is kept for it, where it is one of the world's
   abbrev pub seat_by : PassKnown L → ℕ → Option ActorState
   seat_by v s = option_and_then (λ part. part.seat) (owned_by v s)
 
-  -- what a session does, and what is kept for it; for one that the pass doesn't know, what a
+  -- what session s does, and what is kept for it; for one that the pass doesn't know, what a
   -- session has that does nothing
   abbrev pub actor_by : PassKnown L → ℕ → ActorState
   actor_by v s = unwrap_or (seat_by v s) idle

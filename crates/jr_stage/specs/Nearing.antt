@@ -20,7 +20,7 @@ use Rattle.jr_stage.specs.Awaited.{KeepsWaiting}
 abbrev pub phase_at : Stage → ℕ → Option Phase
 phase_at stage s = option_map (λ seat. seat.run.phase) (slice_get stage.seats.items s)
 
--- a commit or another task of its next command is under way
+-- a commit or another task of the next command of session s is under way
 abbrev pub works_at : Stage → ℕ → Bool
 works_at stage s = option_map_or is_working (phase_at stage s) false
 
@@ -28,20 +28,20 @@ works_at stage s = option_map_or is_working (phase_at stage s) false
 abbrev pub saves_at : Stage → ℕ → Bool
 saves_at stage s = option_map_or is_saving (phase_at stage s) false
 
--- a node, or the names of the children of one, are being read for it
+-- a node, or the names of the children of one, are being read for session s
 abbrev pub reads_at : Stage → ℕ → Bool
 reads_at stage s =
     option_map_or (λ seat. is_some seat.run.fetch) (slice_get stage.seats.items s) false
 
--- how many replies it has not said yet, and how near it is to the next one
+-- how many replies session s has not said yet, and how near the session is to the next one
 abbrev pub left_at : Stage → ℕ → ℕ
 left_at stage s = option_map_or (λ seat. turns_left seat.run) (slice_get stage.seats.items s) 0
 
--- how many steps are left of what is being done for it
+-- how many steps are left of what is being done for session s
 abbrev pub steps_at : Stage → ℕ → ℕ
 steps_at stage s = left_in stage.world s
 
--- what its next command is run with
+-- what the next command of session s is run with
 abbrev pub next_call : Stage → ℕ → Option Call
 next_call stage s =
     call_of stage.world.law (live stage.world.history).begin (live stage.world.history).past s

@@ -75,7 +75,7 @@ impl Drop for Seat {
 }
 
 impl Stage {
-    // Gives its world back.
+    // Gives back the world of the stage.
     pub(crate) fn into_world(self) -> World<JcrLaw>
         ensures { result ≡ self.world }
     {

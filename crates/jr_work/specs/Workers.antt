@@ -54,9 +54,9 @@ pub record KnowsScript (script : Script) (v : PassKnown JcrLaw) : Type 0 where
   -- no call by it is under way
   pub rest : v.round ≡ round.Idle
   pub frame : v.frame ≡ Some (frame_for script)
-  -- of its sessions it knows just the events that it has seen
+  -- of its sessions the pass knows just the events that it has seen
   pub told : IsTold v
-  -- what it has seen is a run by the law of the script
+  -- what the pass has seen is a run by the law of the script
   pub run : IsRun (starts_of (law_of script)) (says_of (law_of script)) (history_by v)
 
 -- session s is one of the pass's, and has not begun

@@ -133,7 +133,7 @@ changes_left t r = asks_left (changes_on t) phase_told (documents_ahead t r) r
 -- ---- a commit
 
 module _ (r : Revision) where
-  -- marks on these commit roots, and what is left behind them
+  -- marks on the commit roots of a list, and what is left behind them
   abbrev pub marks_left : (Table → ℕ) → List Met → List Path → Table → ℕ
   marks_left behind [] roots t = behind t
   marks_left behind (f ∷ fs) roots t =
@@ -153,8 +153,8 @@ module _ (r : Revision) (base : RevVec) (writes : List Write) (marks : List Mark
   writes_left [] t = 0
   writes_left (p ∷ ps) t = write_left (λ u. writes_left ps u) p t
 
--- before its commit point updates and at most as many undoings as documents; behind it its end, and
--- the move of the base
+-- a commit has left, before its commit point, updates and at most as many undoings as documents;
+-- behind that its end, and the move of the base
 abbrev pub commit_left : Table → Committing → Option CommitEnd → ℕ
 commit_left t c None =
     marks_left c.revision

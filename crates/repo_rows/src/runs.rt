@@ -40,7 +40,8 @@ pub(crate) fn add_status(rest: &str, out: &mut Out) {
     add_call(words, input.as_bytes(), 1000, out);
 }
 
-// READ WRITE INPUT: the same of the words `steps --documents`.
+// READ WRITE INPUT: the status, whether a world is left, and what is written, by the words
+// `steps --documents`.
 pub(crate) fn add_documents(rest: &str, out: &mut Out) {
     let (read, rest) = cut(rest);
     let (write, input) = cut(rest);
@@ -52,15 +53,15 @@ pub(crate) fn add_documents(rest: &str, out: &mut Out) {
     );
 }
 
-// WORD READ WRITE BYTES: the same of an input whose bytes are these, each by two hexadecimal
-// digits, with spaces between them.
+// WORD READ WRITE BYTES: the status, whether a world is left, and what is written, of an input
+// whose bytes are given, each by two hexadecimal digits, with spaces between them.
 pub(crate) fn add_octets(rest: &str, out: &mut Out) {
     let (words, input) = cut_words(rest);
     let bytes = bytes_of(input, out);
     add_call(words, bytes.as_slice(), 1000, out);
 }
 
-// WORDS: the same of words that read nothing; a read would fail.
+// WORDS: a call of words that read nothing; a read would fail.
 pub(crate) fn add_unread(words: &str, out: &mut Out) {
     add_call((words, "0", "-"), &[], 1000, out);
 }

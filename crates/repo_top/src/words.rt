@@ -43,7 +43,7 @@ pub enum Verb {
 /// What an option takes.
 #[derive(Clone, Copy)]
 pub enum Takes {
-    /// Nothing: it is a flag.
+    /// Nothing: the option is a flag.
     Nothing,
     /// A number in this range.
     Number { least: u64, most: u64 },
