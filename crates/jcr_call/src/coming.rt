@@ -54,7 +54,7 @@ pub fn come(
     command: &Command,
     due: Due,
 ) -> Result<Coming, AllocError>
-    // what comes of the command says the reply to what is due
+    // what it says is the reply to what is due
     ensures reply { (c : Call) → IsOn footing.now c → IsAsKnown footing.now c
         → IfOk result (λ coming. reply_said coming ≡ reply_to_due c command.now (writes_due due)) }
     // what is due for the command comes to this
