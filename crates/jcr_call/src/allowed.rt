@@ -19,7 +19,6 @@ fn is_built(command: &Command) -> bool
     !matches!(
         command,
         Command::Split(_)
-            | Command::Sweep
             | Command::Collect
             | Command::Stop(_)
             | Command::Recover(_)
