@@ -154,7 +154,7 @@ SeesAllOf v u = (r : Revision) → IsTrue (sees u r) → IsTrue (sees v r)
 abbrev pub IsSessionOn : History → ℕ → ℕ → Type 0
 IsSessionOn h s k = slice_get h.sessions s ≡ Some k
 
--- a sweep that goes up to r passes one document more, or tells the root, from which on what is found
+-- a sweep that goes up to r passes one document more, or tells the root: from then on what is found
 -- of its cluster node's changes up to r is committed
 abbrev pub SweepsOn : History → ℕ → Revision → StepKind → Past → Work → Type 0
 SweepsOn h s r k own now = (k ≡ kind.Sweep)
@@ -330,8 +330,8 @@ LastsOn before now old new = (new.history ≡ old.history) → now ≡ before
 
 -- a task may start: a login first, the others of a session that has logged in and not left; an edit
 -- that the law lets start; a detaching where the session is attached, and others only where it
--- isn't; what changed since a vector where the session's cursor is there. No world splits, collects,
--- stops or recovers yet
+-- isn't; what changed since a vector where the session's cursor is there. No world splits,
+-- collects, stops or recovers yet
 abbrev pub MayBegin : Starts → History → ℕ → Task → Type 0
 MayBegin starts h s task.Login = IsFalse (has_login h.past s)
 MayBegin starts h s (task.Commit edit marks) =
