@@ -1,6 +1,5 @@
-pub mod Asked
-pub mod Told
+pub mod Looking
 pub mod Staying
 pub mod Ordered
 pub mod Moving
-pub mod Memories
+pub mod Reading

@@ -28,11 +28,16 @@ use Rattle.core_world.specs.Collecting.{after_split}
 use Rattle.core_world.specs.States.{State, memory_of, node_of, with_memory}
 use Rattle.core_world.specs.Steps.{swept_to, with_result}
 use Rattle.oak_acts.specs.Acts.{result_of}
-use Rattle.oak_tidy.specs.Moves.{AbsentStay, BoundsGo, ChangedStay, DocumentsGo, GarbageGoes, LooksGo, NodesTell, RefusalsGo, SplitsCopy, SplitsList, SplitsUndo, SweepsLearn, SweepsTell}
+use Rattle.oak_tidy.specs.Moves.{AbsentStay, BoundsGo, ChangedStay, DocumentsGo, GarbageGoes, LooksGo, NodesTell, ReadsStay, RefusalsGo, SplitsCopy, SplitsList, SplitsUndo, SweepsLearn, SweepsTell}
 
 -- the world with these documents and one event more
 abbrev changed_to : State → ℕ → StepKind → Table → State
 changed_to w s y t = record w { past = event.Went s y ∷ w.past; table = t }
+
+pub reads_stay : ReadsStay
+reads_stay w s (ask.Find i) looking = refl
+reads_stay w s (ask.NextAfter i) looking = refl
+reads_stay w s _ looking = absurd looking
 
 pub looks_go : LooksGo
 looks_go w s (ask.Find i) y looking = refl

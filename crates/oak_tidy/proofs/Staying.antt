@@ -24,7 +24,7 @@ use Rattle.oak_port.specs.declared.task.StepOut.{StepOut}
 use Rattle.oak_port.specs.declared.task.StepOut.TheVariants as answers
 use Rattle.oak_tidy.specs.declared.tidying.Tidying.{Tidying}
 use Rattle.oak_tidy.specs.declared.tidying.Tidying.TheVariants as tidying
-use Rattle.oak_tidy.specs.Tidyings.{AsksNodesOf, AsksOf, CanTidy, GoesOn, tidying_fed}
+use Rattle.oak_tidy.specs.Tidyings.{AsksNodesOf, AsksWithin, CanTidy, GoesOrEnds, tidying_fed}
 
 -- no cluster node is asked at this step
 abbrev IsElsewhere : Step → Type 0
@@ -104,13 +104,13 @@ module _ (n : ℕ) where
   stays c (step.RemovePrevious m read) r of = of
   stays c step.Done r of = of
 
-  pub asks_stay : (x : Tidying) (r : Reply) → AsksOf n x → AsksOf n (tidying_fed x r)
+  pub asks_stay : (x : Tidying) (r : Reply) → AsksWithin n x → AsksWithin n (tidying_fed x r)
   asks_stay (tidying.Split x) r of = tt
   asks_stay (tidying.Sweep x) r of = tt
   asks_stay (tidying.Collect x) r of = stays x x.step r of
 
 -- what goes on can go on
-pub goes_can : (n k : ℕ) (x : Tidying) (r : Reply) (y : StepKind) (v : Option Tidying) (o : StepOut) → IsNode n k → AsksOf n x → GoesOn y (tidying_fed x r) v o → IfSome v (λ z. CanTidy n k z)
+pub goes_can : (n k : ℕ) (x : Tidying) (r : Reply) (y : StepKind) (v : Option Tidying) (o : StepOut) → IsNode n k → AsksWithin n x → GoesOrEnds y (tidying_fed x r) v o → IfSome v (λ z. CanTidy n k z)
 goes_can n k x r y v (answers.Went z) node asks h = subst (λ (o : Option Tidying). IfSome o (λ z. CanTidy n k z)) (sym h.1) (record { node = node; busy = h.2; asks = asks_stay n x r asks })
 goes_can n k x r y v (answers.Ready e) node asks h = subst (λ (o : Option Tidying). IfSome o (λ z. CanTidy n k z)) (sym h.0) tt
 goes_can n k x r y v _ node asks h = absurd h

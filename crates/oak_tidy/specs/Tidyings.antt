@@ -123,16 +123,16 @@ parts_on s k p x =
 
 -- what comes of a step of this kind that leaves x: it goes on, or where nothing more is due the task
 -- ends with what there is to tell
-abbrev pub GoesOn : StepKind → Tidying → Option Tidying → StepOut → Type 0
-GoesOn y x v (answers.Went z) = (z ≡ y) × (v ≡ Some x) × (tidying_ask x ≢ ask.Done)
-GoesOn y x v (answers.Ready e) = (v ≡ None) × TidiesTo x e
-GoesOn y x v _ = ⊥
+abbrev pub GoesOrEnds : StepKind → Tidying → Option Tidying → StepOut → Type 0
+GoesOrEnds y x v (answers.Went z) = (z ≡ y) × (v ≡ Some x) × (tidying_ask x ≢ ask.Done)
+GoesOrEnds y x v (answers.Ready e) = (v ≡ None) × TidiesTo x e
+GoesOrEnds y x v _ = ⊥
 
 -- how a step of session s of cluster node k goes: what is asked is done and answered; where memory
 -- is refused nothing changes, and the task ends
 abbrev pub Tidies : ℕ → ℕ → AllParts → Tidying → AllParts → Option Tidying → StepOut → Type 0
 Tidies s k p x q v answers.Memory = (q ≡ p) × (v ≡ None)
-Tidies s k p x q v o = (q ≡ parts_on s k p x) × GoesOn (kind_tidied x) (tidied_on p x) v o
+Tidies s k p x q v o = (q ≡ parts_on s k p x) × GoesOrEnds (kind_tidied x) (tidied_on p x) v o
 
 -- ---- what a step takes
 
@@ -148,12 +148,12 @@ pub record AsksNodesOf (clusters : ℕ) (x : Collector) : Type 0 where
   pub asked : (k : ℕ) → x.step ≡ collect_step.Node k → IsNode clusters k
 
 -- what cluster nodes it asks, if any, are among so many
-abbrev pub AsksOf : ℕ → Tidying → Type 0
-AsksOf clusters (tidying.Collect x) = AsksNodesOf clusters x
-AsksOf clusters _ = Unit {0}
+abbrev pub AsksWithin : ℕ → Tidying → Type 0
+AsksWithin clusters (tidying.Collect x) = AsksNodesOf clusters x
+AsksWithin clusters _ = Unit {0}
 
 -- something is due, of one of so many cluster nodes
 pub record CanTidy (clusters k : ℕ) (x : Tidying) : Type 0 where
   pub node : IsNode clusters k
   pub busy : tidying_ask x ≢ ask.Done
-  pub asks : AsksOf clusters x
+  pub asks : AsksWithin clusters x

@@ -14,7 +14,7 @@ ghost use Rattle.oak_sweep.specs.Sweeping.{sweep_op};
 ghost use Rattle.core_world.specs.Steps.{after_update};
 ghost use Rattle.oak_acts.specs.Acts.{reply_of};
 ghost use Rattle.oak_tidy.specs.Replies.{all_parts, memories_after, node_tells, table_after, told_by_memories};
-ghost use Rattle.oak_tidy.specs.Tidyings.{AsksOf, CanTidy, IsLooking, bound_told, kind_tidied, takes_bound, tidied_on, tidy_events, tidying_ask, tidying_fed};
+ghost use Rattle.oak_tidy.specs.Tidyings.{AsksWithin, CanTidy, IsLooking, bound_told, kind_tidied, takes_bound, tidied_on, tidy_events, tidying_ask, tidying_fed};
 
 use crate::answers::{memory_reply, removal_reply, update_reply};
 use crate::tidying::Tidying;
@@ -244,7 +244,13 @@ fn remove(
     ensures order { IsTable table.new.documents }
 {
     let kind = tidying.due();
-    feed_counted(events, s, tidying, Reply::Removed(removal_reply(table, id, number)), kind)?;
+    feed_counted(
+        events,
+        s,
+        tidying,
+        Reply::Removed(removal_reply(table, id, number)),
+        kind,
+    )?;
     let _ = table.remove_if(id, number);
     Ok(())
 }
@@ -287,7 +293,7 @@ fn remember(
     asking: &MemoryAsk,
 ) -> Result<(), AllocError>
     requires node { IsNode (length memories.old) node }
-    requires asks { AsksOf (length memories.old) tidying.old }
+    requires asks { AsksWithin (length memories.old) tidying.old }
     requires asked { tidying_ask tidying.old ≡ ask.Memory asking.now }
     ensures memories { OnOk result
         (memories.new ≡ memories_after node memories.old (ask.Memory asking.now)) }

@@ -8,6 +8,9 @@ mod laws;
 mod steps;
 mod tidying;
 
-pub use laws::{collections_are_steps, looks_are_steps, splits_are_steps, sweeps_are_steps};
+pub use laws::{
+    collections_are_steps, looks_are_steps, splits_are_steps, steps_have_their_events,
+    sweeps_are_steps,
+};
 pub use steps::tidy;
 pub use tidying::Tidying;

@@ -3,7 +3,7 @@ ghost use Rattle.std.specs.Prelude.{◌≡◌, ◌++◌, ℕ, IfOk, OnErr, OnOk,
 ghost use Rattle.std.specs.Option.{IfSome};
 ghost use Rattle.oak_read.specs.Reading.{IsTable};
 ghost use Rattle.oak_tidy.specs.Replies.{all_parts};
-ghost use Rattle.oak_tidy.specs.Tidyings.{CanTidy, GoesOn, Tidies, kind_tidied, parts_on, tidied_on};
+ghost use Rattle.oak_tidy.specs.Tidyings.{CanTidy, GoesOrEnds, Tidies, kind_tidied, parts_on, tidied_on};
 
 use crate::asks::answered;
 use crate::tidying::Tidying;
@@ -73,7 +73,7 @@ fn step(
 
 // What goes on after a step of that kind, and the answer.
 fn gone_on(tidying: Tidying, kind: StepKind) -> (Option<Tidying>, StepOut)
-    ensures { GoesOn kind tidying result.0 result.1 }
+    ensures { GoesOrEnds kind tidying result.0 result.1 }
 {
     if tidying.is_done() {
         return (None, StepOut::Ready(tidying.end()));

@@ -2,7 +2,7 @@ use Rattle.std.proofs.Common.{◌≡◌, ◌++◌, ap, sym, ◌∙◌, append-ni
 use Rattle.std.proofs.lemmas.Result.{on_ok_weaker}
 use Rattle.oak_machine.specs.declared.event.StepKind.TheVariants as kind
 use Rattle.oak_tidy.specs.Tidyings.{kind_tidied}
-use Rattle.oak_tidy.proofs.Asked.{looks_so, read_events}
+use Rattle.oak_tidy.proofs.Looking.{looks_so, read_events}
 use Rattle.oak_tidy.proofs.asks.look.Goals as goal
 
 pub returns-in-Read-clause-list : goal.returns-in-Read-clause-list

@@ -1,5 +1,8 @@
-use Rattle.oak_tidy.proofs.Moving.{absent_stay, changed_stay, looks_go, nodes_tell, refusals_go}
+use Rattle.oak_tidy.proofs.Moving.{absent_stay, changed_stay, looks_go, nodes_tell, reads_stay, refusals_go}
 use Rattle.oak_tidy.proofs.laws.looks_are_steps.Goals as goal
+
+pub returns-clause-reads : goal.returns-clause-reads
+returns-clause-reads c = reads_stay
 
 pub returns-clause-looks : goal.returns-clause-looks
 returns-clause-looks c = looks_go
