@@ -1,0 +1,5 @@
+pub mod Looking
+pub mod Staying
+pub mod Ordered
+pub mod Moving
+pub mod Reading

@@ -1,0 +1,85 @@
+-- What is looked for has its event.
+use Rattle.std.proofs.Common.{◌≡◌, ◌+◌, ◌<◌, ◌≤◌, ℕ, Bool, true, false, cond, List, [], ◌∷◌, Option, Some, None, refl, sym, ap, subst, ◌∙◌}
+use Rattle.std.specs.Option.{option_map_or}
+use Rattle.jr_path.specs.declared.path.DocId.{DocId}
+use Rattle.jr_path.specs.declared.path.DocId.TheVariants as id
+use Rattle.jr_rev.specs.declared.revision.Revision.{Revision}
+use Rattle.oak_doc.specs.declared.asks.Ask.{Ask}
+use Rattle.oak_doc.specs.declared.asks.Ask.TheVariants as ask
+use Rattle.oak_doc.specs.declared.asks.MemoryAsk.{MemoryAsk}
+use Rattle.oak_doc.specs.declared.asks.MemoryAsk.TheVariants as memory
+use Rattle.oak_doc.specs.declared.update.UpdateOp.{UpdateOp}
+use Rattle.oak_gc.specs.Collecting as collecting
+use Rattle.oak_gc.specs.declared.collector.Collector.{Collector}
+use Rattle.oak_gc.specs.declared.reading.Step.{Step as CollectStep}
+use Rattle.oak_gc.specs.declared.reading.Step.TheVariants as collect_step
+use Rattle.oak_machine.specs.declared.event.Event.{Event}
+use Rattle.oak_machine.specs.declared.event.Event.TheVariants as event
+use Rattle.oak_machine.specs.declared.event.StepKind.{StepKind}
+use Rattle.oak_machine.specs.declared.event.StepKind.TheVariants as kind
+use Rattle.oak_machine.specs.Runs.{IsNode}
+use Rattle.oak_prev.specs.Splitting as splitting
+use Rattle.oak_prev.specs.declared.splitter.Splitter.{Splitter}
+use Rattle.oak_prev.specs.declared.splitter.Step.{Step as SplitStep}
+use Rattle.oak_prev.specs.declared.splitter.Step.TheVariants as split_step
+use Rattle.oak_sweep.specs.Sweeping as sweeping
+use Rattle.oak_sweep.specs.declared.sweeper.Sweeper.{Sweeper}
+use Rattle.oak_sweep.specs.declared.sweeper.Step.{Step as SweepStep}
+use Rattle.oak_sweep.specs.declared.sweeper.Step.TheVariants as sweep_step
+use Rattle.oak_tidy.specs.declared.tidying.Tidying.{Tidying}
+use Rattle.oak_tidy.specs.declared.tidying.Tidying.TheVariants as tidying
+use Rattle.oak_tidy.specs.Tidyings.{AsksNodesOf, AsksWithin, IsLooking, bound_told, kind_tidied, own_event, takes_bound, tidy_events, tidying_ask, went}
+
+-- a counted step has an event
+pub went_counted : (s : ℕ) (z : StepKind) → (z ≡ kind.Read → ⊥) → went s z ≡ event.Went s z ∷ []
+went_counted s kind.Read h = absurd (h refl)
+went_counted s z h = refl
+
+abbrev bound_event : Tidying → Event
+bound_event y = event.Bound (bound_told y).base (bound_told y).sweep
+
+pub read_events : (s k : ℕ) (x y : Tidying) → kind_tidied x ≡ kind.Read → tidy_events s k x y ≡ []
+read_events s k (tidying.Split x) y = λ h. ap (went s) h
+read_events s k (tidying.Sweep x) y = by x.step
+  where
+    by : (st : SweepStep) → kind_tidied (tidying.Sweep (record x { step = st })) ≡ kind.Read → tidy_events s k (tidying.Sweep (record x { step = st })) y ≡ []
+    by sweep_step.Root h = cc
+    by sweep_step.First h = cc
+    by (sweep_step.Behind p) h = cc
+    by sweep_step.Publish h = cc
+    by sweep_step.Learn h = cc
+    by sweep_step.Done h = cc
+read_events s k (tidying.Collect x) y = by x.step
+  where
+    by : (st : CollectStep) → kind_tidied (tidying.Collect (record x { step = st })) ≡ kind.Read → tidy_events s k (tidying.Collect (record x { step = st })) y ≡ []
+    by collect_step.Root h = cc
+    by (collect_step.Node n) h = cc
+    by collect_step.Settings h = cc
+    by collect_step.First h = cc
+    by collect_step.Next h = cc
+    by (collect_step.Listed n) h = refl
+    by collect_step.Prune h = cc
+    by collect_step.Remove h = cc
+    by (collect_step.RemovePrevious n read) h = cc
+    by collect_step.Done h = cc
+
+chosen : (b : Bool) (e f : Event) → option_map_or (λ (e : Event). e ∷ []) (cond b (Some e) None) (f ∷ []) ≡ cond b e f ∷ []
+chosen true e f = refl
+chosen false e f = refl
+
+module _ (s k : ℕ) (y : Tidying) where
+  looked : (x : Tidying) (a : Ask) → IsLooking a → option_map_or (λ (e : Event). e ∷ []) (own_event k x y a) (event.Went s (kind_tidied x) ∷ []) ≡ cond (takes_bound x a) (bound_event y) (event.Went s (kind_tidied x)) ∷ []
+  looked (tidying.Split x) a looking = refl
+  looked (tidying.Sweep x) (ask.Find i) looking = refl
+  looked (tidying.Sweep x) (ask.NextAfter i) looking = refl
+  looked (tidying.Sweep x) _ looking = absurd looking
+  looked (tidying.Collect x) a looking = chosen (takes_bound (tidying.Collect x) a) (bound_event y) (event.Went s (kind_tidied (tidying.Collect x)))
+
+  pub look_events : (x : Tidying) (a : Ask) → tidying_ask x ≡ a → IsLooking a → (kind_tidied x ≡ kind.Read → ⊥) → tidy_events s k x y ≡ cond (takes_bound x a) (bound_event y) (event.Went s (kind_tidied x)) ∷ []
+  look_events x a h looking counted =
+      ap (λ (b : Ask). option_map_or (λ (e : Event). e ∷ []) (own_event k x y b) (went s (kind_tidied x))) h
+      ∙ (ap (λ (es : List Event). option_map_or (λ (e : Event). e ∷ []) (own_event k x y a) es) (went_counted s (kind_tidied x) counted) ∙ looked x a looking)
+
+-- the kind may be named
+pub looks_so : (s k : ℕ) (y x : Tidying) (a : Ask) (z : StepKind) → tidying_ask x ≡ a → IsLooking a → kind_tidied x ≡ z → (kind_tidied x ≡ kind.Read → ⊥) → tidy_events s k x y ≡ cond (takes_bound x a) (bound_event y) (event.Went s z) ∷ []
+looks_so s k y x a z h looking same counted = look_events s k y x a h looking counted ∙ ap (λ (z : StepKind). cond (takes_bound x a) (bound_event y) (event.Went s z) ∷ []) same

@@ -1,0 +1,3 @@
+pub mod Replies
+pub mod Tidyings
+pub mod Moves

@@ -1,0 +1,126 @@
+// What tidies documents: what it asks, and how it has ended.
+ghost use Rattle.std.specs.Prelude.{◌≡◌, ◌↔◌, IfOk, IsTrue, OnOk};
+ghost use Rattle.oak_doc.specs.declared.asks.Ask.TheVariants as ask;
+ghost use Rattle.oak_tidy.specs.Tidyings.{TidiesTo, bound_told, kind_collect, kind_split, kind_sweep, kind_tidied, tidying_ask, tidying_fed};
+
+use jr_rev::{Pin, RevVec};
+use oak_doc::{Ask, Reply};
+use oak_gc::Collector;
+use oak_machine::StepKind;
+use oak_port::TaskEnd;
+use oak_prev::Splitter;
+use oak_sweep::Sweeper;
+use std::alloc::AllocError;
+
+/// What tidies documents, one step after another.
+#[derive(Drop)]
+pub enum Tidying {
+    /// Old entries of a node's document move to a previous document.
+    Split(Splitter),
+    /// What is found of a cluster node's changes is committed from then on.
+    Sweep(Sweeper),
+    /// Garbage of the bound of all that is held is dropped.
+    Collect(Collector),
+}
+
+impl Tidying {
+    /// The kind of the next step.
+    pub fn due(&self) -> StepKind
+        ensures { result ≡ kind_tidied self.now }
+    {
+        match self {
+            Tidying::Split(splitter) => kind_split(splitter.stage()),
+            Tidying::Sweep(sweeper) => kind_sweep(sweeper.stage()),
+            Tidying::Collect(collector) => kind_collect(collector.stage()),
+        }
+    }
+
+    // The one operation that is due, or Done.
+    pub(crate) fn next(&self) -> Result<Ask, AllocError>
+        ensures { IfOk result (λ asking. asking ≡ tidying_ask self.now) }
+    {
+        match self {
+            Tidying::Split(splitter) => splitter.next(),
+            Tidying::Sweep(sweeper) => sweeper.next(),
+            Tidying::Collect(collector) => collector.next(),
+        }
+    }
+
+    // Takes the reply to what is due.
+    pub(crate) fn feed(&mut self, reply: Reply) -> Result<(), AllocError>
+        ensures { OnOk result (self.new ≡ tidying_fed self.old reply) }
+    {
+        match self {
+            Tidying::Split(splitter) => splitter.feed(reply),
+            Tidying::Sweep(sweeper) => sweeper.feed(reply),
+            Tidying::Collect(collector) => collector.feed(reply),
+        }
+    }
+
+    // Whether nothing more is due.
+    pub(crate) fn is_done(&self) -> bool
+        ensures { IsTrue result ↔ (tidying_ask self.now ≡ ask.Done) }
+    {
+        match self {
+            Tidying::Split(splitter) => splitter.is_done(),
+            Tidying::Sweep(sweeper) => sweeper.is_done(),
+            Tidying::Collect(collector) => collector.is_done(),
+        }
+    }
+
+    // How it has ended.
+    pub(crate) fn end(self) -> TaskEnd
+        requires { tidying_ask self ≡ ask.Done }
+        ensures { TidiesTo self result }
+    {
+        match self {
+            Tidying::Split(splitter) => TaskEnd::Split(splitter.end()),
+            Tidying::Sweep(sweeper) => TaskEnd::Swept(sweeper.end()),
+            Tidying::Collect(collector) => TaskEnd::Collected(collector.end()),
+        }
+    }
+
+    // The bound of a collection, as far as it was told.
+    pub(crate) fn bound(&self) -> Pin
+        ensures { result ≡ bound_told self.now }
+    {
+        match self {
+            Tidying::Collect(collector) => collector.bound(),
+            Tidying::Split(_) | Tidying::Sweep(_) => Pin {
+                base: RevVec::none(),
+                sweep: RevVec::none(),
+            },
+        }
+    }
+}
+
+// The kind of the next step of a splitter.
+fn kind_split(stage: oak_prev::Stage) -> StepKind
+    ensures { result ≡ kind_split stage }
+{
+    match stage {
+        oak_prev::Stage::Read => StepKind::Read,
+        oak_prev::Stage::Split | oak_prev::Stage::Done => StepKind::Split,
+    }
+}
+
+// The kind of the next step of a sweeper.
+fn kind_sweep(stage: oak_sweep::Stage) -> StepKind
+    ensures { result ≡ kind_sweep stage }
+{
+    match stage {
+        oak_sweep::Stage::Learn => StepKind::Learn,
+        _ => StepKind::Sweep,
+    }
+}
+
+// The kind of the next step of a collector.
+fn kind_collect(stage: oak_gc::Stage) -> StepKind
+    ensures { result ≡ kind_collect stage }
+{
+    match stage {
+        oak_gc::Stage::Bound => StepKind::Bound,
+        oak_gc::Stage::Read => StepKind::Read,
+        oak_gc::Stage::Collect | oak_gc::Stage::Done => StepKind::Collect,
+    }
+}
