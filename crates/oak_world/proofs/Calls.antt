@@ -114,8 +114,8 @@ module _ (starts : Starts) (says : Says) (proper : StartsProper starts) (writes 
       parts_are : parts_at w s ≡ parts t m j.events.list
       parts_are = ap (λ (x : NodeState). parts t x (reverse (reverse j.events.list))) memory_is ∙ ap (λ (xs : List Event). parts t m xs) (reverse-reverse j.events.list)
 
-      roots : (c : Committing) → work_in w.actors s ≡ work.Commit c → c.roots ≡ map (λ (f : Met). root_of w.history.past f.other) c.writer.due
-      roots c does = (subst (λ (v : Work). May starts (live w.history) s v) does (is.may s)).roots
+      roots : (c : Committing) → work_in w.actors s ≡ work.Commit c → (c.roots ≡ map (λ (f : Met). root_of w.history.past f.other) c.writer.due) × (c.looking ≡ None)
+      roots c does = let may : May starts (live w.history) s (work.Commit c) = subst (λ (v : Work). May starts (live w.history) s v) does (is.may s) in (may.roots, may.looked)
 
       module _ (busy : a.work ≢ work.Rest) (made : Steps s k (parts t m j.events.list) a.work after b.work o) where
         made_there : Steps s (node_in w.history s) (parts_at w s) (work_in w.actors s) after b.work o

@@ -61,7 +61,7 @@ use Rattle.oak_step.specs.Works.{Begins, CanBegin, kind_due, kind_of_stage}
 use Rattle.oak_world.specs.Steps.{IsPresent, StepsIn, attached_after}
 use Rattle.oak_world.specs.Worlds.{ActorState, Story, WorldOf, actor_in, live, node_in, observing_of, reading_of, running_as, running_of, said_in, state_of, state_with, with_reply, with_work, work_in}
 use Rattle.oak_world.proofs.States.{SameReaders, actor_other, actor_set, readers_same, readers_set, same_readers, session_same, session_set, with_readers}
-use Rattle.oak_step.proofs.Stages.{counted_stage, done_stage}
+use Rattle.oak_step.proofs.Stages.{done_stage}
 use Rattle.oak_world.proofs.Others.{attached_left}
 use Rattle.oak_world.proofs.Pinning.{actor_there}
 use Rattle.oak_world.proofs.Staying.{may_last}
@@ -274,7 +274,7 @@ module _ (starts : Starts) (says : Says) (proper : StartsProper starts) (writes 
   can_by (work.Read r) busy at may places kept short = tt
   can_by (work.Changes r) busy at may places kept short = tt
   can_by (work.Plan edit marks) busy at may places kept short = let t : known_time (memory_of (state_of w) s) ≤ 0 + length w.history.past = time_known starts says proper (state_of w) is.kept.sessions (node_in w.history s) node in omega arith
-  can_by (work.Commit c) busy at may places kept short = record { flying = flies_there starts says proper (state_of w) is.kept.sessions s (running_as s c) (ap (running_of s) at); unended = may.unended; counted = counted_stage c may.looked; kept = kept }
+  can_by (work.Commit c) busy at may places kept short = record { flying = flies_there starts says proper (state_of w) is.kept.sessions s (running_as s c) (ap (running_of s) at); unended = may.unended; kept = kept }
   can_by (work.Upkeep u) busy at may places kept short = can_keep_up u may.0 may.1
   can_by (work.Move r) busy at may places kept short = record { ended = moved_ended r may; pinned = come_pinned may.0; place = kept }
 

@@ -46,7 +46,11 @@ use Rattle.oak_world.specs.Steps.{BeginsBackWrite, MakesState, MakesBackRead, Ma
 use Rattle.oak_world.specs.Worlds.{ActorState, WorldOf, node_in, observing_of, parts_at, reading_of, running_as, running_of, state_of, with_parts, work_in}
 use Rattle.oak_world.proofs.Making.{begins_is, ended_is, makes_last, makes_mark, makes_undo, makes_write, observes_is, reads_is, runs_is, same_is, sets_is, told_is}
 use Rattle.oak_world.proofs.States.{SameReaders, same_readers}
-use Rattle.oak_step.proofs.Stages.{IsMarkStage, last_stage, mark_stage, undo_stage, write_stage}
+use Rattle.oak_step.proofs.Stages.{IsMarkStage, last_stage, look_stage, mark_stage, undo_stage, write_stage}
+
+-- what is not there is nothing
+none_some : {A : Type 0} (o : Option A) (x : A) → o ≡ None → o ≡ Some x → ⊥
+none_some o x none some = let k : None ≡ Some x = sym none ∙ some in cc
 
 -- parts with the same documents, memory and events
 same_parts : (p q : Parts) → p.table ≡ q.table → p.memory ≡ q.memory → p.list ≡ q.list → p ≡ q
@@ -151,7 +155,7 @@ module _ {L : Type 0} (w : WorldOf L) (s : ℕ) (there : s < length w.actors) (q
 
   -- ---- a commit
 
-  module _ (c : Committing) (here : work_in w.actors s ≡ work.Commit c) (roots : c.roots ≡ map (λ (f : Met). root_of w.history.past f.other) c.writer.due) where
+  module _ (c : Committing) (here : work_in w.actors s ≡ work.Commit c) (roots : c.roots ≡ map (λ (f : Met). root_of w.history.past f.other) c.writer.due) (looked : c.looking ≡ None) where
     root_first : (at : IsMarkStage c) → first_path c.roots ≡ root_of w.history.past at.first.other
     root_first at = ap first_path (roots ∙ ap (map (λ (f : Met). root_of w.history.past f.other)) at.due)
 
@@ -161,6 +165,7 @@ module _ {L : Type 0} (w : WorldOf L) (s : ℕ) (there : s < length w.actors) (q
     updates : (x : StepKind) (d : Committing) → q.memory ≡ memory → v ≡ work.Commit d → UpdatesDocument s w.table (reverse w.history.past) c q.table q.list d x → MakesUpdate s (state_of w) c now d x
     updates kind.Mark d same is h = let at : IsMarkStage c = mark_stage c h.0 in makes_mark w s there c q a d same (does ∙ is) (alike d is) at (root_first at) h.1
     updates kind.Write d same is h = makes_write w s there c q a d same (does ∙ is) (alike d is) (write_stage c h.0) (unsplit (write_stage c h.0).first) h.1
+    updates kind.Read d same is h = absurd (none_some c.looking (look_stage c h.0).looking looked (look_stage c h.0).looked)
     updates kind.Last d same is h = makes_last w s there c q a d same (does ∙ is) (alike d is) (last_stage c h.0) h.1
     updates kind.Undo d same is h = makes_undo w s there c q a d same (does ∙ is) (alike d is) (undo_stage c h.0) h.1
     updates _ d same is h = absurd h
@@ -264,7 +269,7 @@ module _ {L : Type 0} (w : WorldOf L) (s : ℕ) (there : s < length w.actors) (q
 
   -- ---- all
 
-  pub makes : (u : Work) → work_in w.actors s ≡ u → (u ≡ work.Rest → ⊥) → ((c : Committing) → u ≡ work.Commit c → c.roots ≡ map (λ (f : Met). root_of w.history.past f.other) c.writer.due)
+  pub makes : (u : Work) → work_in w.actors s ≡ u → (u ≡ work.Rest → ⊥) → ((c : Committing) → u ≡ work.Commit c → (c.roots ≡ map (λ (f : Met). root_of w.history.past f.other) c.writer.due) × (c.looking ≡ None))
       → (o : StepOut) → Steps s node (parts_at w s) u q v o → MakesState s (state_of w) u now v o
   makes work.Rest here busy roots o h = absurd (busy refl)
   makes work.Login here busy roots o h = login_makes here o h
@@ -273,6 +278,6 @@ module _ {L : Type 0} (w : WorldOf L) (s : ℕ) (there : s < length w.actors) (q
   makes (work.Read r) here busy roots o h = read_makes r here o h
   makes (work.Changes r) here busy roots o h = changes_make r here o h
   makes (work.Plan edit marks) here busy roots o h = plan_makes edit marks here o h
-  makes (work.Commit c) here busy roots o h = commit_makes c here (roots c refl) o h
+  makes (work.Commit c) here busy roots o h = commit_makes c here (roots c refl).0 (roots c refl).1 o h
   makes (work.Upkeep k) here busy roots o h = upkeep_makes k here o h
   makes (work.Move r) here busy roots o h = move_makes r here o h
