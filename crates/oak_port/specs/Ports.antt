@@ -119,13 +119,14 @@ pub record IsDrawFor (s : ℕ) (edit : Edit) (marks : List MarkAt) (d : Draw) : 
   pub edit_is : d.edit ≡ edit
   pub marks_are : d.marks ≡ marks
 
--- a commit that writes makes one write, behind which it undoes where memory is refused for what it
--- met there; or one mark; or it is decided by a mark or by its last write: committed, or refused
--- for a clash
+-- a commit that writes makes one write, or reads a previous document of one that it wrote; behind
+-- either it undoes where memory is refused for what it met there; or it makes one mark; or it is
+-- decided by a mark or by its last write: committed, or refused for a clash
 abbrev pub WritesOn : ℕ → Revision → StepKind → Past → Work → Type 0
 WritesOn s r k own now =
     ((k ≡ kind.Write) × (own ≡ event.Went s kind.Write ∷ [])
     × ((now ≡ Writing r) ⊎ (now ≡ Undoing r commit.Memory)))
+    ⊎ ((k ≡ kind.Read) × (own ≡ []) × ((now ≡ Writing r) ⊎ (now ≡ Undoing r commit.Memory)))
     ⊎ ((k ≡ kind.Mark) × (own ≡ event.Went s kind.Mark ∷ []) × (now ≡ Writing r))
     ⊎ ((k ≡ kind.Last) × (own ≡ event.Commit r ∷ []) × (now ≡ Deciding r))
     ⊎ ((item : Item) × (o : Revision) × (own ≡ event.Refuse r item o ∷ [])
