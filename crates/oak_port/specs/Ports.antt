@@ -129,8 +129,8 @@ WritesOn s r k own now =
     ⊎ ((k ≡ kind.Read) × (own ≡ []) × ((now ≡ Writing r) ⊎ (now ≡ Undoing r commit.Memory)))
     ⊎ ((k ≡ kind.Mark) × (own ≡ event.Went s kind.Mark ∷ []) × (now ≡ Writing r))
     ⊎ ((k ≡ kind.Last) × (own ≡ event.Commit r ∷ []) × (now ≡ Deciding r))
-    ⊎ ((item : Item) × (o : Revision) × (own ≡ event.Refuse r item o ∷ [])
-    × (now ≡ Undoing r (commit.Clash item o)))
+    ⊎ ((item : Item) × (o : Revision) × ((k ≡ kind.Mark) ⊎ (k ≡ kind.Last))
+    × (own ≡ event.Refuse r item o ∷ []) × (now ≡ Undoing r (commit.Clash item o)))
 
 -- q holds the head of its cluster node back from r: it was drawn there before r, and is in flight
 pub record HoldsBack (past : Past) (q r : Revision) : Type 0 where

@@ -35,7 +35,7 @@ use Rattle.oak_machine.specs.declared.event.Event.TheVariants as event
 use Rattle.oak_machine.specs.declared.event.StepKind.TheVariants as kind
 use Rattle.oak_read.specs.Reading.{answer}
 use Rattle.oak_store.specs.Tables.{Table, Updates, after_undo, found, next_number}
-use Rattle.oak_step.specs.Parts.{IsLast, IsLastFault, IsUpdateMade, IsMarked, IsRefusedBy, IsDocumentUndone, IsWritten, fed_found, fed_made, op_due, mark_refusal, result_of}
+use Rattle.oak_step.specs.Parts.{IsLast, IsLastFault, IsUpdateMade, IsMarked, IsRefusedBy, IsDocumentUndone, IsWritten, fed_previous, fed_made, op_due, mark_refusal, result_of}
 use Rattle.oak_step.proofs.Feeding.{op_last, op_mark, op_write}
 use Rattle.oak_step.proofs.Replies.{fed_lasted, fed_marked, fed_undone, fed_unmet, fed_written}
 use Rattle.oak_step.proofs.Stages.{IsLastStage, IsMarkStage, IsUndoStage, IsWriteStage, last_stage, look_stage, mark_stage, undo_stage, write_stage}
@@ -153,7 +153,7 @@ module _ (t u : Table) (c : Committing) (op : UpdateOp) (asked : ask.Update op �
 -- ---- a look
 
 -- what it keeps once it looked at a previous document
-pub looked_is : (t : Table) (c d : Committing) (x : Reply) (r : Result Unit AllocError) → x ≡ answer t.documents (due_of c) → OnOk r (d ≡ fed c x) → OnErr r (d ≡ wanting (fed c x)) → (d ≡ fed_found t c) ⊎ (d ≡ wanting (fed_found t c))
+pub looked_is : (t : Table) (c d : Committing) (x : Reply) (r : Result Unit AllocError) → x ≡ answer t.documents (due_of c) → OnOk r (d ≡ fed c x) → OnErr r (d ≡ wanting (fed c x)) → (d ≡ fed_previous t c) ⊎ (d ≡ wanting (fed_previous t c))
 looked_is t c d x (Ok u) is ok err = inl (ok ∙ ap (fed c) is)
 looked_is t c d x (Err e) is ok err = inr (err ∙ ap (λ (y : Reply). wanting (fed c y)) is)
 

@@ -22,7 +22,7 @@ use Rattle.jr_path.specs.declared.path.DocId.{DocId}
 use Rattle.oak_commit.specs.Looking.{with_found}
 use Rattle.oak_read.specs.Meaning.{documents_in}
 use Rattle.oak_store.specs.Tables.{Table}
-use Rattle.oak_step.specs.Parts.{committed, fed_found, mark_made, op_due}
+use Rattle.oak_step.specs.Parts.{committed, fed_previous, mark_made, op_due}
 
 module _ (c : Committing) (going : c.outcome ≡ None) where
   -- before its commit point
@@ -106,8 +106,8 @@ look_found t x = documents_in t.documents x
 abbrev pub found_on : Table → Committing → Look → Committing
 found_on t c k = looking_on c (names_of k.first) (with_found k.document (look_found t k.first)) k.rest
 
-pub fed_look : (c : Committing) → c.outcome ≡ None → (k : Look) → c.looking ≡ Some k → (t : Table) → fed_found t c ≡ found_on t c k
-fed_look c going k looked t = subst (λ (d : Committing). fed_found t d ≡ found_on t d k) (sym at_look) refl
+pub fed_look : (c : Committing) → c.outcome ≡ None → (k : Look) → c.looking ≡ Some k → (t : Table) → fed_previous t c ≡ found_on t c k
+fed_look c going k looked t = subst (λ (d : Committing). fed_previous t d ≡ found_on t d k) (sym at_look) refl
   where
     at_look : c ≡ record c { outcome = None; looking = Some k }
     at_look = ap (λ (o : Option CommitEnd). record c { outcome = o }) going ∙ ap (λ (l : Option Look). record c { outcome = None; looking = l }) looked

@@ -16,7 +16,7 @@ use Rattle.oak_commit.specs.declared.stage.Stage.TheVariants as stage
 use Rattle.oak_doc.specs.declared.document.Document.{Document}
 use Rattle.oak_machine.specs.declared.event.Event.{Event}
 use Rattle.oak_store.specs.Tables.{Table, found}
-use Rattle.oak_step.specs.Parts.{fed_found, fed_made, IsLast, IsMarked, IsDocumentUndone, IsWritten, mark_made, needed_by, needed_for, op_due}
+use Rattle.oak_step.specs.Parts.{fed_previous, fed_made, IsLast, IsMarked, IsDocumentUndone, IsWritten, mark_made, needed_by, needed_for, op_due}
 use Rattle.oak_step.proofs.Feeding.{blocked_last, blocked_mark, fed_last, fed_look, fed_mark, found_on, look_found, fed_undo, fed_write}
 use Rattle.oak_step.proofs.Stages.{IsLastStage, IsLookStage, IsMarkStage, IsUndoStage, IsWriteStage, last_stage, look_stage, mark_stage, undo_stage, write_stage}
 
@@ -57,13 +57,13 @@ look_count b p d [] = refl
 look_count b p d (i ∷ is) = refl
 
 -- a look takes no place, whether or not memory is refused for what is found
-pub look_needs : (t : Table) (c d : Committing) → stage_of c ≡ stage.Look → (d ≡ fed_found t c) ⊎ (d ≡ wanting (fed_found t c)) → needed_by d ≤ needed_by c
+pub look_needs : (t : Table) (c d : Committing) → stage_of c ≡ stage.Look → (d ≡ fed_previous t c) ⊎ (d ≡ wanting (fed_previous t c)) → needed_by d ≤ needed_by c
 look_needs t c d h m = by (look_stage c h) m
   where
     kept : (at : IsLookStage c) → needed_by (found_on t c at.looking) ≡ needed_by c
     kept at = ap (needed_for (found_on t c at.looking).writer) (look_outcome c (names_of at.looking.first) (with_found at.looking.document (look_found t at.looking.first)) at.looking.rest) ∙ looks_need c (names_of at.looking.first) (with_found at.looking.document (look_found t at.looking.first)) at.looking.rest c.outcome
 
-    by : IsLookStage c → (d ≡ fed_found t c) ⊎ (d ≡ wanting (fed_found t c)) → needed_by d ≤ needed_by c
+    by : IsLookStage c → (d ≡ fed_previous t c) ⊎ (d ≡ wanting (fed_previous t c)) → needed_by d ≤ needed_by c
     by at (inl e) =
         let k : needed_by d ≡ needed_by c = ap needed_by (e ∙ fed_look c at.going at.looking at.looked t) ∙ kept at in
         omega (arith, k)

@@ -192,15 +192,15 @@ pub record IsWritten (s : ℕ) (t u : Table) (es fs : List Event) (c d : Committ
   pub committer : (d ≡ fed_made t c) ⊎ (d ≡ wanting (fed_made t c))
 
 -- what a committer keeps once the previous document for which it asks is found, or is gone
-abbrev pub fed_found : Table → Committing → Committing
-fed_found t c = fed c (answer t.documents (due_of c))
+abbrev pub fed_previous : Table → Committing → Committing
+fed_previous t c = fed c (answer t.documents (due_of c))
 
 -- a previous document is looked at, which leaves the documents and the events; where memory is
 -- refused for what is found in it, the committer turns to undoing
 pub record IsLooked (t u : Table) (es fs : List Event) (c d : Committing) : Type 0 where
   pub table : u ≡ t
   pub list : fs ≡ es
-  pub committer : (d ≡ fed_found t c) ⊎ (d ≡ wanting (fed_found t c))
+  pub committer : (d ≡ fed_previous t c) ⊎ (d ≡ wanting (fed_previous t c))
 
 -- a last write fails for want of memory, or for the collision that is noted on the commit root
 abbrev pub IsLastFault : OpFault → Type 0

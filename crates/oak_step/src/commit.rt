@@ -9,7 +9,7 @@ ghost use Rattle.oak_machine.specs.declared.event.Event.TheVariants as event;
 ghost use Rattle.oak_node.specs.Heads.{IsInFlight, finished, known_time, next_draw, with_draw};
 ghost use Rattle.oak_node.specs.Notes.{with_notes};
 ghost use Rattle.oak_read.specs.Reading.{IsTable};
-ghost use Rattle.oak_step.specs.Parts.{IsUpdateDue, IsLast, IsLastFault, IsMarked, IsRefusedBy, IsDocumentUndone, IsWritten, pinned_base, end_events, fed_found, needed_by, mark_refusal};
+ghost use Rattle.oak_step.specs.Parts.{IsUpdateDue, IsLast, IsLastFault, IsMarked, IsRefusedBy, IsDocumentUndone, IsWritten, pinned_base, end_events, fed_previous, needed_by, mark_refusal};
 
 use jr_path::{DeepCopy, Item, List};
 use jr_rev::{RevVec, Revision};
@@ -284,8 +284,8 @@ pub(crate) fn write(
 #[tactic(auto, using(crate::proofs::Acting::looked_is, crate::proofs::Needs::look_needs))]
 pub(crate) fn look(table: &DocTable, committer: &mut Committer) -> Result<(), AllocError>
     requires stage { stage_of committer.old ≡ stage.Look }
-    ensures looked { OnOk result ((committer.new ≡ fed_found table.now committer.old)
-        ⊎ (committer.new ≡ wanting (fed_found table.now committer.old))) }
+    ensures looked { OnOk result ((committer.new ≡ fed_previous table.now committer.old)
+        ⊎ (committer.new ≡ wanting (fed_previous table.now committer.old))) }
     ensures needs { OnOk result (needed_by committer.new ≤ needed_by committer.old) }
     ensures committer { OnErr result (committer.new ≡ committer.old) }
 {

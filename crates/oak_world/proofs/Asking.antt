@@ -73,7 +73,7 @@ writes s r k own now (inl m) = inr (inl (event.Went s kind.Write, m.1, refl, ref
 writes s r k own now (inr (inl m)) = inl m.1
 writes s r k own now (inr (inr (inl m))) = inr (inl (event.Went s kind.Mark, m.1, refl, refl))
 writes s r k own now (inr (inr (inr (inl m)))) = inr (inl (event.Commit r, m.1, refl, refl))
-writes s r k own now (inr (inr (inr (inr m)))) = inr (inl (event.Refuse r m.0 m.1, m.2, refl, refl))
+writes s r k own now (inr (inr (inr (inr m)))) = inr (inl (event.Refuse r m.0 m.1, m.3, refl, refl))
 
 writes_less : (s : ℕ) (r : Revision) (k : StepKind) (own : Past) (now : Shows) → WritesOn s r k own now → IsLess (Writing r) now
 writes_less s r k own now (inl (a, b, inl is)) = less_by (Writing r) now _ is (λ e may. may)
@@ -82,7 +82,7 @@ writes_less s r k own now (inr (inl (a, b, inl is))) = less_by (Writing r) now _
 writes_less s r k own now (inr (inl (a, b, inr is))) = less_by (Writing r) now _ is (λ e may. may)
 writes_less s r k own now (inr (inr (inl m))) = less_by (Writing r) now _ m.2 (λ e may. may)
 writes_less s r k own now (inr (inr (inr (inl m)))) = less_by (Writing r) now _ m.2 (λ e may. may)
-writes_less s r k own now (inr (inr (inr (inr m)))) = less_by (Writing r) now _ m.3 (λ e may. may)
+writes_less s r k own now (inr (inr (inr (inr m)))) = less_by (Writing r) now _ m.4 (λ e may. may)
 
 -- a step adds what it may append, and may append no more then
 adds : (h : History) (s : ℕ) (work : Shows) (o : StepOut) (own : Past) (now : Shows) → Makes h s work o own now → IsToAppend work own × IsLess work now

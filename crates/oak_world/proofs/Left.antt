@@ -37,7 +37,7 @@ use Rattle.core_clash.specs.Core.{root_of}
 use Rattle.core_world.specs.States.{State, base_in, listed_at, memory_of, nodes_in}
 use Rattle.core_world.specs.Steps.{after_mark, after_update, after_write, marked_by, with_result}
 use Rattle.oak_step.proofs.Stages.{finish_stage}
-use Rattle.oak_step.specs.Parts.{EndsSo, changes_on, committed, fed_found, mark_made, read_on}
+use Rattle.oak_step.specs.Parts.{EndsSo, changes_on, committed, fed_previous, mark_made, read_on}
 use Rattle.oak_node.specs.declared.pending.Pending.{Pending}
 use Rattle.oak_sync.specs.Learning as learning
 use Rattle.oak_sync.specs.declared.back_read.BackRead.{BackRead}
@@ -161,8 +161,8 @@ module _ (s : ℕ) (t u : State) (c : Committing) (x : Work) (going : c.outcome 
   turns_written : (p : Path) (rest : List Path) (d : Committing) → x ≡ work.Commit d → d ≡ wanting (written c p rest (nodes_in t.table p)) → Turns c x
   turns_written p rest d is same = (wanting (written c p rest (nodes_in t.table p)), end.Memory, is ∙ ap work.Commit same, refl, subst (λ (ps : List Path). length ps ≤ suc (length c.writer.written)) (sym (written_written c p rest (nodes_in t.table p))) (appended c.writer.written p))
 
-  turns_found : (k : Look) → c.looking ≡ Some k → IsLooking c k → (d : Committing) → x ≡ work.Commit d → d ≡ wanting (fed_found t.table c) → Turns c x
-  turns_found k looking looks d is same = (wanting (fed_found t.table c), end.Memory, is ∙ ap work.Commit same, refl, subst (λ (ps : List Path). length ps ≤ suc (length c.writer.written)) (sym (written_found t.table c k looking looks)) (one_more (length c.writer.written)))
+  turns_found : (k : Look) → c.looking ≡ Some k → IsLooking c k → (d : Committing) → x ≡ work.Commit d → d ≡ wanting (fed_previous t.table c) → Turns c x
+  turns_found k looking looks d is same = (wanting (fed_previous t.table c), end.Memory, is ∙ ap work.Commit same, refl, subst (λ (ps : List Path). length ps ≤ suc (length c.writer.written)) (sym (written_found t.table c k looking looks)) (one_more (length c.writer.written)))
 
   -- a commit that is going on doesn't undo, and it doesn't end
   undoes_not : undoes c.outcome ≡ true → ⊥
@@ -176,10 +176,10 @@ module _ (s : ℕ) (t u : State) (c : Committing) (x : Work) (going : c.outcome 
     unlooked : {A : Type 0} → MayUpdate c → A
     unlooked may = absurd (none_some c.looking k may.looked looking)
 
-    looks_next : (o : StepOut) → MakesCommit s t c u x o → ((u ≡ t) × (x ≡ work.Commit (fed_found t.table c))) ⊎ Turns c x
+    looks_next : (o : StepOut) → MakesCommit s t c u x o → ((u ≡ t) × (x ≡ work.Commit (fed_previous t.table c))) ⊎ Turns c x
     looks_next o (inl m) = by m.0 m.4
       where
-        by : (y : StepKind) → MakesUpdate s t c u m.2 y → ((u ≡ t) × (x ≡ work.Commit (fed_found t.table c))) ⊎ Turns c x
+        by : (y : StepKind) → MakesUpdate s t c u m.2 y → ((u ≡ t) × (x ≡ work.Commit (fed_previous t.table c))) ⊎ Turns c x
         by kind.Mark g = unlooked g.2
         by kind.Write g = unlooked g.2
         by kind.Read g = elim g.3 [ inl e ↦ inl (e.0, m.3 ∙ ap work.Commit e.1) | inr e ↦ inr (turns_found k looking looks m.2 m.3 e.1) ]
@@ -294,7 +294,7 @@ module _ (s : ℕ) (w u : State) (c : Committing) (x : Work) (o : StepOut) (m n 
   look_less k looking looks = by (looks_next s w u c x going k looking looks o makes)
     where
       abbrev then : Committing
-      then = fed_found w.table c
+      then = fed_previous w.table c
 
       abbrev stands : Committing
       stands = once_looked w.table c
@@ -302,7 +302,7 @@ module _ (s : ℕ) (w u : State) (c : Committing) (x : Work) (o : StepOut) (m n 
       was : steps_left s w.table m (work.Commit c) ≡ looks_left c.looking + updates_left w.table stands
       was = ap (λ (e : Option CommitEnd). commit_left w.table c e) going
 
-      by : ((u ≡ w) × (x ≡ work.Commit (fed_found w.table c))) ⊎ Turns c x → IsLess
+      by : ((u ≡ w) × (x ≡ work.Commit (fed_previous w.table c))) ⊎ Turns c x → IsLess
       by (inl e) =
           let now : steps_left s u.table n x ≡ looks_left then.looking + updates_left w.table stands =
           ap (λ (v : Work). steps_left s u.table n v) e.1

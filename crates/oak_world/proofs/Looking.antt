@@ -39,7 +39,7 @@ use Rattle.core_world.specs.Steps.{after_last, after_mark, after_update, after_w
 use Rattle.core_world.proofs.Tables.{one_id, put_is, undo_at, undo_none}
 use Rattle.oak_step.specs.declared.work.Work.{Work}
 use Rattle.oak_step.specs.declared.work.Work.TheVariants as work
-use Rattle.oak_step.specs.Parts.{fed_found}
+use Rattle.oak_step.specs.Parts.{fed_previous}
 use Rattle.oak_step.proofs.Feeding.{fed_look}
 use Rattle.oak_world.specs.Kept.{IsLooking}
 use Rattle.oak_world.specs.Left.{looks_left}
@@ -262,13 +262,13 @@ module _ (t : Table) (c : Committing) (k : Look) (is : c.looking ≡ Some k) (lo
   next = with_found k.document (documents_in t.documents k.first)
 
   -- the look goes on, or what is met is to be marked
-  pub found_is : fed_found t c ≡ looking_on c looks.path next (ids_of looks.path looks.entries)
+  pub found_is : fed_previous t c ≡ looking_on c looks.path next (ids_of looks.path looks.entries)
   found_is =
       fed_look c looks.going k is t
       ∙ (ap (λ (i : DocId). looking_on c (names_of i) next k.rest) looks.asks
       ∙ ap (λ (ids : List DocId). looking_on c looks.path next ids) looks.rest)
 
-  pub once_found : once_looked t (fed_found t c) ≡ once_looked t c
+  pub once_found : once_looked t (fed_previous t c) ≡ once_looked t c
   once_found =
       ap (once_looked t) found_is
       ∙ (once_on c looks.path t next looks.entries
@@ -276,29 +276,29 @@ module _ (t : Table) (c : Committing) (k : Look) (is : c.looking ≡ Some k) (lo
       ∙ (ap (λ (i : DocId). meeting c (names_of i) (Some (filled_by t next k.rest))) looks.asks
       ∙ ap (λ (ids : List DocId). meeting c looks.path (Some (filled_by t next ids))) looks.rest)))
 
-  pub looks_found : (j : Look) → (fed_found t c).looking ≡ Some j → IsLooking (fed_found t c) j
+  pub looks_found : (j : Look) → (fed_previous t c).looking ≡ Some j → IsLooking (fed_previous t c) j
   looks_found j h = subst (λ (d : Committing). IsLooking d j) (sym found_is) (looks_on c looks.path looks.going next looks.entries j (ap (λ (d : Committing). d.looking) (sym found_is) ∙ h))
 
   -- one previous document fewer is left
-  pub left_found : suc (looks_left (fed_found t c).looking) ≡ looks_left c.looking
+  pub left_found : suc (looks_left (fed_previous t c).looking) ≡ looks_left c.looking
   left_found =
       ap (λ (d : Committing). suc (looks_left d.looking)) found_is
       ∙ (ap suc (left_on c looks.path next looks.entries)
       ∙ sym (ap looks_left is ∙ (ap (λ (ids : List DocId). suc (length ids)) looks.rest ∙ ap suc (length-map looks.entries (λ e. id.Prev e.number looks.path)))))
 
-  pub outcome_found : (fed_found t c).outcome ≡ c.outcome
+  pub outcome_found : (fed_previous t c).outcome ≡ c.outcome
   outcome_found = ap (λ (d : Committing). d.outcome) found_is ∙ outcome_on c looks.path next looks.entries
 
-  pub revision_found : (fed_found t c).revision ≡ c.revision
+  pub revision_found : (fed_previous t c).revision ≡ c.revision
   revision_found = ap (λ (d : Committing). d.revision) found_is ∙ revision_on c looks.path next looks.entries
 
-  pub ended_found : (fed_found t c).ended ≡ c.ended
+  pub ended_found : (fed_previous t c).ended ≡ c.ended
   ended_found = ap (λ (d : Committing). d.ended) found_is ∙ ended_on c looks.path next looks.entries
 
-  pub written_found : (fed_found t c).writer.written ≡ c.writer.written
+  pub written_found : (fed_previous t c).writer.written ≡ c.writer.written
   written_found = ap (λ (d : Committing). d.writer.written) found_is ∙ written_on c looks.path next looks.entries
 
-  pub wanting_found : (s : ℕ) → running_as s (wanting (fed_found t c)) ≡ running_as s (wanting c)
+  pub wanting_found : (s : ℕ) → running_as s (wanting (fed_previous t c)) ≡ running_as s (wanting c)
   wanting_found s = ap (λ (d : Committing). running_as s (wanting d)) found_is ∙ wanting_on c looks.path s next looks.entries
 
 -- ---- the commit roots that a document notes

@@ -28,7 +28,7 @@ use Rattle.core_clash.specs.Sessions.{Running}
 use Rattle.core_world.specs.States.{State, memory_at, moved_in, nodes_in, with_memory, with_session}
 use Rattle.core_world.specs.Steps.{after_last, after_mark, after_update, after_want, after_write, after_write_in_want, lasted_by, marked_by, moved_head, with_observer, with_reader, with_result}
 use Rattle.oak_step.specs.declared.work.Work.TheVariants as work
-use Rattle.oak_step.specs.Parts.{IsLast, IsLooked, IsUpdateMade, IsMarked, IsDocumentUndone, IsWritten, Parts, committed, end_events, fed_found, fed_made, mark_made, op_due, parts, mark_refusal, result_of}
+use Rattle.oak_step.specs.Parts.{IsLast, IsLooked, IsUpdateMade, IsMarked, IsDocumentUndone, IsWritten, Parts, committed, end_events, fed_previous, fed_made, mark_made, op_due, parts, mark_refusal, result_of}
 use Rattle.oak_world.specs.Kept.{IsLooking}
 use Rattle.oak_world.specs.Steps.{MakesUpdate}
 use Rattle.oak_world.specs.Worlds.{ActorState, WorldOf, node_in, observing_of, once_looked, parts_at, reading_of, running_as, running_of, state_of, with_parts, work_in}
@@ -237,15 +237,15 @@ module _ {L : Type 0} (w : WorldOf L) (s : ℕ) (there : s < length w.actors) (l
           past : reverse q.list ≡ w.history.past
           past = ap reverse m.list ∙ reverse-reverse w.history.past
 
-          by : (d ≡ fed_found w.table c) ⊎ (d ≡ wanting (fed_found w.table c))
-              → ((now ≡ state_of w) × (d ≡ fed_found w.table c)) ⊎ ((now ≡ after_want (state_of w) s (running_as s c)) × (d ≡ wanting (fed_found w.table c)))
+          by : (d ≡ fed_previous w.table c) ⊎ (d ≡ wanting (fed_previous w.table c))
+              → ((now ≡ state_of w) × (d ≡ fed_previous w.table c)) ⊎ ((now ≡ after_want (state_of w) s (running_as s c)) × (d ≡ wanting (fed_previous w.table c)))
           by (inl e) = inl (
             stands_is w.history.past w.table (once_looked w.table c) (λ k p. refl) past m.table (ap (once_looked w.table) e ∙ once_found w.table c at.looking at.looked looks)
                 ∙ ap (λ (f : ℕ → Option Running). record (state_of w) { running = f }) (session_same (state_of w).running s (Some (running_as s (once_looked w.table c))) (ap (running_of w.table s) here)),
             e,
           )
           by (inr e) = inr (
-            stands_is w.history.past w.table (wanting (fed_found w.table c)) (λ k p. refl) past m.table (ap (once_looked w.table) e)
+            stands_is w.history.past w.table (wanting (fed_previous w.table c)) (λ k p. refl) past m.table (ap (once_looked w.table) e)
                 ∙ (ap running (wanting_found w.table c at.looking at.looked looks s)
                 ∙ ap (λ (b : Bool). running (record (running_as s (wanting c)) { committed = b })) (sym (ap is_past at.going))),
             e,

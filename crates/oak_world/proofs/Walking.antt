@@ -97,7 +97,7 @@ use Rattle.oak_port.specs.Ports.{AreOfStep, Awaiting, HoldsBack, Idle, IsFinish,
 use Rattle.oak_step.specs.declared.work.Work.{Work}
 use Rattle.oak_step.specs.declared.work.Work.TheVariants as work
 use Rattle.oak_world.specs.Kept.{IsAtWork, IsLooking, May}
-use Rattle.oak_step.specs.Parts.{EndsSo, changes_on, committed, end_of_reading, fed_found, mark_made, read_on}
+use Rattle.oak_step.specs.Parts.{EndsSo, changes_on, committed, end_of_reading, fed_previous, mark_made, read_on}
 use Rattle.oak_world.specs.Seen.{shown_by, shown_work, task_of}
 use Rattle.oak_step.specs.Works.{kind_due, kind_of_stage}
 use Rattle.oak_world.specs.Steps.{IsPresent, MakesState, MakesCommit, MakesUpdate, MayUpdate}
@@ -545,7 +545,7 @@ module _ (starts : Starts) (says : Says) (proper : StartsProper starts) (writes 
     -- a previous document is looked at
     module _ (k : Look) (is : c.looking ≡ Some k) where
       abbrev found_on : Committing
-      found_on = fed_found w.table c
+      found_on = fed_previous w.table c
 
       looks : IsLooking c k
       looks = at.looks k is
@@ -624,8 +624,8 @@ module _ (starts : Starts) (says : Says) (proper : StartsProper starts) (writes 
       still_writing : (d : Committing) → d.revision ≡ c.revision → d.outcome ≡ c.outcome → shown_work (work.Commit d) ≡ Writing c.revision
       still_writing d same out = ap (λ (r : Revision). shown_by r d.outcome) same ∙ ap (shown_by c.revision) (out ∙ going)
 
-      refusal_tells : (k : StepKind) (item : Item) (o : Revision) (d : Committing) → d ≡ refused c item o → Tells h s (shown_work (work.Commit c)) (answers.Went k) (event.Refuse c.revision item o ∷ []) (shown_work (work.Commit d))
-      refusal_tells k item o d is = writing (answers.Went k) (event.Refuse c.revision item o ∷ []) (shown_work (work.Commit d)) (inr (inr (inr (inr (item, o, refl, ap (λ (y : Committing). shown_work (work.Commit y)) is)))))
+      refusal_tells : (k : StepKind) → (k ≡ kind.Mark) ⊎ (k ≡ kind.Last) → (item : Item) (o : Revision) (d : Committing) → d ≡ refused c item o → Tells h s (shown_work (work.Commit c)) (answers.Went k) (event.Refuse c.revision item o ∷ []) (shown_work (work.Commit d))
+      refusal_tells k mark item o d is = writing (answers.Went k) (event.Refuse c.revision item o ∷ []) (shown_work (work.Commit d)) (inr (inr (inr (inr (item, o, mark, refl, ap (λ (y : Committing). shown_work (work.Commit y)) is)))))
 
       -- a mark
       module _ (f : Met) (rest : List Met) (due_is : c.writer.due ≡ f ∷ rest) where
@@ -664,7 +664,7 @@ module _ (starts : Starts) (says : Says) (proper : StartsProper starts) (writes 
           attached = refl;
           unstopped = λ q k. k;
           same = mark_previous w s x f rest;
-          tells = refusal_tells kind.Mark f.mine f.other (refused c f.mine f.other) refl;
+          tells = refusal_tells kind.Mark (inl refl) f.mine f.other (refused c f.mine f.other) refl;
           of_step = ap (λ t. list_any (is_kind kind.Mark) (where_test t (kind.Mark ∷ kind.Last ∷ []))) revision_mine;
           as_due = refl;
         })
@@ -761,7 +761,7 @@ module _ (starts : Starts) (says : Says) (proper : StartsProper starts) (writes 
           attached = refl;
           unstopped = λ q k. k;
           same = last_previous w s x;
-          tells = refusal_tells kind.Last item o (refused c item o) refl;
+          tells = refusal_tells kind.Last (inr refl) item o (refused c item o) refl;
           of_step = ap (λ t. list_any (is_kind kind.Last) (where_test t (kind.Mark ∷ kind.Last ∷ []))) revision_mine;
           as_due = refl;
         })
@@ -961,9 +961,9 @@ module _ (starts : Starts) (says : Says) (proper : StartsProper starts) (writes 
     look_any : (d : Committing) → MakesUpdate s w c u d kind.Read → StepOf (work.Commit c) u (work.Commit d) (answers.Went kind.Read)
     look_any d g = by g.3
       where
-        by : ((u ≡ w) × (d ≡ fed_found w.table c)) ⊎ ((u ≡ after_want w s (running_as s c)) × (d ≡ wanting (fed_found w.table c))) → StepOf (work.Commit c) u (work.Commit d) (answers.Went kind.Read)
-        by (inl e) = at_both (work.Commit c) (answers.Went kind.Read) w (fed_found w.table c) u d e.0 e.1 (look_step c runs at going_on k is)
-        by (inr e) = at_both (work.Commit c) (answers.Went kind.Read) (after_want w s (running_as s c)) (wanting (fed_found w.table c)) u d e.0 e.1 (look_in_want_step c runs at going_on k is)
+        by : ((u ≡ w) × (d ≡ fed_previous w.table c)) ⊎ ((u ≡ after_want w s (running_as s c)) × (d ≡ wanting (fed_previous w.table c))) → StepOf (work.Commit c) u (work.Commit d) (answers.Went kind.Read)
+        by (inl e) = at_both (work.Commit c) (answers.Went kind.Read) w (fed_previous w.table c) u d e.0 e.1 (look_step c runs at going_on k is)
+        by (inr e) = at_both (work.Commit c) (answers.Went kind.Read) (after_want w s (running_as s c)) (wanting (fed_previous w.table c)) u d e.0 e.1 (look_in_want_step c runs at going_on k is)
 
     looking_update : (d : Committing) (x : StepKind) → MakesUpdate s w c u d x → StepOf (work.Commit c) u (work.Commit d) (answers.Went x)
     looking_update d kind.Mark g = unlooked g.2

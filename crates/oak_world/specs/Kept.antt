@@ -34,8 +34,8 @@ use Rattle.oak_world.specs.Worlds.{WorldOf, actor_in, live, once_looked, state_o
 use Rattle.oak_world.specs.Seen.{shown_work}
 use Rattle.oak_world.specs.Steps.{IsPresent}
 
--- a committer that looks is before its commit point, and asks for previous documents of one node, by
--- the entries that list them
+-- a committer that looks is before its commit point, and asks for previous documents of one node,
+-- by the entries that list them
 pub record IsLooking (c : Committing) (k : Look) : Type 0 where
   pub going : c.outcome ≡ None
   pub path : Path
@@ -102,8 +102,8 @@ May starts t h s (work.Move r) =
     IsPresent h s × IsTrue (is_ended h.past r) × (slice_get h.sessions s ≡ Some r.cluster)
 
 -- the state is kept by its law, the documents are in store order, there are at most 64 sessions, of
--- each it is known whether it is attached to a checkpoint, no cluster node is stopped, and each may do
--- what it does
+-- each it is known whether it is attached to a checkpoint, no cluster node is stopped, and each may
+-- do what it does
 pub record IsWorld (starts : Starts) (says : Says) {L : Type 0} (w : WorldOf L) : Type 0 where
   pub kept : IsKept starts says (state_of w)
   pub table : IsTable w.table.documents

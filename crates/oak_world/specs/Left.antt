@@ -148,8 +148,8 @@ module _ (r : Revision) where
       (after_update t (mark_op (first_path roots) f.other r f.theirs)))
 
 module _ (r : Revision) (base : RevVec) (writes : List Write) (marks : List MarkAt) where
-  -- the document of a path, with a look at each previous one that it lists, with the marks of what it
-  -- met there, and what is left behind them
+  -- the document of a path, with a look at each previous one that it lists, with the marks of what
+  -- it met there, and what is left behind them
   abbrev pub write_left : (Table → ℕ) → Path → Table → ℕ
   write_left behind p t =
       suc (length (listed_at t p)
@@ -167,8 +167,8 @@ abbrev pub looks_left : Option Look → ℕ
 looks_left None = 0
 looks_left (Some k) = suc (length k.rest)
 
--- the updates of a committer that looks at no previous document now, and at most as many undoings as
--- documents; behind them its end, and the move of the base
+-- the updates of a committer that looks at no previous document now, and at most as many undoings
+-- as documents; behind them its end, and the move of the base
 abbrev pub updates_left : Table → Committing → ℕ
 updates_left t c =
     marks_left c.revision

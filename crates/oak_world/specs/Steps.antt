@@ -48,7 +48,7 @@ use Rattle.oak_step.specs.Upkeeps.{set_checkpoint}
 use Rattle.oak_step.specs.declared.work.Work.{Work}
 use Rattle.oak_step.specs.declared.work.Work.TheVariants as work
 use Rattle.oak_step.specs.Works.{kind_due}
-use Rattle.oak_step.specs.Parts.{EndsSo, changes_on, committed, end_of_reading, fed_found, mark_made, read_on}
+use Rattle.oak_step.specs.Parts.{EndsSo, changes_on, committed, end_of_reading, fed_previous, mark_made, read_on}
 use Rattle.oak_world.specs.Worlds.{WorldOf, actor_in, running_as, state_of, work_in}
 
 -- ---- who may be told what
@@ -96,8 +96,8 @@ module _ (s : ℕ) (w : State) (c : Committing) (u : State) (d : Committing) whe
       ⊎ ((u ≡ after_write_in_want w s (running_as s c) p rest)
       × (d ≡ wanting (written c p rest (nodes_in w.table p)))))
   MakesUpdate kind.Read = (k : Look) × (c.outcome ≡ None) × (c.looking ≡ Some k)
-      × (((u ≡ w) × (d ≡ fed_found w.table c))
-      ⊎ ((u ≡ after_want w s (running_as s c)) × (d ≡ wanting (fed_found w.table c))))
+      × (((u ≡ w) × (d ≡ fed_previous w.table c))
+      ⊎ ((u ≡ after_want w s (running_as s c)) × (d ≡ wanting (fed_previous w.table c))))
   MakesUpdate kind.Last = MayUpdate c × (c.writer.due ≡ []) × (c.writer.left ≡ [])
       × (u ≡ after_last w s (running_as s c))
       × (((u.past ≡ event.Commit c.revision ∷ w.past) × (d ≡ committed c))
