@@ -290,29 +290,30 @@ module _ (s : ℕ) (w u : State) (c : Committing) (x : Work) (o : StepOut) (m n 
   IsLess = steps_left s u.table n x < steps_left s w.table m (work.Commit c)
 
   -- a previous document is looked at
-  look_less : (k : Look) → c.looking ≡ Some k → IsLooking c k → IsLess
-  look_less k looking looks = by (looks_next s w u c x going k looking looks o makes)
-    where
-      abbrev then : Committing
-      then = fed_previous w.table c
+  module _ (k : Look) (looking : c.looking ≡ Some k) (looks : IsLooking c k) where
+    abbrev then : Committing
+    then = fed_previous w.table c
 
-      abbrev stands : Committing
-      stands = once_looked w.table c
+    abbrev stands : Committing
+    stands = once_looked w.table c
 
-      was : steps_left s w.table m (work.Commit c) ≡ looks_left c.looking + updates_left w.table stands
-      was = ap (λ (e : Option CommitEnd). commit_left w.table c e) going
+    was : steps_left s w.table m (work.Commit c) ≡ looks_left c.looking + updates_left w.table (once_looked w.table c)
+    was = ap (λ (e : Option CommitEnd). commit_left w.table c e) going
 
-      by : ((u ≡ w) × (x ≡ work.Commit (fed_previous w.table c))) ⊎ Turns c x → IsLess
-      by (inl e) =
-          let now : steps_left s u.table n x ≡ looks_left then.looking + updates_left w.table stands =
-          ap (λ (v : Work). steps_left s u.table n v) e.1
-          ∙ (ap (λ (v : State). steps_left s v.table n (work.Commit then)) e.0
-          ∙ (ap (λ (f : Option CommitEnd). commit_left w.table then f) (outcome_found w.table c k looking looks ∙ going)
-          ∙ ap (λ (d : Committing). looks_left then.looking + updates_left w.table d) (once_found w.table c k looking looks))) in
-          fewer_looks (updates_left w.table stands) (looks_left then.looking) (looks_left c.looking) _ _ now was (left_found w.table c k looking looks)
-      by (inr e) =
-          turns_looking (looks_left c.looking) (marks_left stands.revision (writes_left stands.revision stands.base stands.edit.writes stands.marks stands.writer.left) stands.writer.due stands.roots w.table) (length c.writer.written) (length stands.writer.left) (length stands.writer.written) _ _
-          (turned_less s u.table n c x e) was (ap length (once_wrote w.table c))
+    look_less : IsLess
+    look_less = by (looks_next s w u c x going k looking looks o makes)
+      where
+        by : ((u ≡ w) × (x ≡ work.Commit (fed_previous w.table c))) ⊎ Turns c x → IsLess
+        by (inl e) =
+            let now : steps_left s u.table n x ≡ looks_left then.looking + updates_left w.table stands =
+            ap (λ (v : Work). steps_left s u.table n v) e.1
+            ∙ (ap (λ (v : State). steps_left s v.table n (work.Commit then)) e.0
+            ∙ (ap (λ (f : Option CommitEnd). commit_left w.table then f) (outcome_found w.table c k looking looks ∙ going)
+            ∙ ap (λ (d : Committing). looks_left then.looking + updates_left w.table d) (once_found w.table c k looking looks))) in
+            fewer_looks (updates_left w.table stands) (looks_left then.looking) (looks_left c.looking) _ _ now was (left_found w.table c k looking looks)
+        by (inr e) =
+            turns_looking (looks_left c.looking) (marks_left stands.revision (writes_left stands.revision stands.base stands.edit.writes stands.marks stands.writer.left) stands.writer.due stands.roots w.table) (length c.writer.written) (length stands.writer.left) (length stands.writer.written) _ _
+            (turned_less s u.table n c x e) was (ap length (once_wrote w.table c))
 
   module _ (looked : c.looking ≡ None) where
     -- the commit turns to its end
@@ -336,32 +337,33 @@ module _ (s : ℕ) (w u : State) (c : Committing) (x : Work) (o : StepOut) (m n 
             now (going_left s w.table m c (f ∷ rest) c.writer.left going looked due refl)
         by (inr k) = turned (f ∷ rest) c.writer.left due refl k
 
-    write_less : (p : Path) (rest : List Path) → c.writer.due ≡ [] → c.writer.left ≡ p ∷ rest → IsLess
-    write_less p rest due left = by (writes_next s w u c x going looked o p rest due left makes)
-      where
-        abbrev then : Committing
-        then = written c p rest (nodes_in w.table p)
+    module _ (p : Path) (rest : List Path) (due : c.writer.due ≡ []) (left : c.writer.left ≡ p ∷ rest) where
+      abbrev behind : Committing
+      behind = written c p rest (nodes_in w.table p)
 
-        abbrev documents : Table
-        documents = after_update w.table (write_op c.revision c.edit.writes c.marks p)
+      abbrev documents : Table
+      documents = after_update w.table (write_op c.revision c.edit.writes c.marks p)
 
-        abbrev stood : Option Document
-        stood = looked_in w.table p
+      abbrev stood : Option Document
+      stood = looked_in w.table p
 
-        abbrev met : List Met
-        met = found c.base c.revision p c.marks (looked_in w.table p)
+      abbrev met : List Met
+      met = found c.base c.revision p c.marks (looked_in w.table p)
 
-        by : ((u ≡ after_write w s (running_as s c) p rest) × (x ≡ work.Commit (written c p rest (nodes_in w.table p)))) ⊎ Turns c x → IsLess
-        by (inl k) =
-            let now : steps_left s u.table n x ≡ length (listed_at w.table p) + (marks_left c.revision (writes_left c.revision c.base c.edit.writes c.marks rest) met (roots_in stood met) documents + length (c.writer.written ++ p ∷ []) + length rest + 4) =
-            ap (λ (v : Work). steps_left s u.table n v) k.1
-            ∙ (ap (λ (v : State). steps_left s v.table n (work.Commit then)) k.0
-            ∙ (ap (λ (e : Option CommitEnd). commit_left documents then e) (outcome_written c p rest (nodes_in w.table p) ∙ going)
-            ∙ (ap (λ (i : ℕ). i + updates_left documents (once_looked documents then)) (left_written c p rest w.table)
-            ∙ ap (λ (d : Committing). length (listed_at w.table p) + updates_left documents d) (once_written c p rest w.table documents (update_previous w.table (write_op c.revision c.edit.writes c.marks p) refl))))) in
-            fewer_writes (length (listed_at w.table p)) (marks_left c.revision (writes_left c.revision c.base c.edit.writes c.marks rest) met (roots_in stood met) documents) (length c.writer.written) (length rest) (length (c.writer.written ++ p ∷ [])) (length (p ∷ rest)) _ _
-            now (going_left s w.table m c [] (p ∷ rest) going looked due left) (length-append c.writer.written (p ∷ [])) refl
-        by (inr k) = turned [] (p ∷ rest) due left k
+      write_less : IsLess
+      write_less = by (writes_next s w u c x going looked o p rest due left makes)
+        where
+          by : ((u ≡ after_write w s (running_as s c) p rest) × (x ≡ work.Commit (written c p rest (nodes_in w.table p)))) ⊎ Turns c x → IsLess
+          by (inl k) =
+              let now : steps_left s u.table n x ≡ length (listed_at w.table p) + (marks_left c.revision (writes_left c.revision c.base c.edit.writes c.marks rest) met (roots_in stood met) documents + length (c.writer.written ++ p ∷ []) + length rest + 4) =
+              ap (λ (v : Work). steps_left s u.table n v) k.1
+              ∙ (ap (λ (v : State). steps_left s v.table n (work.Commit behind)) k.0
+              ∙ (ap (λ (e : Option CommitEnd). commit_left documents behind e) (outcome_written c p rest (nodes_in w.table p) ∙ going)
+              ∙ (ap (λ (i : ℕ). i + updates_left documents (once_looked documents behind)) (left_written c p rest w.table)
+              ∙ ap (λ (d : Committing). length (listed_at w.table p) + updates_left documents d) (once_written c p rest w.table documents (update_previous w.table (write_op c.revision c.edit.writes c.marks p) refl))))) in
+              fewer_writes (length (listed_at w.table p)) (marks_left c.revision (writes_left c.revision c.base c.edit.writes c.marks rest) met (roots_in stood met) documents) (length c.writer.written) (length rest) (length (c.writer.written ++ p ∷ [])) (length (p ∷ rest)) _ _
+              now (going_left s w.table m c [] (p ∷ rest) going looked due left) (length-append c.writer.written (p ∷ [])) refl
+          by (inr k) = turned [] (p ∷ rest) due left k
 
     last_less : c.writer.due ≡ [] → c.writer.left ≡ [] → IsLess
     last_less due left = turned [] [] due left (lasts_next s w u c x going looked o due left makes)

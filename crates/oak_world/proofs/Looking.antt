@@ -27,7 +27,7 @@ use Rattle.oak_doc.specs.declared.update.Kept.TheVariants as kept
 use Rattle.oak_doc.specs.declared.update.OpFault.{OpFault}
 use Rattle.oak_doc.specs.declared.update.OpFault.TheVariants as fault
 use Rattle.oak_doc.specs.declared.update.UpdateOp.{UpdateOp}
-use Rattle.oak_doc.specs.Updates.{Props, changed, of_revision, updated, values_of_property}
+use Rattle.oak_doc.specs.Updates.{Props, changed, undone, updated, values_of_property}
 use Rattle.oak_read.specs.Meaning.{commit_root_of, documents_in, main_of, path_of}
 use Rattle.oak_read.specs.Wanted.{listed}
 use Rattle.oak_store.specs.Tables.{Table, after_undo, found, next_number, with_document}
@@ -84,7 +84,7 @@ undo_previous t p r k q = by (found t (id.Node p)) refl
   where
     by : (o : Option Document) → found t (id.Node p) ≡ o → documents_in (after_undo t (id.Node p) r).documents (id.Prev k q) ≡ documents_in t.documents (id.Prev k q)
     by None is = ap (λ es. documents_in es (id.Prev k q)) (undo_none t p r is)
-    by (Some d) is = undo_at t p r d is (id.Prev k q) ∙ ap (λ b. cond b (Some _) (documents_in t.documents (id.Prev k q))) (apart k q (id.Node p) refl)
+    by (Some d) is = undo_at t p r d is (id.Prev k q) ∙ ap (λ b. cond b (Some (undone d r (next_number t))) (documents_in t.documents (id.Prev k q))) (apart k q (id.Node p) refl)
 
 module _ (w : State) (s : ℕ) (x : Running) where
   marked_previous : (f : Met) (rest : List Met) (r : Result Document OpFault) → SamePrevious w.table (marked_by w s x f rest r).table
@@ -149,7 +149,7 @@ module _ (t u : Table) (same : SamePrevious t u) where
       by (Some k) is = ap (λ (d : Document). meeting c (names_of k.first) (Some d)) (ap (filled_by u k.document) ids ∙ (filled_same (looks k is).path ((looks k is).entry ∷ (looks k is).entries) k.document ∙ sym (ap (filled_by t k.document) ids)))
         where
           ids : k.first ∷ k.rest ≡ ids_of (looks k is).path ((looks k is).entry ∷ (looks k is).entries)
-          ids = ap (λ (i : DocId). i ∷ k.rest) (looks k is).asks ∙ ap (λ (is' : List DocId). id.Prev (looks k is).entry.number (looks k is).path ∷ is') (looks k is).rest
+          ids = ap (λ (i : DocId). i ∷ k.rest) (looks k is).asks ∙ ap (λ (more : List DocId). id.Prev (looks k is).entry.number (looks k is).path ∷ more) (looks k is).rest
 
   pub running_same : (q : ℕ) (v : Work) → ((c : Committing) → v ≡ work.Commit c → (k : Look) → c.looking ≡ Some k → IsLooking c k) → running_of u q v ≡ running_of t q v
   running_same q (work.Commit c) looks = ap (λ (d : Committing). Some (running_as q d)) (once_same c (looks c refl))
@@ -178,8 +178,9 @@ module _ (b : Committing) (p : Path) where
   once_on t d (e ∷ es) = refl
 
   pub looks_on : b.outcome ≡ None → (d : Document) (es : List PrevEntry) (k : Look) → (looking_on b p d (ids_of p es)).looking ≡ Some k → IsLooking (looking_on b p d (ids_of p es)) k
-  looks_on going d [] k h = cc
+  looks_on going d [] k h = let never : None ≡ Some k = h in cc
   looks_on going d (e ∷ es) k h =
+      let it : Some (record { document = d; first = id.Prev e.number p; rest = ids_of p es }) ≡ Some k = h in
       let same : record { document = d; first = id.Prev e.number p; rest = ids_of p es } ≡ k = cc in
       subst (IsLooking (looking_on b p d (ids_of p (e ∷ es)))) same (record { going = going; path = p; entry = e; asks = refl; entries = es; rest = refl })
 
@@ -225,7 +226,7 @@ module _ (c : Committing) (p : Path) (rest : List Path) where
         by (Some d) = once_on (wrote c p rest) p u d d.prev ∙ ap (meeting (wrote c p rest) p) (ap Some (mapped d.prev d) ∙ filled_whole p (documents_in t.documents) d.prev d)
 
   pub looks_written : c.outcome ≡ None → (o : Option Document) (k : Look) → (written c p rest o).looking ≡ Some k → IsLooking (written c p rest o) k
-  looks_written going None k h = cc
+  looks_written going None k h = let never : None ≡ Some k = h in cc
   looks_written going (Some d) k h = looks_on (wrote c p rest) p going d d.prev k h
 
   pub left_written : (t : Table) → looks_left (written c p rest (nodes_in t p)).looking ≡ length (listed_at t p)
@@ -332,5 +333,5 @@ root_same d e r same = ap (λ (i : DocId). commit_root_of (record e { id = i }) 
 -- with what moved put back, a document tells the same commit roots
 pub whole_rooted : (p : Path) (xs : List Document) (o : Option Document) (r : Revision) (root : Path) → IsRooted o r root → IsRooted (whole p o xs) r root
 whole_rooted p [] o r root h = h
-whole_rooted p (x ∷ xs) None r root h = cc
+whole_rooted p (x ∷ xs) None r root h = let never : None ≡ Some (id.Node root) = h in cc
 whole_rooted p (x ∷ xs) (Some d) r root h = whole_rooted p xs (put_back p (Some d) x) r root (ap Some (root_same d (fold changed d (entries_in x)) r (names_put x.props (keys_of x.props) d)) ∙ h)
