@@ -458,7 +458,7 @@ module _ (starts : Starts) (says : Says) (proper : StartsProper starts) (writes 
         few = is.few;
         attached = λ q. attached_too q (q == s) refl;
         unstopped = is.unstopped;
-            seats = length-set w.actors s (record (actor_in w.actors s) { reply = None }) ∙ is.seats;
+        seats = length-set w.actors s (record (actor_in w.actors s) { reply = None }) ∙ is.seats;
         may = λ q. by q (q == s) refl;
       }
         where

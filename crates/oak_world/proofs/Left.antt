@@ -240,7 +240,6 @@ module _ (s : ℕ) (t u : State) (c : Committing) (x : Work) (going : c.outcome 
     lasts_next o due left (inr (inl m)) = absurd (finishes_not m.0)
     lasts_next o due left (inr (inr m)) = turns_wanting m.3
 
-
 -- ---- the number of a commit that is going on
 
 -- the documents behind a mark

@@ -1,5 +1,5 @@
 -- What a session does, it may still do after events of others.
-use Rattle.std.proofs.Common.{◌≡◌, inl, inr, ℕ, Bool, true, false, ◌||◌, List, [], ◌∷◌, ◌++◌, map, refl, sym, ap, subst, ◌∙◌}
+use Rattle.std.proofs.Common.{◌≡◌, inl, inr, ℕ, Bool, true, false, ◌||◌, List, [], ◌∷◌, ◌++◌, map, refl, sym, ap, subst, ◌∙◌, None}
 use Rattle.std.specs.List.{list_any}
 use Rattle.jr_path.specs.declared.path.Path.{Path}
 use Rattle.jr_rev.specs.declared.revision.Revision.{Revision}

@@ -676,16 +676,16 @@ module _ (starts : Starts) (says : Says) (proper : StartsProper starts) (writes 
         stood = whole p (nodes_in w.table p) (moved_in w.table p)
 
         -- the committer behind the write
-        abbrev then : Committing
-        then = written c p rest (nodes_in w.table p)
+        abbrev behind : Committing
+        behind = written c p rest (nodes_in w.table p)
 
-        roots_then : roots_in stood (found c.base c.revision p c.marks stood) ≡ map (λ (f : Met). root_of w.past f.other) (found c.base c.revision p c.marks stood)
-        roots_then = roots_met c.base c.revision p c.marks (root_of w.past) stood (λ f i. whole_rooted p (moved_in w.table p) (nodes_in w.table p) f.other (root_of w.past f.other) (met_rooted starts says proper w kept.sessions s x here p f i))
+        roots_stood : roots_in stood (found c.base c.revision p c.marks stood) ≡ map (λ (f : Met). root_of w.past f.other) (found c.base c.revision p c.marks stood)
+        roots_stood = roots_met c.base c.revision p c.marks (root_of w.past) stood (λ f i. whole_rooted p (moved_in w.table p) (nodes_in w.table p) f.other (root_of w.past f.other) (met_rooted starts says proper w kept.sessions s x here p f i))
 
         documents : SamePrevious w.table (after_write w s x p rest).table
         documents = update_previous w.table (write_op c.revision c.edit.writes c.marks p) refl
 
-        pub wrote_step : StepOf (work.Commit c) (after_write w s x p rest) (work.Commit then) (answers.Went kind.Write)
+        pub wrote_step : StepOf (work.Commit c) (after_write w s x p rest) (work.Commit behind) (answers.Went kind.Write)
         wrote_step = record {
           own = event.Went s kind.Write ∷ [];
           grown = refl;
@@ -693,29 +693,29 @@ module _ (starts : Starts) (says : Says) (proper : StartsProper starts) (writes 
           may = record {
             come = record { login = at.come.login; stays = at.come.stays };
             unended = ended_written c p rest (nodes_in w.table p) ∙ at.unended;
-            roots = subst (λ (e : Committing). e.roots ≡ map (λ (f : Met). root_of w.past f.other) e.writer.due) (sym (once_written c p rest w.table (after_write w s x p rest).table documents)) roots_then;
+            roots = subst (λ (e : Committing). e.roots ≡ map (λ (f : Met). root_of w.past f.other) e.writer.due) (sym (once_written c p rest w.table (after_write w s x p rest).table documents)) roots_stood;
             looks = looks_written c p rest going (nodes_in w.table p);
           };
           apart = apart_went kind.Write;
           attached = refl;
           unstopped = λ q k. k;
           same = documents;
-          tells = writing (answers.Went kind.Write) (event.Went s kind.Write ∷ []) (shown_work (work.Commit then)) (inl (refl, refl, inl (still_writing then (revision_written c p rest (nodes_in w.table p)) (outcome_written c p rest (nodes_in w.table p)))));
+          tells = writing (answers.Went kind.Write) (event.Went s kind.Write ∷ []) (shown_work (work.Commit behind)) (inl (refl, refl, inl (still_writing behind (revision_written c p rest (nodes_in w.table p)) (outcome_written c p rest (nodes_in w.table p)))));
           of_step = kind_told kind.Write (s == s && true) (with_true (s == s) (number_itself s));
           as_due = ap (λ (y : Stage). is_due kind.Write (kind_of_stage y)) (stage_write c going looked p rest unmet left);
         }
 
-        pub wrote_in_want_step : StepOf (work.Commit c) (after_write_in_want w s x p rest) (work.Commit (wanting then)) (answers.Went kind.Write)
+        pub wrote_in_want_step : StepOf (work.Commit c) (after_write_in_want w s x p rest) (work.Commit (wanting behind)) (answers.Went kind.Write)
         wrote_in_want_step = record {
           own = event.Went s kind.Write ∷ [];
           grown = refl;
           kept = write_in_want_whole starts says proper w kept s x p rest here uncommitted unundone unmet left;
-          may = at_rest _ _ (wanting then) (record { login = at.come.login; stays = at.come.stays }) (ended_written c p rest (nodes_in w.table p) ∙ at.unended) refl refl;
+          may = at_rest _ _ (wanting behind) (record { login = at.come.login; stays = at.come.stays }) (ended_written c p rest (nodes_in w.table p) ∙ at.unended) refl refl;
           apart = apart_went kind.Write;
           attached = refl;
           unstopped = λ q k. k;
           same = documents;
-          tells = writing (answers.Went kind.Write) (event.Went s kind.Write ∷ []) (shown_work (work.Commit (wanting then))) (inl (refl, refl, inr (ap (λ (r : Revision). Undoing r end.Memory) (revision_written c p rest (nodes_in w.table p)))));
+          tells = writing (answers.Went kind.Write) (event.Went s kind.Write ∷ []) (shown_work (work.Commit (wanting behind))) (inl (refl, refl, inr (ap (λ (r : Revision). Undoing r end.Memory) (revision_written c p rest (nodes_in w.table p)))));
           of_step = kind_told kind.Write (s == s && true) (with_true (s == s) (number_itself s));
           as_due = ap (λ (y : Stage). is_due kind.Write (kind_of_stage y)) (stage_write c going looked p rest unmet left);
         }
