@@ -83,7 +83,7 @@ module _ {L : Type 0} (law : Ghosts L) (old new : PassKnown L) (s : ℕ) (made :
       ∙ ap (λ (xs : Past). record (live left.history) { past = xs }) (ap (λ (v : PassKnown L). reverse v.seen) h.known ∙ reverse-reverse left.history.past)
 
   run_new : IsRun (law.may_start got.law) (law.may_say got.law) (live left.history)
-  run_new = subst (λ (l : L). IsRun (law.may_start l) (law.may_say l) (live left.history)) law_left h.left_whole.kept.sessions.run
+  run_new = subst (λ (l : L). IsRun (law.may_start l) (law.may_say l) (live left.history)) law_left h.left_whole.kept.1.sessions.run
 
   -- ---- what is owned
 

@@ -59,13 +59,14 @@ use Rattle.oak_step.specs.Parts.{CanKeepUp, CanStep, IsBackReading, needed}
 use Rattle.oak_world.specs.Seen.{no_seat, seat_of, shown_at, shown_by, shown_read, shown_upkeep, shown_work}
 use Rattle.oak_step.specs.Works.{Begins, CanBegin, kind_due, kind_of_stage}
 use Rattle.oak_world.specs.Steps.{IsPresent, StepsIn, attached_after}
-use Rattle.oak_world.specs.Worlds.{ActorState, Story, WorldOf, actor_in, live, node_in, observing_of, once_looked, reading_of, running_as, running_of, said_in, state_of, state_with, with_reply, with_work, work_in}
+use Rattle.oak_world.specs.Worlds.{ActorState, Story, WorldOf, actor_in, live, node_in, observing_of, once_looked, reading_of, running_as, running_of, said_in, state_of, state_with, with_formers, with_reply, with_work, work_in}
 use Rattle.oak_world.proofs.States.{SameReaders, actor_other, actor_set, readers_same, readers_set, same_readers, session_same, session_set, with_readers}
 use Rattle.oak_step.proofs.Stages.{done_stage}
 use Rattle.oak_world.proofs.Others.{attached_left}
 use Rattle.oak_world.proofs.Pinning.{actor_there}
 use Rattle.oak_world.proofs.Staying.{may_last}
 use Rattle.oak_world.proofs.StepsOf.{IsStepOf, none_stopped}
+use Rattle.oak_world.proofs.Telling.{makes_told}
 use Rattle.oak_world.proofs.Walking.{any_step}
 
 -- ---- the seats of the others
@@ -218,25 +219,29 @@ module _ (starts : Starts) (says : Says) (proper : StartsProper starts) (writes 
   abbrev does : Work
   does = work_in w.actors s
 
+  -- the state, with what is told of former documents
+  abbrev state : State
+  state = with_formers (state_of w) is.formers
+
   pub seat : s < length w.actors
   seat =
-      let k : s < length w.history.sessions = slice_get_within w.history.sessions s (node_in w.history s) (on_node starts says proper (state_of w) is.kept.sessions s there) in
+      let k : s < length w.history.sessions = slice_get_within w.history.sessions s (node_in w.history s) (on_node starts says proper state is.kept.sessions s there) in
       subst (λ n. s < n) (sym is.seats) k
 
   -- what other sessions do, they may still do after events that aren't theirs
   others_may : (t : Table) → SamePrevious w.table t → (q : ℕ) (own : Past) → AreOthers q own w.history.past → IsRun starts says (after own (live w.history)) → May starts t (after own (live w.history)) q (work_in w.actors q)
-  others_may t same q own others run = may_last starts says last w.history is.kept.sessions.nodes is.kept.sessions.run q own run others w.table t same (work_in w.actors q) (λ c at f i. due_drawn starts says proper (state_of w) is.kept.sessions q (running_as q (once_looked w.table c)) (ap (running_of w.table q) at) f i) (is.may q)
+  others_may t same q own others run = may_last starts says last w.history is.kept.sessions.nodes is.kept.sessions.run q own run others w.table t same (work_in w.actors q) (λ c at f i. due_drawn starts says proper state is.kept.sessions q (running_as q (once_looked w.table c)) (ap (running_of w.table q) at) f i) (is.may q)
 
   -- ---- what a step takes
 
   come_pinned : IsPresent (live w.history) s → IsSome (pin_of (memory_of (state_of w) s) s)
-  come_pinned come = subst (λ (o : Option Pin). IsSome o) (sym (pin_there starts says proper (state_of w) is.kept.sessions s (none_stopped w.history.sessions w.history.past is.unstopped s) come.login come.stays).1) refl
+  come_pinned come = subst (λ (o : Option Pin). IsSome o) (sym (pin_there starts says proper state is.kept.sessions s (none_stopped w.history.sessions w.history.past is.unstopped s) come.login come.stays).1) refl
 
   on : slice_get w.history.sessions s ≡ Some (node_in w.history s)
-  on = on_node starts says proper (state_of w) is.kept.sessions s there
+  on = on_node starts says proper state is.kept.sessions s there
 
   pub node : IsNode w.history.clusters (node_in w.history s)
-  node = its_node starts says proper (state_of w) is.kept.sessions s there
+  node = its_node starts says proper state is.kept.sessions s there
 
   moved_ended : (r : Revision) → May starts w.table (live w.history) s (work.Move r) → HasEnded (memory_of (state_of w) s) r
   moved_ended r may =
@@ -273,8 +278,8 @@ module _ (starts : Starts) (says : Says) (proper : StartsProper starts) (writes 
   can_by work.Refresh busy at may places kept short = come_pinned may.0
   can_by (work.Read r) busy at may places kept short = tt
   can_by (work.Changes r) busy at may places kept short = tt
-  can_by (work.Plan edit marks) busy at may places kept short = let t : known_time (memory_of (state_of w) s) ≤ 0 + length w.history.past = time_known starts says proper (state_of w) is.kept.sessions (node_in w.history s) node in omega arith
-  can_by (work.Commit c) busy at may places kept short = record { flying = subst (λ (r : Revision). IsInFlight (memory_of (state_of w) s) r) (once_revision w.table c) (flies_there starts says proper (state_of w) is.kept.sessions s (running_as s (once_looked w.table c)) (ap (running_of w.table s) at)); unended = may.unended; kept = kept }
+  can_by (work.Plan edit marks) busy at may places kept short = let t : known_time (memory_of (state_of w) s) ≤ 0 + length w.history.past = time_known starts says proper state is.kept.sessions (node_in w.history s) node in omega arith
+  can_by (work.Commit c) busy at may places kept short = record { flying = subst (λ (r : Revision). IsInFlight (memory_of (state_of w) s) r) (once_revision w.table c) (flies_there starts says proper state is.kept.sessions s (running_as s (once_looked w.table c)) (ap (running_of w.table s) at)); unended = may.unended; kept = kept }
   can_by (work.Upkeep u) busy at may places kept short = can_keep_up u may.0 may.1
   can_by (work.Move r) busy at may places kept short = record { ended = moved_ended r may; pinned = come_pinned may.0; place = kept }
 
@@ -283,12 +288,12 @@ module _ (starts : Starts) (says : Says) (proper : StartsProper starts) (writes 
 
   -- the session may be told to do the task
   pub can_begin : (t : Task) → MayBegin starts (live w.history) s t → CanBegin (actor_pin (state_of w) s) t
-  can_begin (task.Load p) may = actor_there starts says proper (state_of w) is.kept s there is.unstopped may.0 may.1
-  can_begin (task.List p) may = actor_there starts says proper (state_of w) is.kept s there is.unstopped may.0 may.1
+  can_begin (task.Load p) may = actor_there starts says proper state is.kept s there is.unstopped may.0 may.1
+  can_begin (task.List p) may = actor_there starts says proper state is.kept s there is.unstopped may.0 may.1
   can_begin (task.Split p) may = may
   can_begin task.Sweep may = may
   can_begin task.Collect may = may
-  can_begin (task.Changes since) may = actor_there starts says proper (state_of w) is.kept s there is.unstopped may.0 may.1
+  can_begin (task.Changes since) may = actor_there starts says proper state is.kept s there is.unstopped may.0 may.1
   can_begin (task.Stop k) may = may
   can_begin (task.Recover k) may = may
   can_begin _ may = tt
@@ -300,8 +305,8 @@ module _ (starts : Starts) (says : Says) (proper : StartsProper starts) (writes 
   few_sessions = none_behind (cursor_owner s) w.history.sessions (let few : length w.history.sessions ≤ 64 = is.few in omega (arith, few))
 
   module _ (u : WorldOf L) (o : StepOut) (m : StepsIn w s u o) where
-    pub step_is : IsStepOf starts says s (state_of w) (work_in w.actors s) (state_of u) m.does o
-    step_is = any_step starts says proper writes (state_of w) is.kept s there few_sessions is.unstopped is.table (work_in w.actors s) refl refl refl (is.may s) (state_of u) m.does o m.makes
+    pub step_is : IsStepOf starts says s state (work_in w.actors s) (with_formers (state_of u) is.formers) m.does o
+    step_is = any_step starts says proper writes state is.kept s there few_sessions is.unstopped is.table (work_in w.actors s) refl refl refl (is.may s) (with_formers (state_of u) is.formers) m.does o (makes_told is.formers s (state_of w) (state_of u) (work_in w.actors s) m.does o m.makes)
 
     pub grown : (live u.history) ≡ after step_is.own (live w.history)
     grown = step_is.grown
@@ -326,6 +331,7 @@ module _ (starts : Starts) (says : Says) (proper : StartsProper starts) (writes 
 
     pub step_keeps : IsTable u.table.documents → IsWorld starts says u
     step_keeps table = record {
+      formers = is.formers;
       kept = step_is.kept;
       table = table;
       few = subst (λ (h : History). length h.sessions ≤ 64) (sym grown) is.few;
@@ -352,8 +358,9 @@ module _ (starts : Starts) (says : Says) (proper : StartsProper starts) (writes 
   -- ---- other calls
 
   -- a session does something else, and no event is added
-  set_keeps : (a : ActorState) → a.attached ≡ (actor_in w.actors s).attached → IsKept starts says (state_with w.history w.table w.memories (slice_set w.actors s a)) → May starts w.table (live w.history) s a.work → IsWorld starts says (record w { actors = slice_set w.actors s a })
+  set_keeps : (a : ActorState) → a.attached ≡ (actor_in w.actors s).attached → IsKept starts says (with_formers (state_with w.history w.table w.memories (slice_set w.actors s a)) is.formers) → May starts w.table (live w.history) s a.work → IsWorld starts says (record w { actors = slice_set w.actors s a })
   set_keeps a same_attached kept may = record {
+    formers = is.formers;
     kept = kept;
     table = is.table;
     few = is.few;
@@ -391,7 +398,7 @@ module _ (starts : Starts) (says : Says) (proper : StartsProper starts) (writes 
   same_state a running same = idle_state a running ∙ readers_same w s seat (state_of w) a.work same
 
   pub reply_keeps : (room : Option ℕ) → IsWorld starts says (with_reply w s room)
-  reply_keeps room = set_keeps (record (actor_in w.actors s) { reply = room }) refl (subst (λ (t : State). IsKept starts says t) (sym (same_state (record (actor_in w.actors s) { reply = room }) refl (refl, refl))) is.kept) (is.may s)
+  reply_keeps room = set_keeps (record (actor_in w.actors s) { reply = room }) refl (subst (λ (t : State). IsKept starts says (with_formers t is.formers)) (sym (same_state (record (actor_in w.actors s) { reply = room }) refl (refl, refl))) is.kept) (is.may s)
 
   module _ (idle : work_in w.actors s ≡ work.Rest) where
     abbrev begun : Work → ActorState
@@ -399,13 +406,13 @@ module _ (starts : Starts) (says : Says) (proper : StartsProper starts) (writes 
 
     -- a task that reads nothing
     quiet_keeps : (v : Work) → running_of w.table s v ≡ None → SameReaders work.Rest v → May starts w.table (live w.history) s v → IsWorld starts says (with_work w s v)
-    quiet_keeps v running same may = set_keeps (begun v) refl (subst (λ (t : State). IsKept starts says t) (sym (same_state (begun v) (ap (running_of w.table s) idle ∙ sym running) (same_readers (work_in w.actors s) v work.Rest v idle refl same))) is.kept) may
+    quiet_keeps v running same may = set_keeps (begun v) refl (subst (λ (t : State). IsKept starts says (with_formers t is.formers)) (sym (same_state (begun v) (ap (running_of w.table s) idle ∙ sym running) (same_readers (work_in w.actors s) v work.Rest v idle refl same))) is.kept) may
 
-    reads_keeps : (r : Reader) → IsKept starts says (with_reader (state_of w) s (Some r)) → IsPresent (live w.history) s → IsWorld starts says (with_work w s (work.Read r))
-    reads_keeps r kept come = set_keeps (begun (work.Read r)) refl (subst (λ (t : State). IsKept starts says t) (sym (reader_state (begun (work.Read r)) (ap (running_of w.table s) idle) (ap observing_of idle))) kept) come
+    reads_keeps : (r : Reader) → IsKept starts says (with_reader state s (Some r)) → IsPresent (live w.history) s → IsWorld starts says (with_work w s (work.Read r))
+    reads_keeps r kept come = set_keeps (begun (work.Read r)) refl (subst (λ (t : State). IsKept starts says (with_formers t is.formers)) (sym (reader_state (begun (work.Read r)) (ap (running_of w.table s) idle) (ap observing_of idle))) kept) come
 
-    observes_keeps : (r : ChangesReader) → IsKept starts says (with_observer (state_of w) s (Some r)) → IsPresent (live w.history) s → is_attached w.history.past s ≡ false → IsWorld starts says (with_work w s (work.Changes r))
-    observes_keeps r kept come detached = set_keeps (begun (work.Changes r)) refl (subst (λ (t : State). IsKept starts says t) (sym (observer_state (begun (work.Changes r)) (ap (running_of w.table s) idle) (ap reading_of idle))) kept) (come, detached)
+    observes_keeps : (r : ChangesReader) → IsKept starts says (with_observer state s (Some r)) → IsPresent (live w.history) s → is_attached w.history.past s ≡ false → IsWorld starts says (with_work w s (work.Changes r))
+    observes_keeps r kept come detached = set_keeps (begun (work.Changes r)) refl (subst (λ (t : State). IsKept starts says (with_formers t is.formers)) (sym (observer_state (begun (work.Changes r)) (ap (running_of w.table s) idle) (ap reading_of idle))) kept) (come, detached)
 
     -- a session that isn't attached reads at its own pin
     own_pin : (pin : Pin) → is_attached w.history.past s ≡ false → actor_pin (state_of w) s ≡ Some pin → pin_of (memory_of (state_of w) s) s ≡ Some pin
@@ -418,11 +425,11 @@ module _ (starts : Starts) (says : Says) (proper : StartsProper starts) (writes 
     start_keeps task.Login v may h = subst (λ (x : Work). IsWorld starts says (with_work w s x)) (sym h) (quiet_keeps work.Login refl (refl, refl) may)
     start_keeps task.End v may h = subst (λ (x : Work). IsWorld starts says (with_work w s x)) (sym h) (quiet_keeps work.End refl (refl, refl) (record { login = may.0; stays = may.1 }))
     start_keeps task.Refresh v may h = subst (λ (x : Work). IsWorld starts says (with_work w s x)) (sym h) (quiet_keeps work.Refresh refl (refl, refl) (record { login = may.0; stays = may.1 }, may.2))
-    start_keeps (task.Load p) v may h = subst (λ (x : Work). IsWorld starts says (with_work w s x)) (sym h.3) (reads_keeps (node_reader h.0 h.1 p) (load_whole starts says proper (state_of w) is.kept s h.0 h.1 p (none_stopped w.history.sessions w.history.past is.unstopped s) may.0 may.1 h.2) (record { login = may.0; stays = may.1 }))
-    start_keeps (task.List p) v may h = subst (λ (x : Work). IsWorld starts says (with_work w s x)) (sym h.3) (reads_keeps (children_reader h.0 h.1 p) (list_whole starts says proper (state_of w) is.kept s h.0 h.1 p (none_stopped w.history.sessions w.history.past is.unstopped s) may.0 may.1 h.2) (record { login = may.0; stays = may.1 }))
+    start_keeps (task.Load p) v may h = subst (λ (x : Work). IsWorld starts says (with_work w s x)) (sym h.3) (reads_keeps (node_reader h.0 h.1 p) (load_whole starts says proper state is.kept s h.0 h.1 p (none_stopped w.history.sessions w.history.past is.unstopped s) may.0 may.1 h.2) (record { login = may.0; stays = may.1 }))
+    start_keeps (task.List p) v may h = subst (λ (x : Work). IsWorld starts says (with_work w s x)) (sym h.3) (reads_keeps (children_reader h.0 h.1 p) (list_whole starts says proper state is.kept s h.0 h.1 p (none_stopped w.history.sessions w.history.past is.unstopped s) may.0 may.1 h.2) (record { login = may.0; stays = may.1 }))
     start_keeps (task.Changes since) v may h =
         subst (λ (x : Work). IsWorld starts says (with_work w s x)) (sym h.3)
-        (observes_keeps (changes_reader h.0 since h.1) (notice_whole starts says proper (state_of w) is.kept s h.0 since h.1 (none_stopped w.history.sessions w.history.past is.unstopped s) few_sessions may.0 may.1 may.3 (own_pin h.1 may.2 h.2)) (record { login = may.0; stays = may.1 }) may.2)
+        (observes_keeps (changes_reader h.0 since h.1) (notice_whole starts says proper state is.kept s h.0 since h.1 (none_stopped w.history.sessions w.history.past is.unstopped s) few_sessions may.0 may.1 may.3 (own_pin h.1 may.2 h.2)) (record { login = may.0; stays = may.1 }) may.2)
     start_keeps (task.Commit edit marks) v may h = subst (λ (x : Work). IsWorld starts says (with_work w s x)) (sym h) (quiet_keeps (work.Plan edit marks) refl (refl, refl) (record { login = may.0; stays = may.1 }, may.2, may.3))
     start_keeps task.BackWrite v may h = upkeep_keeps upkeep.Write v h (record { login = may.0; stays = may.1 }) tt
     start_keeps task.BackRead v may h = upkeep_keeps (upkeep.Read (begun_read h.0)) v h.1 (record { login = may.0; stays = may.1 }) tt
@@ -445,15 +452,16 @@ module _ (starts : Starts) (says : Says) (proper : StartsProper starts) (writes 
           by true same = absurd (other_number q s apart (sym (same_number s q same)))
           by false k = refl
 
-      kept_said : IsKept starts says (after_said (state_of w) s i text)
-      kept_said = said_whole starts says proper (state_of w) is.kept s i text next lawful
+      kept_said : IsKept starts says (after_said state s i text)
+      kept_said = said_whole starts says proper state is.kept s i text next lawful
 
       said_state : state_of (said_in w s i text) ≡ after_said (state_of w) s i text
       said_state = ap (λ (t : State). record t { past = said ∷ w.history.past }) (same_state (record (actor_in w.actors s) { reply = None }) refl (refl, refl))
 
       pub said_keep : IsWorld starts says (said_in w s i text)
       said_keep = record {
-        kept = subst (λ (t : State). IsKept starts says t) (sym said_state) kept_said;
+        formers = is.formers;
+        kept = subst (λ (t : State). IsKept starts says (with_formers t is.formers)) (sym said_state) kept_said;
         table = is.table;
         few = is.few;
         attached = λ q. attached_too q (q == s) refl;

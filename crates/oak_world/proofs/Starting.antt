@@ -71,6 +71,7 @@ start_same law clusters sessions =
 
 pub start_is_world : (starts : Starts) (says : Says) {L : Type 0} (law : L) (clusters : ℕ) (sessions : List ℕ) → length sessions ≤ 64 → AreNodes clusters sessions → IsWorld starts says (start_world law clusters sessions)
 start_is_world starts says law clusters sessions few nodes = record {
+  formers = λ p k. None;
   kept = subst (λ (t : State). IsKept starts says t) (sym (start_same law clusters sessions)) (start_whole starts says clusters sessions nodes);
   table = start_in_order clusters (length sessions);
   few = few;

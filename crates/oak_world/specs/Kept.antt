@@ -14,6 +14,7 @@ use Rattle.oak_machine.specs.Laws.{Asks, Says, Starts}
 use Rattle.oak_machine.specs.Sessions.{has_login, has_reader, is_attached, is_stopped, next_index}
 use Rattle.oak_read.specs.Reading.{IsTable}
 use Rattle.core_clash.specs.Core.{root_of}
+use Rattle.core_keep.specs.Formers.{Formers}
 use Rattle.core_world.specs.Kept.{IsKept, WereOnRoot}
 use Rattle.jr_rev.specs.declared.revision.Revision.{Revision}
 use Rattle.jr_rev.specs.Revisions.{is_at_most}
@@ -30,7 +31,7 @@ use Rattle.oak_world.specs.declared.actor.Actor.{Actor}
 use Rattle.oak_step.specs.declared.work.Work.{Work}
 use Rattle.oak_step.specs.declared.work.Work.TheVariants as work
 use Rattle.oak_step.specs.Parts.{needed}
-use Rattle.oak_world.specs.Worlds.{WorldOf, actor_in, live, once_looked, state_of, work_in}
+use Rattle.oak_world.specs.Worlds.{WorldOf, actor_in, live, once_looked, state_of, with_formers, work_in}
 use Rattle.oak_world.specs.Seen.{shown_work}
 use Rattle.oak_world.specs.Steps.{IsPresent}
 
@@ -101,11 +102,12 @@ May starts t h s (work.Upkeep u) = IsPresent h s × MayKeepUp h s u
 May starts t h s (work.Move r) =
     IsPresent h s × IsTrue (is_ended h.past r) × (slice_get h.sessions s ≡ Some r.cluster)
 
--- the state is kept by its law, the documents are in store order, there are at most 64 sessions, of
--- each it is known whether it is attached to a checkpoint, no cluster node is stopped, and each may
+-- the state is kept by its law, with the former documents of those that list previous ones; the
+-- documents are in store order, there are at most 64 sessions, of each it is known whether it is attached to a checkpoint, no cluster node is stopped, and each may
 -- do what it does
 pub record IsWorld (starts : Starts) (says : Says) {L : Type 0} (w : WorldOf L) : Type 0 where
-  pub kept : IsKept starts says (state_of w)
+  pub formers : Formers
+  pub kept : IsKept starts says (with_formers (state_of w) formers)
   pub table : IsTable w.table.documents
   pub few : length w.history.sessions ≤ 64
   pub attached : (s : ℕ) → (actor_in w.actors s).attached ≡ is_attached w.history.past s

@@ -21,6 +21,7 @@ use Rattle.oak_read.specs.Meaning.{documents_in}
 use Rattle.oak_read.specs.declared.reader.Reader.{Reader}
 use Rattle.oak_store.specs.Tables.{Table}
 use Rattle.core_clash.specs.Sessions.{Running}
+use Rattle.core_keep.specs.Formers.{Formers}
 use Rattle.core_world.specs.Start.{start_table}
 use Rattle.core_world.specs.States.{State, memory_at, with_memory}
 use Rattle.oak_world.specs.declared.actor.Actor.{Actor}
@@ -168,7 +169,11 @@ state_with h t ms actors = record {
   formers = λ p k. None;
 }
 
--- all but the law and what is kept for replies
+-- a state in which these former documents are told of
+abbrev pub with_formers : State → Formers → State
+with_formers x formers = record x { formers = formers }
+
+-- all but the law, what is kept for replies, and what is told of former documents
 abbrev pub state_of : {L : Type 0} → WorldOf L → State
 state_of w = state_with w.history w.table w.memories w.actors
 
