@@ -261,6 +261,13 @@ is_by_due due (event.Went s kind.Mark ∷ []) = is_due kind.Mark due
 is_by_due due (event.Commit r ∷ []) = is_due kind.Last due
 is_by_due due _ = true
 
+-- a commit that writes reads a previous document where that is due, and nowhere else; no event is
+-- added then, also where memory is refused for it
+abbrev pub ReadsAsDue : Bool → StepOut → Past → Type 0
+ReadsAsDue true answer own = own ≡ []
+ReadsAsDue false (out.Went kind.Read) own = ⊥
+ReadsAsDue false answer own = ⊤
+
 -- events of others were added, none where nobody else steps the world, and then a step made these
 pub record Steps (starts : Starts) (says : Says) (old new : Shown) (answer : StepOut) : Type 0 where
   pub others : Past
@@ -269,6 +276,8 @@ pub record Steps (starts : Starts) (says : Says) (old new : Shown) (answer : Ste
   pub makes : Makes (after others old.history) old.session old.work answer own new.work
   pub of_step : AreOfStep (after others old.history) old.session old.work answer own
   pub as_due : IsTrue (is_by_due old.due own)
+  pub reads_due : (r : Revision) → old.work ≡ Writing r
+      → ReadsAsDue (is_due kind.Read old.due) answer own
   pub session : new.session ≡ old.session
   pub room : new.room ≡ old.room
   pub beside : new.beside ≡ old.beside

@@ -66,6 +66,7 @@ use Rattle.oak_world.proofs.Others.{attached_left}
 use Rattle.oak_world.proofs.Pinning.{actor_there}
 use Rattle.oak_world.proofs.Staying.{may_last}
 use Rattle.oak_world.proofs.StepsOf.{IsStepOf, none_stopped}
+use Rattle.oak_world.proofs.Questions.{reads_as_due}
 use Rattle.oak_world.proofs.Telling.{makes_told}
 use Rattle.oak_world.proofs.Walking.{any_step}
 
@@ -349,6 +350,7 @@ module _ (starts : Starts) (says : Says) (proper : StartsProper starts) (writes 
       makes = subst (λ (v : Work). Tells (live w.history) s (shown_work (work_in w.actors s)) o step_is.own (shown_work v)) (sym does_now) step_is.tells;
       of_step = step_is.of_step;
       as_due = step_is.as_due;
+      reads_due = reads_as_due s (state_of w) (state_of u) step_is.own (ap (λ (h : History). h.past) grown) (work_in w.actors s) m.does o m.makes;
       session = refl;
       room = ap (λ (a : ActorState). a.reply) (set_is w s seat u.actors _ m.actors);
       beside = beside_same w s seat name u _ m.actors;
