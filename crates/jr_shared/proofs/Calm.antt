@@ -35,6 +35,10 @@ module _ (s : ℕ) (w u : State) (same : u.past ≡ w.past) where
   calm_update : (c : Committing) (d : Committing) (k : StepKind) → MakesUpdate s w c u d k → IsCalm
   calm_update c d kind.Mark m = elim m.5 [ inl k ↦ never _ k.0 | inr k ↦ never _ k.0 ]
   calm_update c d kind.Write m = elim m.5 [ inl k ↦ never _ (ap (λ (x : State). x.past) k.0) | inr k ↦ never _ (ap (λ (x : State). x.past) k.0) ]
+  calm_update c d kind.Read m = elim m.3 [
+    | inl k ↦ (ap (λ (x : State). x.table) k.0, ap (λ (x : State). x.memories) k.0)
+    | inr k ↦ (ap (λ (x : State). x.table) k.0, ap (λ (x : State). x.memories) k.0)
+  ]
   calm_update c d kind.Last m = elim m.4 [ inl k ↦ never _ k.0 | inr k ↦ never _ k.2 ]
   calm_update c d kind.Undo m = never _ (ap (λ (x : State). x.past) m.4)
   calm_update c d _ m = absurd m

@@ -82,10 +82,10 @@ module _ {L : Type 0} (law : Ghosts L) (old : PassKnown L) (got : WorldOf L) (g 
       ∙ ap (λ (xs : Past). record { clusters = clusters_by old; sessions = sessions_by old; begin = None; past = xs }) past_got)
 
   pub nodes : AreNodes got.history.clusters got.history.sessions
-  nodes = g.whole.kept.sessions.nodes
+  nodes = g.whole.kept.1.sessions.nodes
 
   pub run_got : IsRunOf (law.may_start got.law) (law.may_say got.law) got.history.clusters got.history.sessions None (more ++ reverse old.seen)
-  run_got = subst (λ (xs : Past). IsRunOf (law.may_start got.law) (law.may_say got.law) got.history.clusters got.history.sessions None xs) past_got g.whole.kept.sessions.run
+  run_got = subst (λ (xs : Past). IsRunOf (law.may_start got.law) (law.may_say got.law) got.history.clusters got.history.sessions None xs) past_got g.whole.kept.1.sessions.run
 
   pub run_old : IsRunOf (law.may_start got.law) (law.may_say got.law) got.history.clusters got.history.sessions None (reverse old.seen)
   run_old = run_before got.history.clusters got.history.sessions nodes None (law.may_start got.law) (law.may_say got.law) more (reverse old.seen) run_got

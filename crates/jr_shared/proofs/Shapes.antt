@@ -35,6 +35,7 @@ adds w (out.Wait q) = false
 adds (Starting (task.Load p)) o = false
 adds (Starting (task.List p)) o = false
 adds (Starting (task.Changes since)) o = false
+adds (Writing r) (out.Went kind.Read) = false
 adds w o = true
 
 abbrev is_head : Event → Bool
@@ -53,11 +54,20 @@ finished : (r : Revision) (own : Past) → IsFinish r own → IsAdded own
 finished r own (inl e) = inl (event.End r, e, refl)
 finished r own (inr m) = inr (m.0, m.1, r, m.2)
 
-written : (s : ℕ) (r : Revision) (k : StepKind) (own : Past) (now : Shows) → WritesOn s r k own now → IsAdded own
-written s r k own now (inl m) = inl (event.Went s kind.Write, m.1, refl)
-written s r k own now (inr (inl m)) = inl (event.Went s kind.Mark, m.1, refl)
-written s r k own now (inr (inr (inl m))) = inl (event.Commit r, m.1, refl)
-written s r k own now (inr (inr (inr m))) = inl (event.Refuse r m.0 m.1, m.2, refl)
+-- a commit that writes adds an event, but where it reads a previous document
+written : (s : ℕ) (r : Revision) (k : StepKind) (own : Past) (now : Shows) → (k ≡ kind.Read → ⊥) → WritesOn s r k own now → IsAdded own
+written s r k own now counted (inl m) = inl (event.Went s kind.Write, m.1, refl)
+written s r k own now counted (inr (inl m)) = absurd (counted m.0)
+written s r k own now counted (inr (inr (inl m))) = inl (event.Went s kind.Mark, m.1, refl)
+written s r k own now counted (inr (inr (inr (inl m)))) = inl (event.Commit r, m.1, refl)
+written s r k own now counted (inr (inr (inr (inr m)))) = inl (event.Refuse r m.0 m.1, m.3, refl)
+
+looked : (s : ℕ) (r : Revision) (own : Past) (now : Shows) → WritesOn s r kind.Read own now → own ≡ []
+looked s r own now (inl m) = let never : kind.Read ≡ kind.Write = m.0 in cc
+looked s r own now (inr (inl m)) = m.1
+looked s r own now (inr (inr (inl m))) = let never : kind.Read ≡ kind.Mark = m.0 in cc
+looked s r own now (inr (inr (inr (inl m)))) = let never : kind.Read ≡ kind.Last = m.0 in cc
+looked s r own now (inr (inr (inr (inr m)))) = elim m.2 [ inl e ↦ (let never : kind.Read ≡ kind.Mark = e in cc) | inr e ↦ (let never : kind.Read ≡ kind.Last = e in cc) ]
 
 swept : (h : History) (s : ℕ) (r : Revision) (k : StepKind) (own : Past) (now : Shows) → SweepsOn h s r k own now → IsAdded own
 swept h s r k own now (is, inl m) = inl (event.Went s kind.Sweep, m.0, refl)
@@ -96,7 +106,8 @@ shaped h s (Sweeping r) (out.Ready (end.Swept o)) own now m = inl (event.Went s 
 shaped h s (Sweeping r) out.Memory own now m = m.0
 shaped h s (Detaching v) (out.Ready (end.Pinned pin)) own now m = inl (event.Detach s, m.1, refl)
 shaped h s (Detaching v) out.Memory own now m = m.0
-shaped h s (Writing r) (out.Went k) own now m = written s r k own now m
+shaped h s (Writing r) (out.Went kind.Read) own now m = looked s r own now m
+shaped h s (Writing r) (out.Went k) own now m = written s r k own now (λ e. cc) m
 shaped h s (Writing r) out.Memory own now m = m.0
 shaped h s (Undoing r e) (out.Went k) own now m = inl (event.Went s kind.Undo, m.1, refl)
 shaped h s (Undoing r e) (out.Ready (end.Commit f)) own now m = finished r own m.1

@@ -10,6 +10,7 @@ use Rattle.jr_path.specs.Lists.{Text}
 use Rattle.jr_rev.specs.declared.vector.Pin.{Pin}
 use Rattle.oak_machine.specs.declared.event.Event.TheVariants as event
 use Rattle.oak_machine.specs.declared.event.StepKind.{StepKind}
+use Rattle.oak_machine.specs.declared.event.StepKind.TheVariants as kind
 use Rattle.oak_machine.specs.declared.law.Law.{Ghosts}
 use Rattle.oak_machine.specs.History.{History, Past}
 use Rattle.oak_machine.specs.Laws.{AreOthers, after}
@@ -18,7 +19,7 @@ use Rattle.oak_machine.specs.Sessions.{base_of, has_left}
 use Rattle.core_world.specs.States.{State, actor_pin, memory_of}
 use Rattle.oak_port.specs.declared.task.StepOut.{StepOut}
 use Rattle.oak_port.specs.declared.task.Task.{Task}
-use Rattle.oak_port.specs.Ports.{ActedAlone, AreOfStep, Answers, Grows, Idle, IsWait, Makes, OthersAlone, Starting, StaysSo, Steps, Work as Shows, is_by_due}
+use Rattle.oak_port.specs.Ports.{ActedAlone, AreOfStep, Answers, Grows, Idle, IsWait, Makes, OthersAlone, ReadsAsDue, Starting, StaysSo, Steps, Work as Shows, is_by_due, is_due}
 use Rattle.oak_step.specs.declared.work.Work.{Work}
 use Rattle.oak_step.specs.declared.work.Work.TheVariants as work
 use Rattle.oak_world.specs.Left.{left_in, steps_left}
@@ -83,7 +84,7 @@ module _ {L : Type 0} (law : Ghosts L) (old new : PassKnown L) (s : ℕ) (made :
       ∙ ap (λ (xs : Past). record (live left.history) { past = xs }) (ap (λ (v : PassKnown L). reverse v.seen) h.known ∙ reverse-reverse left.history.past)
 
   run_new : IsRun (law.may_start got.law) (law.may_say got.law) (live left.history)
-  run_new = subst (λ (l : L). IsRun (law.may_start l) (law.may_say l) (live left.history)) law_left h.left_whole.kept.sessions.run
+  run_new = subst (λ (l : L). IsRun (law.may_start l) (law.may_say l) (live left.history)) law_left h.left_whole.kept.1.sessions.run
 
   -- ---- what is owned
 
@@ -295,6 +296,7 @@ module _ {L : Type 0} (law : Ghosts L) (old new : PassKnown L) (s : ℕ) (made :
           of_step = subst (λ (x : History). AreOfStep x s (shown_work (actor_by old s).work) o told_step.own) before
               (subst (λ (w : Shows). AreOfStep (after told_step.others (live got.history)) s w o told_step.own) was told_step.of_step);
           as_due = subst (λ (k : Option StepKind). is_by_due k told_step.own ≡ true) (sym (ap (λ (a : ActorState). kind_due a.work) actor_got)) told_step.as_due;
+          reads_due = λ r is. subst (λ (k : Option StepKind). ReadsAsDue (is_due kind.Read k) o told_step.own) (sym (ap (λ (a : ActorState). kind_due a.work) actor_got)) (told_step.reads_due r (was ∙ is));
           session = refl;
           room = ap (λ (a : ActorState). a.reply) actor_new ∙ (told_step.room ∙ sym (ap (λ (a : ActorState). a.reply) actor_got));
           beside = refl;

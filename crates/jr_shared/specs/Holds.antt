@@ -13,6 +13,7 @@ use Rattle.jr_rev.specs.declared.vector.Pin.{Pin}
 use Rattle.oak_machine.specs.declared.event.StepKind.{StepKind}
 use Rattle.oak_machine.specs.Asked.{AreAsked}
 use Rattle.oak_machine.specs.Sessions.{base_of, has_left}
+use Rattle.core_keep.specs.Formers.{Formers}
 use Rattle.core_world.specs.Kept.{IsKept}
 use Rattle.core_world.specs.States.{actor_pin}
 use Rattle.oak_port.specs.declared.task.StepOut.{StepOut}
@@ -24,7 +25,7 @@ use Rattle.oak_world.specs.Left.{left_in}
 use Rattle.oak_world.specs.Seen.{shown_at}
 use Rattle.oak_step.specs.Works.{Begins, kind_due}
 use Rattle.oak_world.specs.Steps.{StepsIn}
-use Rattle.oak_world.specs.Worlds.{ActorState, WorldOf, idle, live, state_of, with_reply, with_work, work_in}
+use Rattle.oak_world.specs.Worlds.{ActorState, WorldOf, idle, live, state_of, with_formers, with_reply, with_work, work_in}
 use Rattle.seat_lock.specs.declared.rule.Round.TheVariants as round
 use Rattle.seat_lock.specs.declared.rule.View.{View}
 use Rattle.seat_lock.specs.Views.{OwnsPart, new_places}
@@ -92,7 +93,7 @@ module _ {L : Type 0} where
   -- what every world is: its state is one that every step keeps, each of its sessions has a seat,
   -- and each event was made for a command that asks for it
   pub record IsWhole (law : Ghosts L) (w : WorldOf L) : Type 0 where
-    pub kept : IsKept (law.may_start w.law) (law.may_say w.law) (state_of w)
+    pub kept : (formers : Formers) × IsKept (law.may_start w.law) (law.may_say w.law) (with_formers (state_of w) formers)
     pub seats : length w.actors ≡ length w.history.sessions
     pub asked : AreAsked (law.asks w.law) (live w.history)
 

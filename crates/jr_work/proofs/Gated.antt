@@ -16,13 +16,14 @@ use Rattle.oak_machine.specs.declared.event.Draw.{Draw}
 use Rattle.oak_machine.specs.declared.event.Event.{Event}
 use Rattle.oak_machine.specs.declared.event.Event.TheVariants as event
 use Rattle.oak_machine.specs.declared.event.StepKind.{StepKind}
+use Rattle.oak_machine.specs.declared.event.StepKind.TheVariants as kind
 use Rattle.oak_machine.specs.History.{Begin, History, Past}
 use Rattle.oak_machine.specs.Commits.{draw_of, is_drawn}
 use Rattle.oak_machine.specs.Heads.{greatest_time, head_of, last_draw_time}
 use Rattle.oak_machine.specs.Laws.{AreOthers, Says, Starts, after, is_event_of, is_revision_of}
 use Rattle.oak_machine.specs.Runs.{IsRun, IsRunOf}
 use Rattle.oak_port.specs.declared.task.StepOut.{StepOut}
-use Rattle.oak_port.specs.Ports.{ActedAlone, AreOfStep, Beside, Idle, IsWait, LastsLess, LastsOn, Makes, Seat, Shown, StaysSo, Steps, Work, is_by_due}
+use Rattle.oak_port.specs.Ports.{ActedAlone, AreOfStep, Beside, Idle, IsWait, LastsLess, LastsOn, Makes, ReadsAsDue, Seat, Shown, StaysSo, Steps, Work, is_by_due, is_due}
 use Rattle.jr_shared.proofs.Shapes.{none_between, shaped}
 
 -- ---- draws
@@ -172,6 +173,7 @@ module _ (starts : Starts) (says : Says) (old mid : Shown) (waits : StaysSo star
       makes = makes;
       of_step = of_step;
       as_due = subst (λ (k : Option StepKind). is_by_due k steps.own ≡ true) (waits.same_due refl) steps.as_due;
+      reads_due = λ r is. subst (λ (k : Option StepKind). ReadsAsDue (is_due kind.Read k) answer steps.own) (waits.same_due refl) (steps.reads_due r (waits.work_is ∙ is));
       session = steps.session ∙ waits.session;
       room = steps.room ∙ waits.room_is;
       beside = steps.beside ∙ waits.beside;

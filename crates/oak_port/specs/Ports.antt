@@ -123,17 +123,18 @@ pub record IsDrawFor (s : ℕ) (edit : Edit) (marks : List MarkAt) (d : Draw) : 
   pub edit_is : d.edit ≡ edit
   pub marks_are : d.marks ≡ marks
 
--- a commit that writes makes one write, behind which it undoes where memory is refused for what it
--- met there; or one mark; or it is decided by a mark or by its last write: committed, or refused
--- for a clash
+-- a commit that writes makes one write, or reads a previous document of one that it wrote; behind
+-- either it undoes where memory is refused for what it met there; or it makes one mark; or it is
+-- decided by a mark or by its last write: committed, or refused for a clash
 abbrev pub WritesOn : ℕ → Revision → StepKind → Past → Work → Type 0
 WritesOn s r k own now =
     ((k ≡ kind.Write) × (own ≡ event.Went s kind.Write ∷ [])
     × ((now ≡ Writing r) ⊎ (now ≡ Undoing r commit.Memory)))
+    ⊎ ((k ≡ kind.Read) × (own ≡ []) × ((now ≡ Writing r) ⊎ (now ≡ Undoing r commit.Memory)))
     ⊎ ((k ≡ kind.Mark) × (own ≡ event.Went s kind.Mark ∷ []) × (now ≡ Writing r))
     ⊎ ((k ≡ kind.Last) × (own ≡ event.Commit r ∷ []) × (now ≡ Deciding r))
-    ⊎ ((item : Item) × (o : Revision) × (own ≡ event.Refuse r item o ∷ [])
-    × (now ≡ Undoing r (commit.Clash item o)))
+    ⊎ ((item : Item) × (o : Revision) × ((k ≡ kind.Mark) ⊎ (k ≡ kind.Last))
+    × (own ≡ event.Refuse r item o ∷ []) × (now ≡ Undoing r (commit.Clash item o)))
 
 -- q holds the head of its cluster node back from r: it was drawn there before r, and is in flight
 pub record HoldsBack (past : Past) (q r : Revision) : Type 0 where
@@ -280,6 +281,13 @@ is_by_due due (event.Went s kind.Mark ∷ []) = is_due kind.Mark due
 is_by_due due (event.Commit r ∷ []) = is_due kind.Last due
 is_by_due due _ = true
 
+-- a commit that writes reads a previous document where that is due, and nowhere else; no event is
+-- added then, also where memory is refused for it
+abbrev pub ReadsAsDue : Bool → StepOut → Past → Type 0
+ReadsAsDue true answer own = own ≡ []
+ReadsAsDue false (out.Went kind.Read) own = ⊥
+ReadsAsDue false answer own = ⊤
+
 -- events of others were added, none where nobody else steps the world, and then a step made these
 pub record Steps (starts : Starts) (says : Says) (old new : Shown) (answer : StepOut) : Type 0 where
   pub others : Past
@@ -288,6 +296,8 @@ pub record Steps (starts : Starts) (says : Says) (old new : Shown) (answer : Ste
   pub makes : Makes (after others old.history) old.session old.work answer own new.work
   pub of_step : AreOfStep (after others old.history) old.session old.work answer own
   pub as_due : IsTrue (is_by_due old.due own)
+  pub reads_due : (r : Revision) → old.work ≡ Writing r
+      → ReadsAsDue (is_due kind.Read old.due) answer own
   pub session : new.session ≡ old.session
   pub room : new.room ≡ old.room
   pub beside : new.beside ≡ old.beside

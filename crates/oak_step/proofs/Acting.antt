@@ -18,6 +18,7 @@ use Rattle.oak_commit.specs.declared.outcome.CommitEnd.{CommitEnd}
 use Rattle.oak_commit.specs.declared.outcome.CommitEnd.TheVariants as end
 use Rattle.oak_commit.specs.declared.stage.Stage.TheVariants as stage
 use Rattle.oak_doc.specs.declared.asks.Ask.TheVariants as ask
+use Rattle.oak_doc.specs.declared.asks.Reply.{Reply}
 use Rattle.oak_doc.specs.declared.asks.Reply.TheVariants as reply
 use Rattle.oak_doc.specs.declared.document.Document.{Document}
 use Rattle.oak_doc.specs.declared.update.Change.{Change}
@@ -32,11 +33,12 @@ use Rattle.oak_doc.specs.Updates.{after_changes, holds, of_revision, updated}
 use Rattle.oak_machine.specs.declared.event.Event.{Event}
 use Rattle.oak_machine.specs.declared.event.Event.TheVariants as event
 use Rattle.oak_machine.specs.declared.event.StepKind.TheVariants as kind
+use Rattle.oak_read.specs.Reading.{answer}
 use Rattle.oak_store.specs.Tables.{Table, Updates, after_undo, found, next_number}
-use Rattle.oak_step.specs.Parts.{IsLast, IsLastFault, IsUpdateMade, IsMarked, IsRefusedBy, IsDocumentUndone, IsWritten, fed_made, op_due, mark_refusal, result_of}
+use Rattle.oak_step.specs.Parts.{IsLast, IsLastFault, IsUpdateMade, IsMarked, IsRefusedBy, IsDocumentUndone, IsWritten, fed_previous, fed_made, op_due, mark_refusal, result_of}
 use Rattle.oak_step.proofs.Feeding.{op_last, op_mark, op_write}
 use Rattle.oak_step.proofs.Replies.{fed_lasted, fed_marked, fed_undone, fed_unmet, fed_written}
-use Rattle.oak_step.proofs.Stages.{IsLastStage, IsMarkStage, IsUndoStage, IsWriteStage, last_stage, mark_stage, undo_stage, write_stage}
+use Rattle.oak_step.proofs.Stages.{IsLastStage, IsMarkStage, IsUndoStage, IsWriteStage, last_stage, look_stage, mark_stage, undo_stage, write_stage}
 use Rattle.oak_step.proofs.Tables.{made_is}
 
 -- ---- before the commit point
@@ -46,6 +48,9 @@ mark_going c h = (mark_stage c h).going
 
 pub write_going : (c : Committing) → stage_of c ≡ stage.Write → c.outcome ≡ None
 write_going c h = (write_stage c h).going
+
+pub look_going : (c : Committing) → stage_of c ≡ stage.Look → c.outcome ≡ None
+look_going c h = (look_stage c h).going
 
 pub last_going : (c : Committing) → stage_of c ≡ stage.Last → c.outcome ≡ None
 last_going c h = (last_stage c h).going
@@ -144,6 +149,13 @@ module _ (t u : Table) (c : Committing) (op : UpdateOp) (asked : ask.Update op �
     last_fails fault.Memory up = tt
     last_fails fault.Absent up = last_told fault.Absent up.1
     last_fails (fault.Unmet k x) up = last_told (fault.Unmet k x) up.1
+
+-- ---- a look
+
+-- what it keeps once it looked at a previous document
+pub looked_is : (t : Table) (c d : Committing) (x : Reply) (r : Result Unit AllocError) → x ≡ answer t.documents (due_of c) → OnOk r (d ≡ fed c x) → OnErr r (d ≡ wanting (fed c x)) → (d ≡ fed_previous t c) ⊎ (d ≡ wanting (fed_previous t c))
+looked_is t c d x (Ok u) is ok err = inl (ok ∙ ap (fed c) is)
+looked_is t c d x (Err e) is ok err = inr (err ∙ ap (λ (y : Reply). wanting (fed c y)) is)
 
 -- ---- the event of a refusal
 

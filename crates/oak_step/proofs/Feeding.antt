@@ -4,7 +4,7 @@ use Rattle.jr_path.specs.declared.path.Path.{Path}
 use Rattle.jr_path.specs.declared.path.Item.{Item}
 use Rattle.jr_rev.specs.declared.revision.Revision.{Revision}
 use Rattle.oak_commit.specs.Clashing.{Met, mark_op}
-use Rattle.oak_commit.specs.Committing.{Committing, advanced_by, fed, fed_by, first_path, going_by, refused, wanting, with_undone, without_memory, written, written_by}
+use Rattle.oak_commit.specs.Committing.{Committing, advanced_by, fed, fed_by, first_path, going_by, looking_on, refused, wanting, with_undone, without_memory, written, written_by}
 use Rattle.oak_commit.specs.Kept.{undoes}
 use Rattle.oak_commit.specs.Stages.{stage_of}
 use Rattle.oak_commit.specs.Writing.{last_op, write_op}
@@ -17,7 +17,12 @@ use Rattle.oak_doc.specs.declared.asks.Reply.TheVariants as reply
 use Rattle.oak_doc.specs.declared.update.Cond.{Cond}
 use Rattle.oak_doc.specs.declared.update.Kept.{Kept}
 use Rattle.oak_doc.specs.declared.update.Kept.TheVariants as kept
-use Rattle.oak_step.specs.Parts.{committed, mark_made, op_due}
+use Rattle.jr_path.specs.Ids.{names_of}
+use Rattle.jr_path.specs.declared.path.DocId.{DocId}
+use Rattle.oak_commit.specs.Looking.{with_found}
+use Rattle.oak_read.specs.Meaning.{documents_in}
+use Rattle.oak_store.specs.Tables.{Table}
+use Rattle.oak_step.specs.Parts.{committed, fed_previous, mark_made, op_due}
 
 module _ (c : Committing) (going : c.outcome ≡ None) where
   -- before its commit point
@@ -90,6 +95,22 @@ module _ (c : Committing) (going : c.outcome ≡ None) (looked : c.looking ≡ N
 
     pub blocked_last : (k : Cond) (o : Revision) (item : Item) → fed c (reply.Unmet k (kept.Entry o item)) ≡ refused c item o
     blocked_last k o item = subst (λ (d : Committing). fed d (reply.Unmet k (kept.Entry o item)) ≡ refused d item o) (sym at_last) refl
+
+-- ---- a look
+
+-- the previous document that is asked for, where it is there
+abbrev pub look_found : Table → DocId → Option Document
+look_found t x = documents_in t.documents x
+
+-- what it keeps once that is found, or is gone
+abbrev pub found_on : Table → Committing → Look → Committing
+found_on t c k = looking_on c (names_of k.first) (with_found k.document (look_found t k.first)) k.rest
+
+pub fed_look : (c : Committing) → c.outcome ≡ None → (k : Look) → c.looking ≡ Some k → (t : Table) → fed_previous t c ≡ found_on t c k
+fed_look c going k looked t = subst (λ (d : Committing). fed_previous t d ≡ found_on t d k) (sym at_look) refl
+  where
+    at_look : c ≡ record c { outcome = None; looking = Some k }
+    at_look = ap (λ (o : Option CommitEnd). record c { outcome = o }) going ∙ ap (λ (l : Option Look). record c { outcome = None; looking = l }) looked
 
 -- ---- while it undoes
 

@@ -3,7 +3,9 @@ use Rattle.std.proofs.Common.{◌≡◌, ◌≤◌, ◌+◌, ◌*◌, ℕ, List,
 use Rattle.jr_path.specs.declared.path.DocId.{DocId}
 use Rattle.jr_path.specs.declared.path.Path.{Path}
 use Rattle.jr_rev.specs.declared.revision.Revision.{Revision}
+use Rattle.jr_path.specs.Ids.{names_of}
 use Rattle.oak_commit.specs.Clashing.{Writer}
+use Rattle.oak_commit.specs.Looking.{with_found}
 use Rattle.oak_commit.specs.Committing.{Committing, looking_on, wanting, with_undone, written, wrote}
 use Rattle.oak_read.specs.Wanted.{listed}
 use Rattle.oak_commit.specs.Kept.{undoes}
@@ -14,9 +16,9 @@ use Rattle.oak_commit.specs.declared.stage.Stage.TheVariants as stage
 use Rattle.oak_doc.specs.declared.document.Document.{Document}
 use Rattle.oak_machine.specs.declared.event.Event.{Event}
 use Rattle.oak_store.specs.Tables.{Table, found}
-use Rattle.oak_step.specs.Parts.{fed_made, IsLast, IsMarked, IsDocumentUndone, IsWritten, mark_made, needed_by, needed_for, op_due}
-use Rattle.oak_step.proofs.Feeding.{blocked_last, blocked_mark, fed_last, fed_mark, fed_undo, fed_write}
-use Rattle.oak_step.proofs.Stages.{IsLastStage, IsMarkStage, IsUndoStage, IsWriteStage, last_stage, mark_stage, undo_stage, write_stage}
+use Rattle.oak_step.specs.Parts.{fed_previous, fed_made, IsLast, IsMarked, IsDocumentUndone, IsWritten, mark_made, needed_by, needed_for, op_due}
+use Rattle.oak_step.proofs.Feeding.{blocked_last, blocked_mark, fed_last, fed_look, fed_mark, found_on, look_found, fed_undo, fed_write}
+use Rattle.oak_step.proofs.Stages.{IsLastStage, IsLookStage, IsMarkStage, IsUndoStage, IsWriteStage, last_stage, look_stage, mark_stage, undo_stage, write_stage}
 
 -- before the commit point
 going_needs : (c : Committing) → c.outcome ≡ None → needed_by c ≡ 2 * length c.writer.left + length c.writer.written + 4
@@ -38,6 +40,38 @@ settled_needs c e is = subst (λ (o : Option CommitEnd). 2 ≤ needed_for c.writ
 pub committed_needs : (c : Committing) (r : Revision) → c.outcome ≡ Some (end.Committed r) → needed_by c ≡ 3
 committed_needs c r is = ap (needed_for c.writer) is
 
+-- a look takes no place
+looks_need : (b : Committing) (p : Path) (d : Document) (ids : List DocId) (o : Option CommitEnd) → needed_for (looking_on b p d ids).writer o ≡ needed_for b.writer o
+looks_need b p d [] None = refl
+looks_need b p d [] (Some (end.Committed r)) = refl
+looks_need b p d [] (Some (end.Clash item r)) = refl
+looks_need b p d [] (Some end.Memory) = refl
+looks_need b p d (i ∷ is) o = refl
+
+look_outcome : (b : Committing) (p : Path) (d : Document) (ids : List DocId) → (looking_on b p d ids).outcome ≡ b.outcome
+look_outcome b p d [] = refl
+look_outcome b p d (i ∷ is) = refl
+
+look_count : (b : Committing) (p : Path) (d : Document) (ids : List DocId) → length (looking_on b p d ids).writer.written ≡ length b.writer.written
+look_count b p d [] = refl
+look_count b p d (i ∷ is) = refl
+
+-- a look takes no place, whether or not memory is refused for what is found
+pub look_needs : (t : Table) (c d : Committing) → stage_of c ≡ stage.Look → (d ≡ fed_previous t c) ⊎ (d ≡ wanting (fed_previous t c)) → needed_by d ≤ needed_by c
+look_needs t c d h m = by (look_stage c h) m
+  where
+    kept : (at : IsLookStage c) → needed_by (found_on t c at.looking) ≡ needed_by c
+    kept at = ap (needed_for (found_on t c at.looking).writer) (look_outcome c (names_of at.looking.first) (with_found at.looking.document (look_found t at.looking.first)) at.looking.rest) ∙ looks_need c (names_of at.looking.first) (with_found at.looking.document (look_found t at.looking.first)) at.looking.rest c.outcome
+
+    by : IsLookStage c → (d ≡ fed_previous t c) ⊎ (d ≡ wanting (fed_previous t c)) → needed_by d ≤ needed_by c
+    by at (inl e) =
+        let k : needed_by d ≡ needed_by c = ap needed_by (e ∙ fed_look c at.going at.looking at.looked t) ∙ kept at in
+        omega (arith, k)
+    by at (inr e) =
+        let k : needed_by d ≡ length c.writer.written + 2 = ap needed_by (e ∙ ap wanting (fed_look c at.going at.looking at.looked t)) ∙ ap (λ (n : ℕ). n + 2) (look_count c (names_of at.looking.first) (with_found at.looking.document (look_found t at.looking.first)) at.looking.rest) in
+        let n = going_needs c at.going in
+        omega (arith, k, n)
+
 module _ (s : ℕ) (t u : Table) (es fs : List Event) (c d : Committing) where
   pub mark_needs : stage_of c ≡ stage.Mark → IsMarked s t u es fs c d → needed_by d ≤ needed_by c
   mark_needs h m = by (mark_stage c h) m
@@ -53,32 +87,16 @@ module _ (s : ℕ) (t u : Table) (es fs : List Event) (c d : Committing) where
           let n = going_needs c at.going in
           omega (arith, e, n)
 
-  -- a look takes no place
-  look_needs : (b : Committing) (p : Path) (d : Document) (ids : List DocId) (o : Option CommitEnd) → needed_for (looking_on b p d ids).writer o ≡ needed_for b.writer o
-  look_needs b p d [] None = refl
-  look_needs b p d [] (Some (end.Committed r)) = refl
-  look_needs b p d [] (Some (end.Clash item r)) = refl
-  look_needs b p d [] (Some end.Memory) = refl
-  look_needs b p d (i ∷ is) o = refl
-
   written_needs : (p : Path) (rest : List Path) (b : Option Document) (o : Option CommitEnd) → needed_for (written c p rest b).writer o ≡ needed_for (wrote c p rest).writer o
   written_needs p rest None None = refl
   written_needs p rest None (Some (end.Committed r)) = refl
   written_needs p rest None (Some (end.Clash item r)) = refl
   written_needs p rest None (Some end.Memory) = refl
-  written_needs p rest (Some d) o = look_needs (wrote c p rest) p d (listed p d) o
-
-  look_outcome : (b : Committing) (p : Path) (d : Document) (ids : List DocId) → (looking_on b p d ids).outcome ≡ b.outcome
-  look_outcome b p d [] = refl
-  look_outcome b p d (i ∷ is) = refl
+  written_needs p rest (Some d) o = looks_need (wrote c p rest) p d (listed p d) o
 
   written_outcome : (p : Path) (rest : List Path) (b : Option Document) → (written c p rest b).outcome ≡ c.outcome
   written_outcome p rest None = refl
   written_outcome p rest (Some d) = look_outcome (wrote c p rest) p d (listed p d)
-
-  look_count : (b : Committing) (p : Path) (d : Document) (ids : List DocId) → length (looking_on b p d ids).writer.written ≡ length b.writer.written
-  look_count b p d [] = refl
-  look_count b p d (i ∷ is) = refl
 
   written_count : (p : Path) (rest : List Path) (b : Option Document) → length (written c p rest b).writer.written ≡ length (c.writer.written ++ p ∷ [])
   written_count p rest None = refl

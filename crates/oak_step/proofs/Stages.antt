@@ -14,7 +14,6 @@ use Rattle.oak_commit.specs.declared.outcome.CommitEnd.{CommitEnd}
 use Rattle.oak_commit.specs.declared.outcome.CommitEnd.TheVariants as end
 use Rattle.oak_commit.specs.declared.stage.Stage.{Stage}
 use Rattle.oak_commit.specs.declared.stage.Stage.TheVariants as stage
-use Rattle.oak_step.specs.Parts.{IsCounted}
 
 -- a committer of these fields
 abbrev committing : Revision → RevVec → Edit → List MarkAt → List Path → List Path → List Path → List Met → Bool → Bool → List Path → Option Look → Option CommitEnd → Bool → Committing
@@ -113,21 +112,8 @@ write_stage c = at_stage c stage.Write
 pub last_stage : (c : Committing) → stage_of c ≡ stage.Last → IsLastStage c
 last_stage c = at_stage c stage.Last
 
--- one that looks at no previous document is not at that stage
-look_stage : (c : Committing) → c.looking ≡ None → stage_of c ≡ stage.Look → ⊥
-look_stage c none is = let k : c.looking ≡ Some (at_stage c stage.Look is).looking = (at_stage c stage.Look is).looked in cc
-
-pub counted_stage : (c : Committing) → c.looking ≡ None → IsCounted (stage_of c)
-counted_stage c none = by (stage_of c) refl
-  where
-    by : (x : Stage) → stage_of c ≡ x → IsCounted x
-    by stage.Mark is = tt
-    by stage.Write is = tt
-    by stage.Look is = look_stage c none is
-    by stage.Last is = tt
-    by stage.Undo is = tt
-    by stage.Finish is = tt
-    by stage.Done is = tt
+pub look_stage : (c : Committing) → stage_of c ≡ stage.Look → IsLookStage c
+look_stage c = at_stage c stage.Look
 
 pub undo_stage : (c : Committing) → stage_of c ≡ stage.Undo → IsUndoStage c
 undo_stage c = at_stage c stage.Undo

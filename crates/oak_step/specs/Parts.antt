@@ -191,6 +191,17 @@ pub record IsWritten (s : ℕ) (t u : Table) (es fs : List Event) (c d : Committ
   pub list : fs ≡ es ++ event.Went s kind.Write ∷ []
   pub committer : (d ≡ fed_made t c) ⊎ (d ≡ wanting (fed_made t c))
 
+-- what a committer keeps once the previous document for which it asks is found, or is gone
+abbrev pub fed_previous : Table → Committing → Committing
+fed_previous t c = fed c (answer t.documents (due_of c))
+
+-- a previous document is looked at, which leaves the documents and the events; where memory is
+-- refused for what is found in it, the committer turns to undoing
+pub record IsLooked (t u : Table) (es fs : List Event) (c d : Committing) : Type 0 where
+  pub table : u ≡ t
+  pub list : fs ≡ es
+  pub committer : (d ≡ fed_previous t c) ⊎ (d ≡ wanting (fed_previous t c))
+
 -- a last write fails for want of memory, or for the collision that is noted on the commit root
 abbrev pub IsLastFault : OpFault → Type 0
 IsLastFault fault.Memory = Unit {0}
@@ -245,6 +256,7 @@ abbrev pub UpdatesDocument : ℕ → Table → List Event → Committing → Tab
     → StepKind → Type 0
 UpdatesDocument s t es c u fs d kind.Mark = (stage_of c ≡ stage.Mark) × IsMarked s t u es fs c d
 UpdatesDocument s t es c u fs d kind.Write = (stage_of c ≡ stage.Write) × IsWritten s t u es fs c d
+UpdatesDocument s t es c u fs d kind.Read = (stage_of c ≡ stage.Look) × IsLooked t u es fs c d
 UpdatesDocument s t es c u fs d kind.Last = (stage_of c ≡ stage.Last) × IsLast t u es fs c d
 UpdatesDocument s t es c u fs d kind.Undo = (stage_of c ≡ stage.Undo)
     × IsDocumentUndone s t u es fs c d
@@ -254,14 +266,10 @@ UpdatesDocument s t es c u fs d _ = ⊥
 abbrev pub IsUpdating : Stage → Type 0
 IsUpdating stage.Mark = Unit {0}
 IsUpdating stage.Write = Unit {0}
+IsUpdating stage.Look = Unit {0}
 IsUpdating stage.Last = Unit {0}
 IsUpdating stage.Undo = Unit {0}
 IsUpdating _ = ⊥
-
--- no previous document is to be looked at
-abbrev pub IsCounted : Stage → Type 0
-IsCounted stage.Look = ⊥
-IsCounted _ = Unit {0}
 
 -- nothing is due but the end
 pub record IsOver (c : Committing) : Type 0 where
@@ -500,12 +508,10 @@ needed _ = 0
 
 -- ---- what a step takes
 
--- the revision is in flight by the memory, it hasn't ended, no previous document is looked at, and
--- places are kept
+-- the revision is in flight by the memory, it hasn't ended, and places are kept
 pub record CanCommit (m : NodeState) (places : ℕ) (c : Committing) : Type 0 where
   pub flying : IsInFlight m c.revision
   pub unended : c.ended ≡ false
-  pub counted : IsCounted (stage_of c)
   pub kept : needed_by c ≤ places
 
 -- the revision has ended by the memory, the session is pinned, and a place is kept

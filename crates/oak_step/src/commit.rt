@@ -1,7 +1,7 @@
 // The steps of a commit.
-ghost use Rattle.std.specs.Prelude.{◌≡◌, ◌<◌, ◌≤◌, ◌+◌, ◌*◌, ◌-◌, ◌^◌, ◌∷◌, ◌++◌, [], IfOk, IsSome, OnErr, OnOk, length, slice_get};
+ghost use Rattle.std.specs.Prelude.{◌≡◌, ◌⊎◌, ◌<◌, ◌≤◌, ◌+◌, ◌*◌, ◌-◌, ◌^◌, ◌∷◌, ◌++◌, [], IfOk, IsSome, OnErr, OnOk, length, slice_get};
 ghost use Rattle.oak_clash.specs.Clashes.{marked_paths};
-ghost use Rattle.oak_commit.specs.Committing.{begun, due_of, written_paths};
+ghost use Rattle.oak_commit.specs.Committing.{begun, due_of, wanting, written_paths};
 ghost use Rattle.oak_commit.specs.Stages.{stage_of};
 ghost use Rattle.oak_commit.specs.declared.stage.Stage.TheVariants as stage;
 ghost use Rattle.oak_doc.specs.declared.asks.Ask.TheVariants as ask;
@@ -9,12 +9,12 @@ ghost use Rattle.oak_machine.specs.declared.event.Event.TheVariants as event;
 ghost use Rattle.oak_node.specs.Heads.{IsInFlight, finished, known_time, next_draw, with_draw};
 ghost use Rattle.oak_node.specs.Notes.{with_notes};
 ghost use Rattle.oak_read.specs.Reading.{IsTable};
-ghost use Rattle.oak_step.specs.Parts.{IsUpdateDue, IsLast, IsLastFault, IsMarked, IsRefusedBy, IsDocumentUndone, IsWritten, pinned_base, end_events, needed_by, mark_refusal};
+ghost use Rattle.oak_step.specs.Parts.{IsUpdateDue, IsLast, IsLastFault, IsMarked, IsRefusedBy, IsDocumentUndone, IsWritten, pinned_base, end_events, fed_previous, needed_by, mark_refusal};
 
 use jr_path::{DeepCopy, Item, List};
 use jr_rev::{RevVec, Revision};
 use jr_tree::Edit;
-use oak_acts::base_of;
+use oak_acts::{answer, base_of};
 use oak_clash::{MarkAt, marked_paths};
 use oak_commit::Committer;
 use oak_doc::{Ask, Kept, OpFault, Reply, UpdateOp};
@@ -277,6 +277,22 @@ pub(crate) fn write(
         Err(OpFault::Absent) => unreachable!(),
         Err(OpFault::Unmet(_, _kept)) => unreachable!(),
     }
+}
+
+// The previous document that is asked for is looked at, and one that is gone as if it were empty.
+// Where memory is refused for its copy nothing changes.
+#[tactic(auto, using(crate::proofs::Acting::looked_is, crate::proofs::Needs::look_needs))]
+pub(crate) fn look(table: &DocTable, committer: &mut Committer) -> Result<(), AllocError>
+    requires stage { stage_of committer.old ≡ stage.Look }
+    ensures looked { OnOk result ((committer.new ≡ fed_previous table.now committer.old)
+        ⊎ (committer.new ≡ wanting (fed_previous table.now committer.old))) }
+    ensures needs { OnOk result (needed_by committer.new ≤ needed_by committer.old) }
+    ensures committer { OnErr result (committer.new ≡ committer.old) }
+{
+    let reply = answer(table, committer.next()?)?;
+    // Where memory is refused for what is found there, the committer turns to undoing itself.
+    let _ = committer.feed(reply);
+    Ok(())
 }
 
 // The last write, with a place that is kept for it: the revision is committed, or it is refused

@@ -80,11 +80,9 @@ fn commit_on(
 {
     match committer.stage() {
         Stage::Finish | Stage::Done => end_on(memory, events, node, committer),
-        Stage::Mark | Stage::Write | Stage::Last | Stage::Undo => {
+        Stage::Mark | Stage::Write | Stage::Look | Stage::Last | Stage::Undo => {
             update_on(table, events, s, committer)
         }
-        // No document lists a previous one, so none is looked at.
-        Stage::Look => unreachable!(),
     }
 }
 
@@ -117,7 +115,7 @@ fn update_on(
 
 // The operation on a document that is due, with its kind. Where memory is refused nothing changes;
 // none is refused for undoing.
-#[tactic(auto, using(crate::proofs::Acting::mark_going, crate::proofs::Acting::write_going, crate::proofs::Acting::last_going))]
+#[tactic(auto, using(crate::proofs::Acting::mark_going, crate::proofs::Acting::write_going, crate::proofs::Acting::look_going, crate::proofs::Acting::last_going))]
 fn update(
     table: &mut DocTable,
     events: &mut Events,
@@ -147,6 +145,10 @@ fn update(
             commit::write(table, events, committer, s)?;
             Ok(StepKind::Write)
         }
+        Stage::Look => {
+            commit::look(table, committer)?;
+            Ok(StepKind::Read)
+        }
         Stage::Last => {
             commit::last(table, events, committer)?;
             Ok(StepKind::Last)
@@ -155,7 +157,7 @@ fn update(
             commit::undo(table, events, committer, s);
             Ok(StepKind::Undo)
         }
-        Stage::Look | Stage::Finish | Stage::Done => unreachable!(),
+        Stage::Finish | Stage::Done => unreachable!(),
     }
 }
 

@@ -36,7 +36,7 @@ use Rattle.oak_step.specs.Works.{Begins}
 use Rattle.oak_world.specs.Kept.{IsAskedWorld, IsWorld}
 use Rattle.oak_world.specs.Seen.{shown_work}
 use Rattle.oak_world.specs.Steps.{StepsIn}
-use Rattle.oak_world.specs.Worlds.{ActorState, WorldOf, actor_in, live, said_in, state_of, with_reply, with_work, work_in}
+use Rattle.oak_world.specs.Worlds.{ActorState, WorldOf, actor_in, live, said_in, state_of, with_formers, with_reply, with_work, work_in}
 use Rattle.oak_world.proofs.Keeping.{begins_shown, does_now, grown, others_are, seat, set_is, step_is}
 use Rattle.oak_world.proofs.StepsOf.{IsStepOf, apart_one, flipped}
 
@@ -70,16 +70,19 @@ finishes work r own ends moves (inr m) = inr (inr (r, m.0, m.1, m.2, ends, moves
 
 writes : (s : ℕ) (r : Revision) (k : StepKind) (own : Past) (now : Shows) → WritesOn s r k own now → IsToAppend (Writing r) own
 writes s r k own now (inl m) = inr (inl (event.Went s kind.Write, m.1, refl, refl))
-writes s r k own now (inr (inl m)) = inr (inl (event.Went s kind.Mark, m.1, refl, refl))
-writes s r k own now (inr (inr (inl m))) = inr (inl (event.Commit r, m.1, refl, refl))
-writes s r k own now (inr (inr (inr m))) = inr (inl (event.Refuse r m.0 m.1, m.2, refl, refl))
+writes s r k own now (inr (inl m)) = inl m.1
+writes s r k own now (inr (inr (inl m))) = inr (inl (event.Went s kind.Mark, m.1, refl, refl))
+writes s r k own now (inr (inr (inr (inl m)))) = inr (inl (event.Commit r, m.1, refl, refl))
+writes s r k own now (inr (inr (inr (inr m)))) = inr (inl (event.Refuse r m.0 m.1, m.3, refl, refl))
 
 writes_less : (s : ℕ) (r : Revision) (k : StepKind) (own : Past) (now : Shows) → WritesOn s r k own now → IsLess (Writing r) now
 writes_less s r k own now (inl (a, b, inl is)) = less_by (Writing r) now _ is (λ e may. may)
 writes_less s r k own now (inl (a, b, inr is)) = less_by (Writing r) now _ is (λ e may. may)
-writes_less s r k own now (inr (inl m)) = less_by (Writing r) now _ m.2 (λ e may. may)
+writes_less s r k own now (inr (inl (a, b, inl is))) = less_by (Writing r) now _ is (λ e may. may)
+writes_less s r k own now (inr (inl (a, b, inr is))) = less_by (Writing r) now _ is (λ e may. may)
 writes_less s r k own now (inr (inr (inl m))) = less_by (Writing r) now _ m.2 (λ e may. may)
-writes_less s r k own now (inr (inr (inr m))) = less_by (Writing r) now _ m.3 (λ e may. may)
+writes_less s r k own now (inr (inr (inr (inl m)))) = less_by (Writing r) now _ m.2 (λ e may. may)
+writes_less s r k own now (inr (inr (inr (inr m)))) = less_by (Writing r) now _ m.4 (λ e may. may)
 
 -- a step adds what it may append, and may append no more then
 adds : (h : History) (s : ℕ) (work : Shows) (o : StepOut) (own : Past) (now : Shows) → Makes h s work o own now → IsToAppend work own × IsLess work now
@@ -283,7 +286,7 @@ module _ (asks : Asks) {L : Type 0} (w : WorldOf L) (asked : IsAskedWorld asks w
 -- a step is made
 module _ (starts : Starts) (says : Says) (proper : StartsProper starts) (writes : StartsWrite starts) (last : StartsLast starts says) {L : Type 0} (w : WorldOf L) (is : IsWorld starts says w) (s : ℕ) (there : is_some (slice_get w.history.sessions s) ≡ true) (u : WorldOf L) (o : StepOut) (m : StepsIn w s u o)
     (asks : Asks) (asked : IsAskedWorld asks w) where
-  abbrev step : IsStepOf starts says s (state_of w) (work_in w.actors s) (state_of u) m.does o
+  abbrev step : IsStepOf starts says s (with_formers (state_of w) is.formers) (work_in w.actors s) (with_formers (state_of u) is.formers) m.does o
   step = step_is starts says proper writes last w is s there u o m
 
   abbrev grows : live u.history ≡ after step.own (live w.history)

@@ -7,6 +7,7 @@ use Rattle.std.proofs.lemmas.List.{length-reverse, reverse-append, reverse-rever
 use Rattle.std.proofs.lemmas.Option.{get_or_from_slice_get, slice_get-map, slice_get_within}
 use Rattle.oak_commit.specs.Clashing.{Met}
 use Rattle.oak_commit.specs.Committing.{Committing}
+use Rattle.oak_commit.specs.declared.look.Look.{Look}
 use Rattle.jr_path.specs.Lists.{Text}
 use Rattle.oak_machine.specs.declared.event.Event.{Event}
 use Rattle.oak_machine.specs.declared.event.Event.TheVariants as event
@@ -25,13 +26,15 @@ use Rattle.oak_port.specs.Ports.{Steps as StepSeen}
 use Rattle.oak_world.specs.declared.actor.Actor.{Actor}
 use Rattle.oak_step.specs.declared.work.Work.{Work}
 use Rattle.oak_step.specs.declared.work.Work.TheVariants as work
-use Rattle.oak_world.specs.Kept.{ArePlaced, IsPlaced, IsWorld, May}
+use Rattle.oak_world.specs.Kept.{ArePlaced, IsLooking, IsPlaced, IsWorld, May}
 use Rattle.oak_step.specs.Parts.{CanStep, Parts, Steps, needed, parts}
 use Rattle.oak_world.specs.Steps.{MakesState, StepsIn, attached_after, reads_after}
 use Rattle.oak_world.specs.Seen.{shown_at}
-use Rattle.oak_world.specs.Worlds.{ActorState, WorldOf, actor_in, idle, live, node_in, parts_at, said_in, shown_actor, shown_world, state_of, with_parts, with_reply, with_work, work_in}
+use Rattle.oak_world.specs.Worlds.{ActorState, WorldOf, actor_in, idle, live, node_in, once_looked, parts_at, said_in, shown_actor, shown_world, state_of, with_parts, with_reply, with_work, work_in}
 use Rattle.oak_world.proofs.Keeping.{can_step, seat, step_keeps, step_seen}
+use Rattle.oak_world.proofs.Looking.{SamePrevious, running_same}
 use Rattle.oak_world.proofs.Placing.{own_places, placed_set}
+use Rattle.oak_world.proofs.States.{LeavesLooks}
 use Rattle.oak_world.proofs.Stepping.{makes}
 
 -- a session's seat is set, and so is what is seen of it
@@ -114,8 +117,14 @@ module _ (starts : Starts) (says : Says) (proper : StartsProper starts) (writes 
       parts_are : parts_at w s ≡ parts t m j.events.list
       parts_are = ap (λ (x : NodeState). parts t x (reverse (reverse j.events.list))) memory_is ∙ ap (λ (xs : List Event). parts t m xs) (reverse-reverse j.events.list)
 
-      roots : (c : Committing) → work_in w.actors s ≡ work.Commit c → c.roots ≡ map (λ (f : Met). root_of w.history.past f.other) c.writer.due
-      roots c does = (subst (λ (v : Work). May starts (live w.history) s v) does (is.may s)).roots
+      looks : (q : ℕ) (c : Committing) → work_in w.actors q ≡ work.Commit c → (k : Look) → c.looking ≡ Some k → IsLooking c k
+      looks q c does = (subst (λ (v : Work). May starts w.table (live w.history) q v) does (is.may q)).looks
+
+      roots : (c : Committing) → work_in w.actors s ≡ work.Commit c → ((once_looked w.table c).roots ≡ map (λ (f : Met). root_of w.history.past f.other) (once_looked w.table c).writer.due) × ((k : Look) → c.looking ≡ Some k → IsLooking c k)
+      roots c does = ((subst (λ (v : Work). May starts w.table (live w.history) s v) does (is.may s)).roots, looks s c does)
+
+      leaves : (x : Table) → SamePrevious w.table x → LeavesLooks w s seated x
+      leaves x same q = running_same w.table x same q (work_in w.actors q) (looks q)
 
       module _ (busy : a.work ≢ work.Rest) (made : Steps s k (parts t m j.events.list) a.work after b.work o) where
         made_there : Steps s (node_in w.history s) (parts_at w s) (work_in w.actors s) after b.work o
@@ -126,7 +135,7 @@ module _ (starts : Starts) (says : Says) (proper : StartsProper starts) (writes 
 
         makes_now : MakesState s (state_of w) (work_in w.actors s) (state_of now) b.work o
         makes_now = subst (λ (x : WorldOf L). MakesState s (state_of w) (work_in w.actors s) (state_of x) b.work o) same_world
-            (makes w s seated after b.work (shown_actor b) refl is.unsplit (work_in w.actors s) refl (λ e. busy (sym work_is ∙ e)) roots o made_there)
+            (makes w s seated after b.work (shown_actor b) refl leaves (work_in w.actors s) refl (λ e. busy (sym work_is ∙ e)) roots o made_there)
 
         pub steps_in : b.began ≡ a.began → b.reply ≡ a.reply → b.reads ≡ reads_after a.work o a.reads → b.attached ≡ attached_after a.work o a.attached → StepsIn w s now o
         steps_in began reply reads attached = record {

@@ -1,6 +1,4 @@
 -- What a world keeps after each call for one of its sessions, and what a port tells of it.
-use Rattle.jr_path.specs.declared.path.Path.{Path}
-use Rattle.oak_doc.specs.declared.document.PrevEntry.{PrevEntry}
 use mathlib.Core.Bool.{false≢true}
 use Rattle.std.proofs.Common.{◌+◌, ◌≡◌, ◌≢◌, ◌↔◌, ℕ, zero, suc, ◌^◌, ◌<◌, ◌≤◌, Bool, true, false, ◌||◌, cond, Option, Some, None, List, [], ◌∷◌, ◌++◌, length, map, is_some, refl, sym, ap, subst, ◌∙◌, arith}
 use Rattle.std.specs.Prelude.{◌==◌, slice_get, slice_set, IsSome}
@@ -24,10 +22,11 @@ use Rattle.oak_machine.specs.History.{History, Past}
 use Rattle.oak_machine.specs.Laws.{AreOthers, Says, Starts, StartsProper, StartsWrite, after}
 use Rattle.oak_machine.specs.Runs.{IsNode, IsRun, StartsLast}
 use Rattle.oak_machine.specs.Sessions.{is_attached, is_stopped, next_index}
-use Rattle.oak_node.specs.Heads.{HasEnded, known_time}
+use Rattle.oak_node.specs.Heads.{HasEnded, IsInFlight, known_time}
 use Rattle.oak_node.specs.Pins.{pin_of}
 use Rattle.oak_read.specs.declared.reader.Reader.{Reader}
 use Rattle.oak_read.specs.Reading.{IsTable, children_reader, node_reader}
+use Rattle.oak_store.specs.Tables.{Table}
 use Rattle.core_clash.specs.Sessions.{Running}
 use Rattle.core_heads.proofs.Runs.{sound_run}
 use Rattle.core_nodes.specs.Nodes.{cursor_owner}
@@ -54,18 +53,21 @@ use Rattle.oak_step.proofs.Backs.{publishing_at}
 use Rattle.oak_step.specs.declared.upkeep.Upkeep.{Upkeep}
 use Rattle.oak_step.specs.declared.upkeep.Upkeep.TheVariants as upkeep
 use Rattle.oak_world.proofs.Ahead.{still_due}
+use Rattle.oak_world.proofs.Looking.{SamePrevious, once_revision}
 use Rattle.oak_world.specs.Kept.{IsWorld, May, MayKeepUp, MayReadOn}
 use Rattle.oak_step.specs.Parts.{CanKeepUp, CanStep, IsBackReading, needed}
 use Rattle.oak_world.specs.Seen.{no_seat, seat_of, shown_at, shown_by, shown_read, shown_upkeep, shown_work}
 use Rattle.oak_step.specs.Works.{Begins, CanBegin, kind_due, kind_of_stage}
 use Rattle.oak_world.specs.Steps.{IsPresent, StepsIn, attached_after}
-use Rattle.oak_world.specs.Worlds.{ActorState, Story, WorldOf, actor_in, live, node_in, observing_of, reading_of, running_as, running_of, said_in, state_of, state_with, with_reply, with_work, work_in}
+use Rattle.oak_world.specs.Worlds.{ActorState, Story, WorldOf, actor_in, live, node_in, observing_of, once_looked, reading_of, running_as, running_of, said_in, state_of, state_with, with_formers, with_reply, with_work, work_in}
 use Rattle.oak_world.proofs.States.{SameReaders, actor_other, actor_set, readers_same, readers_set, same_readers, session_same, session_set, with_readers}
-use Rattle.oak_step.proofs.Stages.{counted_stage, done_stage}
+use Rattle.oak_step.proofs.Stages.{done_stage}
 use Rattle.oak_world.proofs.Others.{attached_left}
 use Rattle.oak_world.proofs.Pinning.{actor_there}
 use Rattle.oak_world.proofs.Staying.{may_last}
 use Rattle.oak_world.proofs.StepsOf.{IsStepOf, none_stopped}
+use Rattle.oak_world.proofs.Questions.{reads_as_due}
+use Rattle.oak_world.proofs.Telling.{makes_told}
 use Rattle.oak_world.proofs.Walking.{any_step}
 
 -- ---- the seats of the others
@@ -184,17 +186,17 @@ staged c unended stage.Finish e = refl
 staged c unended stage.Done e = let k = done_stage c e in cc
 
 -- a step is due of each session that does something
-pub busy_due : (starts : Starts) (h : History) (s : ℕ) (v : Work) → May starts h s v → (is_some (kind_due v) ≡ true) ↔ (v ≢ work.Rest)
-busy_due starts h s work.Rest may = (λ k e. absurd (false≢true k), λ busy. absurd (busy refl))
-busy_due starts h s work.Login may = (λ k e. cc, λ busy. refl)
-busy_due starts h s work.End may = (λ k e. cc, λ busy. refl)
-busy_due starts h s work.Refresh may = (λ k e. cc, λ busy. refl)
-busy_due starts h s (work.Read r) may = (λ k e. cc, λ busy. refl)
-busy_due starts h s (work.Changes r) may = (λ k e. cc, λ busy. refl)
-busy_due starts h s (work.Plan edit marks) may = (λ k e. cc, λ busy. refl)
-busy_due starts h s (work.Commit c) may = (λ k e. cc, λ busy. staged c may.unended (stage_of c) refl)
-busy_due starts h s (work.Move r) may = (λ k e. cc, λ busy. refl)
-busy_due starts h s (work.Upkeep u) may = (λ k e. cc, λ busy. refl)
+pub busy_due : (starts : Starts) (t : Table) (h : History) (s : ℕ) (v : Work) → May starts t h s v → (is_some (kind_due v) ≡ true) ↔ (v ≢ work.Rest)
+busy_due starts t h s work.Rest may = (λ k e. absurd (false≢true k), λ busy. absurd (busy refl))
+busy_due starts t h s work.Login may = (λ k e. cc, λ busy. refl)
+busy_due starts t h s work.End may = (λ k e. cc, λ busy. refl)
+busy_due starts t h s work.Refresh may = (λ k e. cc, λ busy. refl)
+busy_due starts t h s (work.Read r) may = (λ k e. cc, λ busy. refl)
+busy_due starts t h s (work.Changes r) may = (λ k e. cc, λ busy. refl)
+busy_due starts t h s (work.Plan edit marks) may = (λ k e. cc, λ busy. refl)
+busy_due starts t h s (work.Commit c) may = (λ k e. cc, λ busy. staged c may.unended (stage_of c) refl)
+busy_due starts t h s (work.Move r) may = (λ k e. cc, λ busy. refl)
+busy_due starts t h s (work.Upkeep u) may = (λ k e. cc, λ busy. refl)
 
 -- a task that begins
 pub begins_shown : (pin : Option Pin) (t : Task) (v : Work) → Begins pin t v → shown_work v ≡ Starting t
@@ -218,27 +220,31 @@ module _ (starts : Starts) (says : Says) (proper : StartsProper starts) (writes 
   abbrev does : Work
   does = work_in w.actors s
 
+  -- the state, with what is told of former documents
+  abbrev state : State
+  state = with_formers (state_of w) is.formers
+
   pub seat : s < length w.actors
   seat =
-      let k : s < length w.history.sessions = slice_get_within w.history.sessions s (node_in w.history s) (on_node starts says proper (state_of w) is.kept.sessions s there) in
+      let k : s < length w.history.sessions = slice_get_within w.history.sessions s (node_in w.history s) (on_node starts says proper state is.kept.sessions s there) in
       subst (λ n. s < n) (sym is.seats) k
 
   -- what other sessions do, they may still do after events that aren't theirs
-  others_may : (q : ℕ) (own : Past) → AreOthers q own w.history.past → IsRun starts says (after own (live w.history)) → May starts (after own (live w.history)) q (work_in w.actors q)
-  others_may q own others run = may_last starts says last w.history is.kept.sessions.nodes is.kept.sessions.run q own run others (work_in w.actors q) (λ c at f i. due_drawn starts says proper (state_of w) is.kept.sessions q (running_as q c) (ap (running_of q) at) f i) (is.may q)
+  others_may : (t : Table) → SamePrevious w.table t → (q : ℕ) (own : Past) → AreOthers q own w.history.past → IsRun starts says (after own (live w.history)) → May starts t (after own (live w.history)) q (work_in w.actors q)
+  others_may t same q own others run = may_last starts says last w.history is.kept.sessions.nodes is.kept.sessions.run q own run others w.table t same (work_in w.actors q) (λ c at f i. due_drawn starts says proper state is.kept.sessions q (running_as q (once_looked w.table c)) (ap (running_of w.table q) at) f i) (is.may q)
 
   -- ---- what a step takes
 
   come_pinned : IsPresent (live w.history) s → IsSome (pin_of (memory_of (state_of w) s) s)
-  come_pinned come = subst (λ (o : Option Pin). IsSome o) (sym (pin_there starts says proper (state_of w) is.kept.sessions s (none_stopped w.history.sessions w.history.past is.unstopped s) come.login come.stays).1) refl
+  come_pinned come = subst (λ (o : Option Pin). IsSome o) (sym (pin_there starts says proper state is.kept.sessions s (none_stopped w.history.sessions w.history.past is.unstopped s) come.login come.stays).1) refl
 
   on : slice_get w.history.sessions s ≡ Some (node_in w.history s)
-  on = on_node starts says proper (state_of w) is.kept.sessions s there
+  on = on_node starts says proper state is.kept.sessions s there
 
   pub node : IsNode w.history.clusters (node_in w.history s)
-  node = its_node starts says proper (state_of w) is.kept.sessions s there
+  node = its_node starts says proper state is.kept.sessions s there
 
-  moved_ended : (r : Revision) → May starts (live w.history) s (work.Move r) → HasEnded (memory_of (state_of w) s) r
+  moved_ended : (r : Revision) → May starts w.table (live w.history) s (work.Move r) → HasEnded (memory_of (state_of w) s) r
   moved_ended r may =
       has_ended None w.history.clusters w.history.sessions is.kept.sessions.nodes w.history.past (sound_run w.history.clusters w.history.sessions is.kept.sessions.nodes None starts says w.history.past is.kept.sessions.run) (node_in w.history s) node (memory_of (state_of w) s) (is.kept.sessions.memories.memory (node_in w.history s) node) r
       (let k : Some r.cluster ≡ Some (node_in w.history s) = sym may.2 ∙ on in cc)
@@ -263,7 +269,7 @@ module _ (starts : Starts) (says : Says) (proper : StartsProper starts) (writes 
   can_keep_up upkeep.Observe come may = (below_few, come_pinned come)
   can_keep_up _ come may = tt
 
-  can_by : (v : Work) → (v ≡ work.Rest → ⊥) → work_in w.actors s ≡ v → May starts (live w.history) s v → (places : ℕ) → needed v ≤ places → length w.history.past < 2 ^ 63 → CanStep s (memory_of (state_of w) s) places v
+  can_by : (v : Work) → (v ≡ work.Rest → ⊥) → work_in w.actors s ≡ v → May starts w.table (live w.history) s v → (places : ℕ) → needed v ≤ places → length w.history.past < 2 ^ 63 → CanStep s (memory_of (state_of w) s) places v
   can_by work.Rest busy at may places kept short = absurd (busy refl)
   can_by work.Login busy at may places kept short = tt
   can_by work.End busy at may places kept short =
@@ -273,8 +279,8 @@ module _ (starts : Starts) (says : Says) (proper : StartsProper starts) (writes 
   can_by work.Refresh busy at may places kept short = come_pinned may.0
   can_by (work.Read r) busy at may places kept short = tt
   can_by (work.Changes r) busy at may places kept short = tt
-  can_by (work.Plan edit marks) busy at may places kept short = let t : known_time (memory_of (state_of w) s) ≤ 0 + length w.history.past = time_known starts says proper (state_of w) is.kept.sessions (node_in w.history s) node in omega arith
-  can_by (work.Commit c) busy at may places kept short = record { flying = flies_there starts says proper (state_of w) is.kept.sessions s (running_as s c) (ap (running_of s) at); unended = may.unended; counted = counted_stage c may.looked; kept = kept }
+  can_by (work.Plan edit marks) busy at may places kept short = let t : known_time (memory_of (state_of w) s) ≤ 0 + length w.history.past = time_known starts says proper state is.kept.sessions (node_in w.history s) node in omega arith
+  can_by (work.Commit c) busy at may places kept short = record { flying = subst (λ (r : Revision). IsInFlight (memory_of (state_of w) s) r) (once_revision w.table c) (flies_there starts says proper state is.kept.sessions s (running_as s (once_looked w.table c)) (ap (running_of w.table s) at)); unended = may.unended; kept = kept }
   can_by (work.Upkeep u) busy at may places kept short = can_keep_up u may.0 may.1
   can_by (work.Move r) busy at may places kept short = record { ended = moved_ended r may; pinned = come_pinned may.0; place = kept }
 
@@ -283,12 +289,12 @@ module _ (starts : Starts) (says : Says) (proper : StartsProper starts) (writes 
 
   -- the session may be told to do the task
   pub can_begin : (t : Task) → MayBegin starts (live w.history) s t → CanBegin (actor_pin (state_of w) s) t
-  can_begin (task.Load p) may = actor_there starts says proper (state_of w) is.kept s there is.unstopped may.0 may.1
-  can_begin (task.List p) may = actor_there starts says proper (state_of w) is.kept s there is.unstopped may.0 may.1
+  can_begin (task.Load p) may = actor_there starts says proper state is.kept s there is.unstopped may.0 may.1
+  can_begin (task.List p) may = actor_there starts says proper state is.kept s there is.unstopped may.0 may.1
   can_begin (task.Split p) may = may
   can_begin task.Sweep may = may
   can_begin task.Collect may = may
-  can_begin (task.Changes since) may = actor_there starts says proper (state_of w) is.kept s there is.unstopped may.0 may.1
+  can_begin (task.Changes since) may = actor_there starts says proper state is.kept s there is.unstopped may.0 may.1
   can_begin (task.Stop k) may = may
   can_begin (task.Recover k) may = may
   can_begin _ may = tt
@@ -300,8 +306,8 @@ module _ (starts : Starts) (says : Says) (proper : StartsProper starts) (writes 
   few_sessions = none_behind (cursor_owner s) w.history.sessions (let few : length w.history.sessions ≤ 64 = is.few in omega (arith, few))
 
   module _ (u : WorldOf L) (o : StepOut) (m : StepsIn w s u o) where
-    pub step_is : IsStepOf starts says s (state_of w) (work_in w.actors s) (state_of u) m.does o
-    step_is = any_step starts says proper writes (state_of w) is.kept s there few_sessions is.unstopped is.table (work_in w.actors s) refl refl refl (is.may s) (state_of u) m.does o m.makes
+    pub step_is : IsStepOf starts says s state (work_in w.actors s) (with_formers (state_of u) is.formers) m.does o
+    step_is = any_step starts says proper writes state is.kept s there few_sessions is.unstopped is.table (work_in w.actors s) refl refl refl (is.may s) (with_formers (state_of u) is.formers) m.does o (makes_told is.formers s (state_of w) (state_of u) (work_in w.actors s) m.does o m.makes)
 
     pub grown : (live u.history) ≡ after step_is.own (live w.history)
     grown = step_is.grown
@@ -312,11 +318,11 @@ module _ (starts : Starts) (says : Says) (proper : StartsProper starts) (writes 
     pub does_now : work_in u.actors s ≡ m.does
     does_now = ap (λ (a : ActorState). a.work) (set_is w s seat u.actors _ m.actors)
 
-    may_by : (q : ℕ) (b : Bool) → (q == s) ≡ b → May starts (live u.history) q (work_in u.actors q)
-    may_by q true same = subst (λ (n : ℕ). May starts (live u.history) n (work_in u.actors n)) (sym (same_number q s same))
-        (subst (λ (h : History). May starts h s (work_in u.actors s)) (sym grown) (subst (λ (v : Work). May starts (after step_is.own (live w.history)) s v) (sym does_now) step_is.may))
-    may_by q false apart = subst (λ (h : History). May starts h q (work_in u.actors q)) (sym grown)
-        (subst (λ (v : Work). May starts (after step_is.own (live w.history)) q v) (sym (ap (λ (a : ActorState). a.work) (others_are w s seat u.actors _ m.actors q apart))) (others_may q step_is.own (step_is.apart q apart) run_now))
+    may_by : (q : ℕ) (b : Bool) → (q == s) ≡ b → May starts u.table (live u.history) q (work_in u.actors q)
+    may_by q true same = subst (λ (n : ℕ). May starts u.table (live u.history) n (work_in u.actors n)) (sym (same_number q s same))
+        (subst (λ (h : History). May starts u.table h s (work_in u.actors s)) (sym grown) (subst (λ (v : Work). May starts u.table (after step_is.own (live w.history)) s v) (sym does_now) step_is.may))
+    may_by q false apart = subst (λ (h : History). May starts u.table h q (work_in u.actors q)) (sym grown)
+        (subst (λ (v : Work). May starts u.table (after step_is.own (live w.history)) q v) (sym (ap (λ (a : ActorState). a.work) (others_are w s seat u.actors _ m.actors q apart))) (others_may u.table step_is.same q step_is.own (step_is.apart q apart) run_now))
 
     -- each session is attached as the journal tells
     attached_by : (q : ℕ) (b : Bool) → (q == s) ≡ b → (actor_in u.actors q).attached ≡ is_attached (step_is.own ++ w.history.past) q
@@ -326,12 +332,12 @@ module _ (starts : Starts) (says : Says) (proper : StartsProper starts) (writes 
 
     pub step_keeps : IsTable u.table.documents → IsWorld starts says u
     step_keeps table = record {
+      formers = is.formers;
       kept = step_is.kept;
       table = table;
       few = subst (λ (h : History). length h.sessions ≤ 64) (sym grown) is.few;
       attached = λ q. attached_by q (q == s) refl ∙ ap (λ (h : History). is_attached h.past q) (sym grown);
       unstopped = λ k. subst (λ (h : History). is_stopped h.past k ≡ false) (sym grown) (step_is.unstopped k (is.unstopped k));
-      unsplit = λ p. ap (λ (f : Path → List PrevEntry). f p) step_is.same ∙ is.unsplit p;
       seats = ap length m.actors ∙ (length-set w.actors s _ ∙ (is.seats ∙ sym (ap (λ (h : History). length h.sessions) grown)));
       may = λ q. may_by q (q == s) refl;
     }
@@ -344,6 +350,7 @@ module _ (starts : Starts) (says : Says) (proper : StartsProper starts) (writes 
       makes = subst (λ (v : Work). Tells (live w.history) s (shown_work (work_in w.actors s)) o step_is.own (shown_work v)) (sym does_now) step_is.tells;
       of_step = step_is.of_step;
       as_due = step_is.as_due;
+      reads_due = reads_as_due s (state_of w) (state_of u) step_is.own (ap (λ (h : History). h.past) grown) (work_in w.actors s) m.does o m.makes;
       session = refl;
       room = ap (λ (a : ActorState). a.reply) (set_is w s seat u.actors _ m.actors);
       beside = beside_same w s seat name u _ m.actors;
@@ -353,14 +360,14 @@ module _ (starts : Starts) (says : Says) (proper : StartsProper starts) (writes 
   -- ---- other calls
 
   -- a session does something else, and no event is added
-  set_keeps : (a : ActorState) → a.attached ≡ (actor_in w.actors s).attached → IsKept starts says (state_with w.history w.table w.memories (slice_set w.actors s a)) → May starts (live w.history) s a.work → IsWorld starts says (record w { actors = slice_set w.actors s a })
+  set_keeps : (a : ActorState) → a.attached ≡ (actor_in w.actors s).attached → IsKept starts says (with_formers (state_with w.history w.table w.memories (slice_set w.actors s a)) is.formers) → May starts w.table (live w.history) s a.work → IsWorld starts says (record w { actors = slice_set w.actors s a })
   set_keeps a same_attached kept may = record {
+    formers = is.formers;
     kept = kept;
     table = is.table;
     few = is.few;
     attached = λ q. attached_too q (q == s) refl;
     unstopped = is.unstopped;
-    unsplit = is.unsplit;
     seats = length-set w.actors s a ∙ is.seats;
     may = λ q. by q (q == s) refl;
   }
@@ -369,45 +376,45 @@ module _ (starts : Starts) (says : Says) (proper : StartsProper starts) (writes 
       attached_too q true same = subst (λ (n : ℕ). (actor_in (slice_set w.actors s a) n).attached ≡ is_attached w.history.past n) (sym (same_number q s same)) (ap (λ (b : ActorState). b.attached) (set_is w s seat (slice_set w.actors s a) a refl) ∙ (same_attached ∙ is.attached s))
       attached_too q false apart = ap (λ (b : ActorState). b.attached) (others_are w s seat (slice_set w.actors s a) a refl q apart) ∙ is.attached q
 
-      by : (q : ℕ) (b : Bool) → (q == s) ≡ b → May starts (live w.history) q (work_in (slice_set w.actors s a) q)
-      by q true same = subst (λ (n : ℕ). May starts (live w.history) n (work_in (slice_set w.actors s a) n)) (sym (same_number q s same)) (subst (λ (b : ActorState). May starts (live w.history) s b.work) (sym (set_is w s seat (slice_set w.actors s a) a refl)) may)
-      by q false apart = subst (λ (b : ActorState). May starts (live w.history) q b.work) (sym (others_are w s seat (slice_set w.actors s a) a refl q apart)) (is.may q)
+      by : (q : ℕ) (b : Bool) → (q == s) ≡ b → May starts w.table (live w.history) q (work_in (slice_set w.actors s a) q)
+      by q true same = subst (λ (n : ℕ). May starts w.table (live w.history) n (work_in (slice_set w.actors s a) n)) (sym (same_number q s same)) (subst (λ (b : ActorState). May starts w.table (live w.history) s b.work) (sym (set_is w s seat (slice_set w.actors s a) a refl)) may)
+      by q false apart = subst (λ (b : ActorState). May starts w.table (live w.history) q b.work) (sym (others_are w s seat (slice_set w.actors s a) a refl q apart)) (is.may q)
 
   -- the state, where the session does this
-  set_state : (a : ActorState) → state_with w.history w.table w.memories (slice_set w.actors s a) ≡ with_readers w s seat (record (state_of w) { running = with_session (state_of w).running s (running_of s a.work) }) a.work
+  set_state : (a : ActorState) → state_with w.history w.table w.memories (slice_set w.actors s a) ≡ with_readers w s seat (record (state_of w) { running = with_session (state_of w).running s (running_of w.table s a.work) }) a.work
   set_state a =
-      ap (λ (f : ℕ → Option Running). record (state_with w.history w.table w.memories (slice_set w.actors s a)) { running = f }) (session_set running_of w.actors s a seat)
-      ∙ readers_set w s seat (record (state_of w) { running = with_session (state_of w).running s (running_of s a.work) }) a
+      ap (λ (f : ℕ → Option Running). record (state_with w.history w.table w.memories (slice_set w.actors s a)) { running = f }) (session_set (running_of w.table) w.actors s a seat)
+      ∙ readers_set w s seat (record (state_of w) { running = with_session (state_of w).running s (running_of w.table s a.work) }) a
 
   -- where it has the committer that it had, the state has its readers now
-  idle_state : (a : ActorState) → running_of s (work_in w.actors s) ≡ running_of s a.work → state_with w.history w.table w.memories (slice_set w.actors s a) ≡ with_readers w s seat (state_of w) a.work
-  idle_state a running = set_state a ∙ ap (λ (f : ℕ → Option Running). with_readers w s seat (record (state_of w) { running = f }) a.work) (session_same (state_of w).running s (running_of s a.work) running)
+  idle_state : (a : ActorState) → running_of w.table s (work_in w.actors s) ≡ running_of w.table s a.work → state_with w.history w.table w.memories (slice_set w.actors s a) ≡ with_readers w s seat (state_of w) a.work
+  idle_state a running = set_state a ∙ ap (λ (f : ℕ → Option Running). with_readers w s seat (record (state_of w) { running = f }) a.work) (session_same (state_of w).running s (running_of w.table s a.work) running)
 
-  reader_state : (a : ActorState) → running_of s (work_in w.actors s) ≡ running_of s a.work → observing_of (work_in w.actors s) ≡ observing_of a.work → state_with w.history w.table w.memories (slice_set w.actors s a) ≡ with_reader (state_of w) s (reading_of a.work)
+  reader_state : (a : ActorState) → running_of w.table s (work_in w.actors s) ≡ running_of w.table s a.work → observing_of (work_in w.actors s) ≡ observing_of a.work → state_with w.history w.table w.memories (slice_set w.actors s a) ≡ with_reader (state_of w) s (reading_of a.work)
   reader_state a running observing = idle_state a running ∙ ap (λ (f : ℕ → Option ChangesReader). record (with_reader (state_of w) s (reading_of a.work)) { observing = f }) (session_same (state_of w).observing s (observing_of a.work) observing)
 
-  observer_state : (a : ActorState) → running_of s (work_in w.actors s) ≡ running_of s a.work → reading_of (work_in w.actors s) ≡ reading_of a.work → state_with w.history w.table w.memories (slice_set w.actors s a) ≡ with_observer (state_of w) s (observing_of a.work)
+  observer_state : (a : ActorState) → running_of w.table s (work_in w.actors s) ≡ running_of w.table s a.work → reading_of (work_in w.actors s) ≡ reading_of a.work → state_with w.history w.table w.memories (slice_set w.actors s a) ≡ with_observer (state_of w) s (observing_of a.work)
   observer_state a running reading = idle_state a running ∙ ap (λ (f : ℕ → Option Reader). record (with_observer (state_of w) s (observing_of a.work)) { reading = f }) (session_same (state_of w).reading s (reading_of a.work) reading)
 
-  same_state : (a : ActorState) → running_of s (work_in w.actors s) ≡ running_of s a.work → SameReaders (work_in w.actors s) a.work → state_with w.history w.table w.memories (slice_set w.actors s a) ≡ state_of w
+  same_state : (a : ActorState) → running_of w.table s (work_in w.actors s) ≡ running_of w.table s a.work → SameReaders (work_in w.actors s) a.work → state_with w.history w.table w.memories (slice_set w.actors s a) ≡ state_of w
   same_state a running same = idle_state a running ∙ readers_same w s seat (state_of w) a.work same
 
   pub reply_keeps : (room : Option ℕ) → IsWorld starts says (with_reply w s room)
-  reply_keeps room = set_keeps (record (actor_in w.actors s) { reply = room }) refl (subst (λ (t : State). IsKept starts says t) (sym (same_state (record (actor_in w.actors s) { reply = room }) refl (refl, refl))) is.kept) (is.may s)
+  reply_keeps room = set_keeps (record (actor_in w.actors s) { reply = room }) refl (subst (λ (t : State). IsKept starts says (with_formers t is.formers)) (sym (same_state (record (actor_in w.actors s) { reply = room }) refl (refl, refl))) is.kept) (is.may s)
 
   module _ (idle : work_in w.actors s ≡ work.Rest) where
     abbrev begun : Work → ActorState
     begun v = record (actor_in w.actors s) { work = v; began = length w.history.past }
 
     -- a task that reads nothing
-    quiet_keeps : (v : Work) → running_of s v ≡ None → SameReaders work.Rest v → May starts (live w.history) s v → IsWorld starts says (with_work w s v)
-    quiet_keeps v running same may = set_keeps (begun v) refl (subst (λ (t : State). IsKept starts says t) (sym (same_state (begun v) (ap (running_of s) idle ∙ sym running) (same_readers (work_in w.actors s) v work.Rest v idle refl same))) is.kept) may
+    quiet_keeps : (v : Work) → running_of w.table s v ≡ None → SameReaders work.Rest v → May starts w.table (live w.history) s v → IsWorld starts says (with_work w s v)
+    quiet_keeps v running same may = set_keeps (begun v) refl (subst (λ (t : State). IsKept starts says (with_formers t is.formers)) (sym (same_state (begun v) (ap (running_of w.table s) idle ∙ sym running) (same_readers (work_in w.actors s) v work.Rest v idle refl same))) is.kept) may
 
-    reads_keeps : (r : Reader) → IsKept starts says (with_reader (state_of w) s (Some r)) → IsPresent (live w.history) s → IsWorld starts says (with_work w s (work.Read r))
-    reads_keeps r kept come = set_keeps (begun (work.Read r)) refl (subst (λ (t : State). IsKept starts says t) (sym (reader_state (begun (work.Read r)) (ap (running_of s) idle) (ap observing_of idle))) kept) come
+    reads_keeps : (r : Reader) → IsKept starts says (with_reader state s (Some r)) → IsPresent (live w.history) s → IsWorld starts says (with_work w s (work.Read r))
+    reads_keeps r kept come = set_keeps (begun (work.Read r)) refl (subst (λ (t : State). IsKept starts says (with_formers t is.formers)) (sym (reader_state (begun (work.Read r)) (ap (running_of w.table s) idle) (ap observing_of idle))) kept) come
 
-    observes_keeps : (r : ChangesReader) → IsKept starts says (with_observer (state_of w) s (Some r)) → IsPresent (live w.history) s → is_attached w.history.past s ≡ false → IsWorld starts says (with_work w s (work.Changes r))
-    observes_keeps r kept come detached = set_keeps (begun (work.Changes r)) refl (subst (λ (t : State). IsKept starts says t) (sym (observer_state (begun (work.Changes r)) (ap (running_of s) idle) (ap reading_of idle))) kept) (come, detached)
+    observes_keeps : (r : ChangesReader) → IsKept starts says (with_observer state s (Some r)) → IsPresent (live w.history) s → is_attached w.history.past s ≡ false → IsWorld starts says (with_work w s (work.Changes r))
+    observes_keeps r kept come detached = set_keeps (begun (work.Changes r)) refl (subst (λ (t : State). IsKept starts says (with_formers t is.formers)) (sym (observer_state (begun (work.Changes r)) (ap (running_of w.table s) idle) (ap reading_of idle))) kept) (come, detached)
 
     -- a session that isn't attached reads at its own pin
     own_pin : (pin : Pin) → is_attached w.history.past s ≡ false → actor_pin (state_of w) s ≡ Some pin → pin_of (memory_of (state_of w) s) s ≡ Some pin
@@ -420,11 +427,11 @@ module _ (starts : Starts) (says : Says) (proper : StartsProper starts) (writes 
     start_keeps task.Login v may h = subst (λ (x : Work). IsWorld starts says (with_work w s x)) (sym h) (quiet_keeps work.Login refl (refl, refl) may)
     start_keeps task.End v may h = subst (λ (x : Work). IsWorld starts says (with_work w s x)) (sym h) (quiet_keeps work.End refl (refl, refl) (record { login = may.0; stays = may.1 }))
     start_keeps task.Refresh v may h = subst (λ (x : Work). IsWorld starts says (with_work w s x)) (sym h) (quiet_keeps work.Refresh refl (refl, refl) (record { login = may.0; stays = may.1 }, may.2))
-    start_keeps (task.Load p) v may h = subst (λ (x : Work). IsWorld starts says (with_work w s x)) (sym h.3) (reads_keeps (node_reader h.0 h.1 p) (load_whole starts says proper (state_of w) is.kept s h.0 h.1 p (none_stopped w.history.sessions w.history.past is.unstopped s) may.0 may.1 h.2) (record { login = may.0; stays = may.1 }))
-    start_keeps (task.List p) v may h = subst (λ (x : Work). IsWorld starts says (with_work w s x)) (sym h.3) (reads_keeps (children_reader h.0 h.1 p) (list_whole starts says proper (state_of w) is.kept s h.0 h.1 p (none_stopped w.history.sessions w.history.past is.unstopped s) may.0 may.1 h.2) (record { login = may.0; stays = may.1 }))
+    start_keeps (task.Load p) v may h = subst (λ (x : Work). IsWorld starts says (with_work w s x)) (sym h.3) (reads_keeps (node_reader h.0 h.1 p) (load_whole starts says proper state is.kept s h.0 h.1 p (none_stopped w.history.sessions w.history.past is.unstopped s) may.0 may.1 h.2) (record { login = may.0; stays = may.1 }))
+    start_keeps (task.List p) v may h = subst (λ (x : Work). IsWorld starts says (with_work w s x)) (sym h.3) (reads_keeps (children_reader h.0 h.1 p) (list_whole starts says proper state is.kept s h.0 h.1 p (none_stopped w.history.sessions w.history.past is.unstopped s) may.0 may.1 h.2) (record { login = may.0; stays = may.1 }))
     start_keeps (task.Changes since) v may h =
         subst (λ (x : Work). IsWorld starts says (with_work w s x)) (sym h.3)
-        (observes_keeps (changes_reader h.0 since h.1) (notice_whole starts says proper (state_of w) is.kept s h.0 since h.1 (none_stopped w.history.sessions w.history.past is.unstopped s) few_sessions may.0 may.1 may.3 (own_pin h.1 may.2 h.2)) (record { login = may.0; stays = may.1 }) may.2)
+        (observes_keeps (changes_reader h.0 since h.1) (notice_whole starts says proper state is.kept s h.0 since h.1 (none_stopped w.history.sessions w.history.past is.unstopped s) few_sessions may.0 may.1 may.3 (own_pin h.1 may.2 h.2)) (record { login = may.0; stays = may.1 }) may.2)
     start_keeps (task.Commit edit marks) v may h = subst (λ (x : Work). IsWorld starts says (with_work w s x)) (sym h) (quiet_keeps (work.Plan edit marks) refl (refl, refl) (record { login = may.0; stays = may.1 }, may.2, may.3))
     start_keeps task.BackWrite v may h = upkeep_keeps upkeep.Write v h (record { login = may.0; stays = may.1 }) tt
     start_keeps task.BackRead v may h = upkeep_keeps (upkeep.Read (begun_read h.0)) v h.1 (record { login = may.0; stays = may.1 }) tt
@@ -447,20 +454,20 @@ module _ (starts : Starts) (says : Says) (proper : StartsProper starts) (writes 
           by true same = absurd (other_number q s apart (sym (same_number s q same)))
           by false k = refl
 
-      kept_said : IsKept starts says (after_said (state_of w) s i text)
-      kept_said = said_whole starts says proper (state_of w) is.kept s i text next lawful
+      kept_said : IsKept starts says (after_said state s i text)
+      kept_said = said_whole starts says proper state is.kept s i text next lawful
 
       said_state : state_of (said_in w s i text) ≡ after_said (state_of w) s i text
       said_state = ap (λ (t : State). record t { past = said ∷ w.history.past }) (same_state (record (actor_in w.actors s) { reply = None }) refl (refl, refl))
 
       pub said_keep : IsWorld starts says (said_in w s i text)
       said_keep = record {
-        kept = subst (λ (t : State). IsKept starts says t) (sym said_state) kept_said;
+        formers = is.formers;
+        kept = subst (λ (t : State). IsKept starts says (with_formers t is.formers)) (sym said_state) kept_said;
         table = is.table;
         few = is.few;
         attached = λ q. attached_too q (q == s) refl;
         unstopped = is.unstopped;
-        unsplit = is.unsplit;
         seats = length-set w.actors s (record (actor_in w.actors s) { reply = None }) ∙ is.seats;
         may = λ q. by q (q == s) refl;
       }
@@ -469,10 +476,10 @@ module _ (starts : Starts) (says : Says) (proper : StartsProper starts) (writes 
           attached_too q true same = subst (λ (n : ℕ). (actor_in (slice_set w.actors s (record (actor_in w.actors s) { reply = None })) n).attached ≡ is_attached w.history.past n) (sym (same_number q s same)) (ap (λ (b : ActorState). b.attached) (set_is w s seat (slice_set w.actors s (record (actor_in w.actors s) { reply = None })) (record (actor_in w.actors s) { reply = None }) refl) ∙ is.attached s)
           attached_too q false apart = ap (λ (b : ActorState). b.attached) (others_are w s seat (slice_set w.actors s (record (actor_in w.actors s) { reply = None })) (record (actor_in w.actors s) { reply = None }) refl q apart) ∙ is.attached q
 
-          by : (q : ℕ) (b : Bool) → (q == s) ≡ b → May starts (after (said ∷ []) (live w.history)) q (work_in (slice_set w.actors s (record (actor_in w.actors s) { reply = None })) q)
-          by q true same = subst (λ (n : ℕ). May starts (after (said ∷ []) (live w.history)) n (work_in (slice_set w.actors s (record (actor_in w.actors s) { reply = None })) n)) (sym (same_number q s same))
-              (subst (λ (v : Work). May starts (after (said ∷ []) (live w.history)) s v) (sym (ap (λ (a : ActorState). a.work) (set_is w s seat (slice_set w.actors s (record (actor_in w.actors s) { reply = None })) (record (actor_in w.actors s) { reply = None }) refl) ∙ idle)) tt)
-          by q false apart = subst (λ (a : ActorState). May starts (after (said ∷ []) (live w.history)) q a.work) (sym (others_are w s seat (slice_set w.actors s (record (actor_in w.actors s) { reply = None })) (record (actor_in w.actors s) { reply = None }) refl q apart)) (others_may q (said ∷ []) (said_others q apart) kept_said.sessions.run)
+          by : (q : ℕ) (b : Bool) → (q == s) ≡ b → May starts w.table (after (said ∷ []) (live w.history)) q (work_in (slice_set w.actors s (record (actor_in w.actors s) { reply = None })) q)
+          by q true same = subst (λ (n : ℕ). May starts w.table (after (said ∷ []) (live w.history)) n (work_in (slice_set w.actors s (record (actor_in w.actors s) { reply = None })) n)) (sym (same_number q s same))
+              (subst (λ (v : Work). May starts w.table (after (said ∷ []) (live w.history)) s v) (sym (ap (λ (a : ActorState). a.work) (set_is w s seat (slice_set w.actors s (record (actor_in w.actors s) { reply = None })) (record (actor_in w.actors s) { reply = None }) refl) ∙ idle)) tt)
+          by q false apart = subst (λ (a : ActorState). May starts w.table (after (said ∷ []) (live w.history)) q a.work) (sym (others_are w s seat (slice_set w.actors s (record (actor_in w.actors s) { reply = None })) (record (actor_in w.actors s) { reply = None }) refl q apart)) (others_may w.table (λ k p. refl) q (said ∷ []) (said_others q apart) kept_said.sessions.run)
 
 -- what a port tells of a reply
 pub answers_shown : (starts : Starts) (says : Says) {L : Type 0} (w : WorldOf L) (s : ℕ) (seat : s < length w.actors) (idle : work_in w.actors s ≡ work.Rest) (name : GName) (i : ℕ) (text : Text) → IsRun starts says (live (said_in w s i text).history) → Answers starts says (shown_at name w s) (shown_at name (said_in w s i text) s) i text

@@ -9,10 +9,12 @@ use Rattle.jr_path.specs.declared.path.DocId.TheVariants as id
 use Rattle.jr_path.specs.declared.path.Item.{Item}
 use Rattle.jr_path.specs.declared.path.Path.{Path}
 use Rattle.jr_rev.specs.declared.revision.Revision.{Revision}
-use Rattle.oak_commit.specs.Clashing.{Met, mark_op}
-use Rattle.oak_commit.specs.Committing.{Committing, begun, first_path, refused, wanting, with_undone, written_alone}
+use Rattle.oak_commit.specs.Clashing.{Met, found, mark_op}
+use Rattle.oak_commit.specs.Committing.{Committing, begun, first_path, refused, roots_in, wanting, with_undone, written}
 use Rattle.oak_commit.specs.Kept.{undoes}
 use Rattle.oak_commit.specs.Stages.{stage_of}
+use Rattle.oak_commit.specs.Writing.{write_op}
+use Rattle.oak_commit.specs.declared.look.Look.{Look}
 use Rattle.oak_commit.specs.declared.outcome.CommitEnd.{CommitEnd}
 use Rattle.oak_commit.specs.declared.outcome.CommitEnd.TheVariants as end
 use Rattle.oak_commit.specs.declared.stage.Stage.TheVariants as stage
@@ -32,10 +34,10 @@ use Rattle.oak_port.specs.declared.task.TaskEnd.TheVariants as ends
 use Rattle.oak_read.specs.Reading.{IsTable}
 use Rattle.oak_store.specs.Tables.{Table, next_number}
 use Rattle.core_clash.specs.Core.{root_of}
-use Rattle.core_world.specs.States.{State, base_in, memory_of, nodes_in}
+use Rattle.core_world.specs.States.{State, base_in, listed_at, memory_of, nodes_in}
 use Rattle.core_world.specs.Steps.{after_mark, after_update, after_write, marked_by, with_result}
 use Rattle.oak_step.proofs.Stages.{finish_stage}
-use Rattle.oak_step.specs.Parts.{EndsSo, changes_on, committed, mark_made, read_on}
+use Rattle.oak_step.specs.Parts.{EndsSo, changes_on, committed, fed_previous, mark_made, read_on}
 use Rattle.oak_node.specs.declared.pending.Pending.{Pending}
 use Rattle.oak_sync.specs.Learning as learning
 use Rattle.oak_sync.specs.declared.back_read.BackRead.{BackRead}
@@ -51,10 +53,11 @@ use Rattle.oak_world.proofs.Counting.{noted_few, upward_few}
 use Rattle.oak_world.proofs.Observing.{changes_lower}
 use Rattle.oak_world.proofs.Reading.{read_lowers}
 use Rattle.oak_world.proofs.States.{actor_set}
-use Rattle.oak_world.specs.Kept.{EndsInRoot, IsWorld, May, MayKeepUp}
-use Rattle.oak_world.specs.Left.{changes_left, commit_left, learn_left, left_in, steps_left, marks_left, names_in, reads_left, upkeep_left, writes_left}
-use Rattle.oak_world.specs.Steps.{BeginsBackWrite, MakesState, MakesBackRead, MakesBackWrite, MakesCommit, MakesUpdate, MakesUpkeep, StepsIn}
-use Rattle.oak_world.specs.Worlds.{ActorState, WorldOf, idle, live, running_as, state_of, work_in}
+use Rattle.oak_world.specs.Kept.{EndsInRoot, IsLooking, IsWorld, May, MayKeepUp}
+use Rattle.oak_world.proofs.Looking.{left_found, left_written, once_alone, once_found, once_written, once_wrote, outcome_found, outcome_written, update_previous, written_found, written_written}
+use Rattle.oak_world.specs.Left.{changes_left, commit_left, learn_left, left_in, looked_in, looks_left, steps_left, marks_left, names_in, reads_left, updates_left, upkeep_left, writes_left}
+use Rattle.oak_world.specs.Steps.{BeginsBackWrite, MakesState, MakesBackRead, MakesBackWrite, MakesCommit, MakesUpdate, MakesUpkeep, MayUpdate, StepsIn}
+use Rattle.oak_world.specs.Worlds.{ActorState, WorldOf, idle, live, look_through, once_looked, running_as, state_of, work_in}
 
 -- ---- basics
 
@@ -110,9 +113,10 @@ settled_step : (s : ℕ) (t u : State) (c : Committing) (e : CommitEnd) (x : Wor
 settled_step s t u c e x o is (inl m) = by m.0 m.4
   where
     by : (k : StepKind) → MakesUpdate s t c u m.2 k → GoesDown c x
-    by kind.Mark g = absurd (none_some c.outcome e g.2 is)
-    by kind.Write g = absurd (none_some c.outcome e g.2 is)
-    by kind.Last g = absurd (none_some c.outcome e g.0 is)
+    by kind.Mark g = absurd (none_some c.outcome e g.2.going is)
+    by kind.Write g = absurd (none_some c.outcome e g.2.going is)
+    by kind.Read g = absurd (none_some c.outcome e g.1 is)
+    by kind.Last g = absurd (none_some c.outcome e g.0.going is)
     by kind.Undo g = inr (inr (m.3 ∙ ap work.Commit g.5, g.0, g.1, g.3))
     by _ g = absurd g
 settled_step s t u c e x o is (inr (inl m)) = ends_so c x o m.2
@@ -154,8 +158,11 @@ module _ (s : ℕ) (t u : State) (c : Committing) (x : Work) (going : c.outcome 
   turns_committed : (d : Committing) → x ≡ work.Commit d → d ≡ committed c → Turns c x
   turns_committed d is same = (committed c, end.Committed c.revision, is ∙ ap work.Commit same, refl, one_more (length c.writer.written))
 
-  turns_written : (p : Path) (rest : List Path) (d : Committing) → x ≡ work.Commit d → d ≡ wanting (written_alone c p rest (nodes_in t.table p)) → Turns c x
-  turns_written p rest d is same = (wanting (written_alone c p rest (nodes_in t.table p)), end.Memory, is ∙ ap work.Commit same, refl, appended c.writer.written p)
+  turns_written : (p : Path) (rest : List Path) (d : Committing) → x ≡ work.Commit d → d ≡ wanting (written c p rest (nodes_in t.table p)) → Turns c x
+  turns_written p rest d is same = (wanting (written c p rest (nodes_in t.table p)), end.Memory, is ∙ ap work.Commit same, refl, subst (λ (ps : List Path). length ps ≤ suc (length c.writer.written)) (sym (written_written c p rest (nodes_in t.table p))) (appended c.writer.written p))
+
+  turns_found : (k : Look) → c.looking ≡ Some k → IsLooking c k → (d : Committing) → x ≡ work.Commit d → d ≡ wanting (fed_previous t.table c) → Turns c x
+  turns_found k looking looks d is same = (wanting (fed_previous t.table c), end.Memory, is ∙ ap work.Commit same, refl, subst (λ (ps : List Path). length ps ≤ suc (length c.writer.written)) (sym (written_found t.table c k looking looks)) (one_more (length c.writer.written)))
 
   -- a commit that is going on doesn't undo, and it doesn't end
   undoes_not : undoes c.outcome ≡ true → ⊥
@@ -164,52 +171,74 @@ module _ (s : ℕ) (t u : State) (c : Committing) (x : Work) (going : c.outcome 
   finishes_not : stage_of c ≡ stage.Finish → ⊥
   finishes_not h = none_settled c.outcome going (finish_stage c h).settled
 
-  -- the next mark is due
-  marks_next : (o : StepOut) (f : Met) (rest : List Met) → c.writer.due ≡ f ∷ rest → MakesCommit s t c u x o → ((u ≡ after_mark t s (running_as s c) f rest) × (x ≡ work.Commit (mark_made c rest))) ⊎ Turns c x
-  marks_next o f rest due (inl m) = by m.0 m.4
-    where
-      Next : Met → List Met → Type 0
-      Next f rest = ((u ≡ after_mark t s (running_as s c) f rest) × (x ≡ work.Commit (mark_made c rest))) ⊎ Turns c x
+  -- a previous document is to be looked at
+  module _ (k : Look) (looking : c.looking ≡ Some k) (looks : IsLooking c k) where
+    unlooked : {A : Type 0} → MayUpdate c → A
+    unlooked may = absurd (none_some c.looking k may.looked looking)
 
-      by : (k : StepKind) → MakesUpdate s t c u m.2 k → Next f rest
-      by kind.Mark g = of_cons Next g.0 f g.1 rest (sym g.3 ∙ due)
-          (elim g.5 [ inl k ↦ inl (g.4, m.3 ∙ ap work.Commit k.1) | inr k ↦ inr (turns_refused m.2 g.0.mine g.0.other m.3 k.1) ])
-      by kind.Write g = absurd (none_cons c.writer.due f rest g.3 due)
-      by kind.Last g = absurd (none_cons c.writer.due f rest g.1 due)
-      by kind.Undo g = absurd (undoes_not g.2)
-      by _ g = absurd g
-  marks_next o f rest due (inr (inl m)) = absurd (finishes_not m.0)
-  marks_next o f rest due (inr (inr m)) = inr (turns_wanting m.3)
+    looks_next : (o : StepOut) → MakesCommit s t c u x o → ((u ≡ t) × (x ≡ work.Commit (fed_previous t.table c))) ⊎ Turns c x
+    looks_next o (inl m) = by m.0 m.4
+      where
+        by : (y : StepKind) → MakesUpdate s t c u m.2 y → ((u ≡ t) × (x ≡ work.Commit (fed_previous t.table c))) ⊎ Turns c x
+        by kind.Mark g = unlooked g.2
+        by kind.Write g = unlooked g.2
+        by kind.Read g = elim g.3 [ inl e ↦ inl (e.0, m.3 ∙ ap work.Commit e.1) | inr e ↦ inr (turns_found k looking looks m.2 m.3 e.1) ]
+        by kind.Last g = unlooked g.0
+        by kind.Undo g = absurd (undoes_not g.2)
+        by _ g = absurd g
+    looks_next o (inr (inl m)) = absurd (finishes_not m.0)
+    looks_next o (inr (inr m)) = inr (turns_wanting m.3)
 
-  -- the next document is due
-  writes_next : (o : StepOut) (p : Path) (rest : List Path) → c.writer.due ≡ [] → c.writer.left ≡ p ∷ rest → MakesCommit s t c u x o → ((u ≡ after_write t s (running_as s c) p rest) × (x ≡ work.Commit (written_alone c p rest (nodes_in t.table p)))) ⊎ Turns c x
-  writes_next o p rest due left (inl m) = by m.0 m.4
-    where
-      Next : Path → List Path → Type 0
-      Next p rest = ((u ≡ after_write t s (running_as s c) p rest) × (x ≡ work.Commit (written_alone c p rest (nodes_in t.table p)))) ⊎ Turns c x
+  module _ (looked : c.looking ≡ None) where
+    -- the next mark is due
+    marks_next : (o : StepOut) (f : Met) (rest : List Met) → c.writer.due ≡ f ∷ rest → MakesCommit s t c u x o → ((u ≡ after_mark t s (running_as s c) f rest) × (x ≡ work.Commit (mark_made c rest))) ⊎ Turns c x
+    marks_next o f rest due (inl m) = by m.0 m.4
+      where
+        Next : Met → List Met → Type 0
+        Next f rest = ((u ≡ after_mark t s (running_as s c) f rest) × (x ≡ work.Commit (mark_made c rest))) ⊎ Turns c x
 
-      by : (k : StepKind) → MakesUpdate s t c u m.2 k → Next p rest
-      by kind.Mark g = absurd (none_cons c.writer.due g.0 g.1 due g.3)
-      by kind.Write g = of_cons Next g.0 p g.1 rest (sym g.4 ∙ left)
-          (elim g.5 [ inl k ↦ inl (k.0, m.3 ∙ ap work.Commit k.1) | inr k ↦ inr (turns_written g.0 g.1 m.2 m.3 k.1) ])
-      by kind.Last g = absurd (none_cons c.writer.left p rest g.2 left)
-      by kind.Undo g = absurd (undoes_not g.2)
-      by _ g = absurd g
-  writes_next o p rest due left (inr (inl m)) = absurd (finishes_not m.0)
-  writes_next o p rest due left (inr (inr m)) = inr (turns_wanting m.3)
+        by : (k : StepKind) → MakesUpdate s t c u m.2 k → Next f rest
+        by kind.Mark g = of_cons Next g.0 f g.1 rest (sym g.3 ∙ due)
+            (elim g.5 [ inl k ↦ inl (g.4, m.3 ∙ ap work.Commit k.1) | inr k ↦ inr (turns_refused m.2 g.0.mine g.0.other m.3 k.1) ])
+        by kind.Write g = absurd (none_cons c.writer.due f rest g.3 due)
+        by kind.Read g = absurd (none_some c.looking g.0 looked g.2)
+        by kind.Last g = absurd (none_cons c.writer.due f rest g.1 due)
+        by kind.Undo g = absurd (undoes_not g.2)
+        by _ g = absurd g
+    marks_next o f rest due (inr (inl m)) = absurd (finishes_not m.0)
+    marks_next o f rest due (inr (inr m)) = inr (turns_wanting m.3)
 
-  -- the last write is due
-  lasts_next : (o : StepOut) → c.writer.due ≡ [] → c.writer.left ≡ [] → MakesCommit s t c u x o → Turns c x
-  lasts_next o due left (inl m) = by m.0 m.4
-    where
-      by : (k : StepKind) → MakesUpdate s t c u m.2 k → Turns c x
-      by kind.Mark g = absurd (none_cons c.writer.due g.0 g.1 due g.3)
-      by kind.Write g = absurd (none_cons c.writer.left g.0 g.1 left g.4)
-      by kind.Last g = elim g.4 [ inl k ↦ turns_committed m.2 m.3 k.1 | inr k ↦ turns_refused m.2 k.0 k.1 m.3 k.3 ]
-      by kind.Undo g = absurd (undoes_not g.2)
-      by _ g = absurd g
-  lasts_next o due left (inr (inl m)) = absurd (finishes_not m.0)
-  lasts_next o due left (inr (inr m)) = turns_wanting m.3
+    -- the next document is due
+    writes_next : (o : StepOut) (p : Path) (rest : List Path) → c.writer.due ≡ [] → c.writer.left ≡ p ∷ rest → MakesCommit s t c u x o → ((u ≡ after_write t s (running_as s c) p rest) × (x ≡ work.Commit (written c p rest (nodes_in t.table p)))) ⊎ Turns c x
+    writes_next o p rest due left (inl m) = by m.0 m.4
+      where
+        Next : Path → List Path → Type 0
+        Next p rest = ((u ≡ after_write t s (running_as s c) p rest) × (x ≡ work.Commit (written c p rest (nodes_in t.table p)))) ⊎ Turns c x
+
+        by : (k : StepKind) → MakesUpdate s t c u m.2 k → Next p rest
+        by kind.Mark g = absurd (none_cons c.writer.due g.0 g.1 due g.3)
+        by kind.Write g = of_cons Next g.0 p g.1 rest (sym g.4 ∙ left)
+            (elim g.5 [ inl k ↦ inl (k.0, m.3 ∙ ap work.Commit k.1) | inr k ↦ inr (turns_written g.0 g.1 m.2 m.3 k.1) ])
+        by kind.Read g = absurd (none_some c.looking g.0 looked g.2)
+        by kind.Last g = absurd (none_cons c.writer.left p rest g.2 left)
+        by kind.Undo g = absurd (undoes_not g.2)
+        by _ g = absurd g
+    writes_next o p rest due left (inr (inl m)) = absurd (finishes_not m.0)
+    writes_next o p rest due left (inr (inr m)) = inr (turns_wanting m.3)
+
+    -- the last write is due
+    lasts_next : (o : StepOut) → c.writer.due ≡ [] → c.writer.left ≡ [] → MakesCommit s t c u x o → Turns c x
+    lasts_next o due left (inl m) = by m.0 m.4
+      where
+        by : (k : StepKind) → MakesUpdate s t c u m.2 k → Turns c x
+        by kind.Mark g = absurd (none_cons c.writer.due g.0 g.1 due g.3)
+        by kind.Write g = absurd (none_cons c.writer.left g.0 g.1 left g.4)
+        by kind.Read g = absurd (none_some c.looking g.0 looked g.2)
+        by kind.Last g = elim g.4 [ inl k ↦ turns_committed m.2 m.3 k.1 | inr k ↦ turns_refused m.2 k.0 k.1 m.3 k.3 ]
+        by kind.Undo g = absurd (undoes_not g.2)
+        by _ g = absurd g
+    lasts_next o due left (inr (inl m)) = absurd (finishes_not m.0)
+    lasts_next o due left (inr (inr m)) = turns_wanting m.3
 
 -- ---- the number of a commit that is going on
 
@@ -226,17 +255,28 @@ GoingLeft t c fs roots ps =
     marks_left c.revision (writes_left c.revision c.base c.edit.writes c.marks ps) fs roots t
     + length c.writer.written + length ps + 4
 
-going_left : (s : ℕ) (t : Table) (m : NodeState) (c : Committing) (fs : List Met) (ps : List Path) → c.outcome ≡ None → c.writer.due ≡ fs → c.writer.left ≡ ps → steps_left s t m (work.Commit c) ≡ GoingLeft t c fs c.roots ps
-going_left s t m c fs ps going due left =
+nothing_more : (n : ℕ) → 0 + n ≡ n
+nothing_more n = omega arith
+
+going_left : (s : ℕ) (t : Table) (m : NodeState) (c : Committing) (fs : List Met) (ps : List Path) → c.outcome ≡ None → c.looking ≡ None → c.writer.due ≡ fs → c.writer.left ≡ ps → steps_left s t m (work.Commit c) ≡ GoingLeft t c fs c.roots ps
+going_left s t m c fs ps going looked due left =
     ap (λ (o : Option CommitEnd). commit_left t c o) going
+    ∙ (ap (λ (k : Option Look). looks_left k + updates_left t (look_through t c k)) looked
+    ∙ (nothing_more (updates_left t c)
     ∙ (ap (λ (xs : List Met). GoingLeft t c xs c.roots c.writer.left) due
-    ∙ ap (λ (xs : List Path). GoingLeft t c fs c.roots xs) left)
+    ∙ ap (λ (xs : List Path). GoingLeft t c fs c.roots xs) left)))
 
 fewer_marks : (n a b now was : ℕ) → now ≡ n + a + b + 4 → was ≡ suc n + a + b + 4 → now < was
 fewer_marks n a b now was h k = omega (arith, h, k)
 
-fewer_writes : (n a b c d now was : ℕ) → now ≡ n + c + b + 4 → was ≡ suc n + a + d + 4 → c ≡ a + 1 → d ≡ suc b → now < was
-fewer_writes n a b c d now was h k l e = omega (arith, h, k, l, e)
+fewer_writes : (looks n a b c d now was : ℕ) → now ≡ looks + (n + c + b + 4) → was ≡ suc (looks + n) + a + d + 4 → c ≡ a + 1 → d ≡ suc b → now < was
+fewer_writes looks n a b c d now was h k l e = omega (arith, h, k, l, e)
+
+fewer_looks : (n looks more now was : ℕ) → now ≡ looks + n → was ≡ more + n → suc looks ≡ more → now < was
+fewer_looks n looks more now was h k l = omega (arith, h, k, l)
+
+turns_looking : (looks n a b c now was : ℕ) → now < a + 4 → was ≡ looks + (n + c + b + 4) → c ≡ a → now < was
+turns_looking looks n a b c now was h k l = omega (arith, h, k, l)
 
 turns_less : (n a b now was : ℕ) → now < a + 4 → was ≡ n + a + b + 4 → now < was
 turns_less n a b now was h k = omega (arith, h, k)
@@ -245,60 +285,111 @@ at_most_one : (a b : ℕ) → a ≡ b → a < suc b
 at_most_one a b h = omega (arith, h)
 
 module _ (s : ℕ) (w u : State) (c : Committing) (x : Work) (o : StepOut) (m n : NodeState) (going : c.outcome ≡ None) (makes : MakesCommit s w c u x o) where
-  -- the commit turns to its end
-  turned : (fs : List Met) (ps : List Path) → c.writer.due ≡ fs → c.writer.left ≡ ps → Turns c x → steps_left s u.table n x < steps_left s w.table m (work.Commit c)
-  turned fs ps due left k =
-      turns_less (marks_left c.revision (writes_left c.revision c.base c.edit.writes c.marks ps) fs c.roots w.table) (length c.writer.written) (length ps) _ _
-      (turned_less s u.table n c x k) (going_left s w.table m c fs ps going due left)
+  abbrev IsLess : Type 0
+  IsLess = steps_left s u.table n x < steps_left s w.table m (work.Commit c)
 
-  mark_less : (f : Met) (rest : List Met) → c.writer.due ≡ f ∷ rest → first_path c.roots ≡ root_of w.past f.other → steps_left s u.table n x < steps_left s w.table m (work.Commit c)
-  mark_less f rest due root = by (marks_next s w u c x going o f rest due makes)
-    where
-      by : ((u ≡ after_mark w s (running_as s c) f rest) × (x ≡ work.Commit (mark_made c rest))) ⊎ Turns c x → steps_left s u.table n x < steps_left s w.table m (work.Commit c)
-      by (inl k) =
-          let table : u.table ≡ after_update w.table (mark_op (first_path c.roots) f.other c.revision f.theirs) =
-          ap (λ (v : State). v.table) k.0 ∙ (marked_table s w c f rest ∙ ap (λ (p : Path). after_update w.table (mark_op p f.other c.revision f.theirs)) (sym root)) in
-          let now : steps_left s u.table n x ≡ GoingLeft (after_update w.table (mark_op (first_path c.roots) f.other c.revision f.theirs)) c rest (drop 1 c.roots) c.writer.left =
-          ap (λ (v : Work). steps_left s u.table n v) k.1
-          ∙ (going_left s u.table n (mark_made c rest) rest c.writer.left going refl refl
-          ∙ ap (λ (t : Table). GoingLeft t c rest (drop 1 c.roots) c.writer.left) table) in
-          fewer_marks (marks_left c.revision (writes_left c.revision c.base c.edit.writes c.marks c.writer.left) rest (drop 1 c.roots) (after_update w.table (mark_op (first_path c.roots) f.other c.revision f.theirs))) (length c.writer.written) (length c.writer.left) _ _
-          now (going_left s w.table m c (f ∷ rest) c.writer.left going due refl)
-      by (inr k) = turned (f ∷ rest) c.writer.left due refl k
+  -- a previous document is looked at
+  module _ (k : Look) (looking : c.looking ≡ Some k) (looks : IsLooking c k) where
+    abbrev then : Committing
+    then = fed_previous w.table c
 
-  write_less : (p : Path) (rest : List Path) → c.writer.due ≡ [] → c.writer.left ≡ p ∷ rest → steps_left s u.table n x < steps_left s w.table m (work.Commit c)
-  write_less p rest due left = by (writes_next s w u c x going o p rest due left makes)
-    where
-      by : ((u ≡ after_write w s (running_as s c) p rest) × (x ≡ work.Commit (written_alone c p rest (nodes_in w.table p)))) ⊎ Turns c x → steps_left s u.table n x < steps_left s w.table m (work.Commit c)
-      by (inl k) =
-          let d : Committing = written_alone c p rest (nodes_in w.table p) in
-          let now : steps_left s u.table n x ≡ GoingLeft (after_write w s (running_as s c) p rest).table d d.writer.due d.roots rest =
-          ap (λ (v : Work). steps_left s u.table n v) k.1
-          ∙ (going_left s u.table n d d.writer.due rest going refl refl
-          ∙ ap (λ (v : State). GoingLeft v.table d d.writer.due d.roots rest) k.0) in
-          fewer_writes (marks_left c.revision (writes_left c.revision c.base c.edit.writes c.marks rest) d.writer.due d.roots (after_write w s (running_as s c) p rest).table) (length c.writer.written) (length rest) (length (c.writer.written ++ p ∷ [])) (length (p ∷ rest)) _ _
-          now (going_left s w.table m c [] (p ∷ rest) going due left) (length-append c.writer.written (p ∷ [])) refl
-      by (inr k) = turned [] (p ∷ rest) due left k
+    abbrev stands : Committing
+    stands = once_looked w.table c
 
-  last_less : c.writer.due ≡ [] → c.writer.left ≡ [] → steps_left s u.table n x < steps_left s w.table m (work.Commit c)
-  last_less due left = turned [] [] due left (lasts_next s w u c x going o due left makes)
+    was : steps_left s w.table m (work.Commit c) ≡ looks_left c.looking + updates_left w.table (once_looked w.table c)
+    was = ap (λ (e : Option CommitEnd). commit_left w.table c e) going
 
--- the marks that are due go to the commit roots that are kept
-abbrev HasRoots : Past → Committing → Type 0
-HasRoots past c = c.roots ≡ map (λ f. root_of past f.other) c.writer.due
+    look_less : IsLess
+    look_less = by (looks_next s w u c x going k looking looks o makes)
+      where
+        by : ((u ≡ w) × (x ≡ work.Commit (fed_previous w.table c))) ⊎ Turns c x → IsLess
+        by (inl e) =
+            let now : steps_left s u.table n x ≡ looks_left then.looking + updates_left w.table stands =
+            ap (λ (v : Work). steps_left s u.table n v) e.1
+            ∙ (ap (λ (v : State). steps_left s v.table n (work.Commit then)) e.0
+            ∙ (ap (λ (f : Option CommitEnd). commit_left w.table then f) (outcome_found w.table c k looking looks ∙ going)
+            ∙ ap (λ (d : Committing). looks_left then.looking + updates_left w.table d) (once_found w.table c k looking looks))) in
+            fewer_looks (updates_left w.table stands) (looks_left then.looking) (looks_left c.looking) _ _ now was (left_found w.table c k looking looks)
+        by (inr e) =
+            turns_looking (looks_left c.looking) (marks_left stands.revision (writes_left stands.revision stands.base stands.edit.writes stands.marks stands.writer.left) stands.writer.due stands.roots w.table) (length c.writer.written) (length stands.writer.left) (length stands.writer.written) _ _
+            (turned_less s u.table n c x e) was (ap length (once_wrote w.table c))
 
-commit_less : (s : ℕ) (w u : State) (c : Committing) (x : Work) (o : StepOut) (m n : NodeState) → HasRoots w.past c → MakesCommit s w c u x o → steps_left s u.table n x < steps_left s w.table m (work.Commit c)
+  module _ (looked : c.looking ≡ None) where
+    -- the commit turns to its end
+    turned : (fs : List Met) (ps : List Path) → c.writer.due ≡ fs → c.writer.left ≡ ps → Turns c x → IsLess
+    turned fs ps due left k =
+        turns_less (marks_left c.revision (writes_left c.revision c.base c.edit.writes c.marks ps) fs c.roots w.table) (length c.writer.written) (length ps) _ _
+        (turned_less s u.table n c x k) (going_left s w.table m c fs ps going looked due left)
+
+    mark_less : (f : Met) (rest : List Met) → c.writer.due ≡ f ∷ rest → first_path c.roots ≡ root_of w.past f.other → IsLess
+    mark_less f rest due root = by (marks_next s w u c x going looked o f rest due makes)
+      where
+        by : ((u ≡ after_mark w s (running_as s c) f rest) × (x ≡ work.Commit (mark_made c rest))) ⊎ Turns c x → IsLess
+        by (inl k) =
+            let table : u.table ≡ after_update w.table (mark_op (first_path c.roots) f.other c.revision f.theirs) =
+            ap (λ (v : State). v.table) k.0 ∙ (marked_table s w c f rest ∙ ap (λ (p : Path). after_update w.table (mark_op p f.other c.revision f.theirs)) (sym root)) in
+            let now : steps_left s u.table n x ≡ GoingLeft (after_update w.table (mark_op (first_path c.roots) f.other c.revision f.theirs)) c rest (drop 1 c.roots) c.writer.left =
+            ap (λ (v : Work). steps_left s u.table n v) k.1
+            ∙ (going_left s u.table n (mark_made c rest) rest c.writer.left going looked refl refl
+            ∙ ap (λ (t : Table). GoingLeft t c rest (drop 1 c.roots) c.writer.left) table) in
+            fewer_marks (marks_left c.revision (writes_left c.revision c.base c.edit.writes c.marks c.writer.left) rest (drop 1 c.roots) (after_update w.table (mark_op (first_path c.roots) f.other c.revision f.theirs))) (length c.writer.written) (length c.writer.left) _ _
+            now (going_left s w.table m c (f ∷ rest) c.writer.left going looked due refl)
+        by (inr k) = turned (f ∷ rest) c.writer.left due refl k
+
+    module _ (p : Path) (rest : List Path) (due : c.writer.due ≡ []) (left : c.writer.left ≡ p ∷ rest) where
+      abbrev behind : Committing
+      behind = written c p rest (nodes_in w.table p)
+
+      abbrev documents : Table
+      documents = after_update w.table (write_op c.revision c.edit.writes c.marks p)
+
+      abbrev stood : Option Document
+      stood = looked_in w.table p
+
+      abbrev met : List Met
+      met = found c.base c.revision p c.marks (looked_in w.table p)
+
+      write_less : IsLess
+      write_less = by (writes_next s w u c x going looked o p rest due left makes)
+        where
+          by : ((u ≡ after_write w s (running_as s c) p rest) × (x ≡ work.Commit (written c p rest (nodes_in w.table p)))) ⊎ Turns c x → IsLess
+          by (inl k) =
+              let now : steps_left s u.table n x ≡ length (listed_at w.table p) + (marks_left c.revision (writes_left c.revision c.base c.edit.writes c.marks rest) met (roots_in stood met) documents + length (c.writer.written ++ p ∷ []) + length rest + 4) =
+              ap (λ (v : Work). steps_left s u.table n v) k.1
+              ∙ (ap (λ (v : State). steps_left s v.table n (work.Commit behind)) k.0
+              ∙ (ap (λ (e : Option CommitEnd). commit_left documents behind e) (outcome_written c p rest (nodes_in w.table p) ∙ going)
+              ∙ (ap (λ (i : ℕ). i + updates_left documents (once_looked documents behind)) (left_written c p rest w.table)
+              ∙ ap (λ (d : Committing). length (listed_at w.table p) + updates_left documents d) (once_written c p rest w.table documents (update_previous w.table (write_op c.revision c.edit.writes c.marks p) refl))))) in
+              fewer_writes (length (listed_at w.table p)) (marks_left c.revision (writes_left c.revision c.base c.edit.writes c.marks rest) met (roots_in stood met) documents) (length c.writer.written) (length rest) (length (c.writer.written ++ p ∷ [])) (length (p ∷ rest)) _ _
+              now (going_left s w.table m c [] (p ∷ rest) going looked due left) (length-append c.writer.written (p ∷ [])) refl
+          by (inr k) = turned [] (p ∷ rest) due left k
+
+    last_less : c.writer.due ≡ [] → c.writer.left ≡ [] → IsLess
+    last_less due left = turned [] [] due left (lasts_next s w u c x going looked o due left makes)
+
+-- the marks that are due, or are to come, go to the commit roots that are kept; and what a look
+-- asks for are previous documents of one node
+abbrev HasRoots : Table → Past → Committing → Type 0
+HasRoots t past c = ((once_looked t c).roots ≡ map (λ f. root_of past f.other) (once_looked t c).writer.due) × ((k : Look) → c.looking ≡ Some k → IsLooking c k)
+
+commit_less : (s : ℕ) (w u : State) (c : Committing) (x : Work) (o : StepOut) (m n : NodeState) → HasRoots w.table w.past c → MakesCommit s w c u x o → steps_left s u.table n x < steps_left s w.table m (work.Commit c)
 commit_less s w u c x o m n roots makes = by c.outcome refl
   where
     by : (e : Option CommitEnd) → c.outcome ≡ e → steps_left s u.table n x < steps_left s w.table m (work.Commit c)
     by (Some e) is =
         subst (λ (k : ℕ). steps_left s u.table n x < k) (sym (ap (λ (o : Option CommitEnd). commit_left w.table c o) is)) (settled_less s u.table n c e x is (settled_step s w u c e x o is makes))
-    by None going = on c.writer.due c.writer.left refl refl
+    by None going = at c.looking refl
       where
-        on : (fs : List Met) (ps : List Path) → c.writer.due ≡ fs → c.writer.left ≡ ps → steps_left s u.table n x < steps_left s w.table m (work.Commit c)
-        on (f ∷ fs) ps due left = mark_less s w u c x o m n going makes f fs due (ap first_path roots ∙ ap (λ (xs : List Met). first_path (map (λ f. root_of w.past f.other) xs)) due)
-        on [] (p ∷ ps) due left = write_less s w u c x o m n going makes p ps due left
-        on [] [] due left = last_less s w u c x o m n going makes due left
+        on : c.looking ≡ None → (fs : List Met) (ps : List Path) → c.writer.due ≡ fs → c.writer.left ≡ ps → steps_left s u.table n x < steps_left s w.table m (work.Commit c)
+        on looked (f ∷ fs) ps due left =
+            let kept : c.roots ≡ map (λ f. root_of w.past f.other) c.writer.due = subst (λ (d : Committing). d.roots ≡ map (λ f. root_of w.past f.other) d.writer.due) (once_alone w.table c looked) roots.0 in
+            mark_less s w u c x o m n going makes looked f fs due (ap first_path kept ∙ ap (λ (xs : List Met). first_path (map (λ f. root_of w.past f.other) xs)) due)
+        on looked [] (p ∷ ps) due left = write_less s w u c x o m n going makes looked p ps due left
+        on looked [] [] due left = last_less s w u c x o m n going makes looked due left
+
+        at : (l : Option Look) → c.looking ≡ l → steps_left s u.table n x < steps_left s w.table m (work.Commit c)
+        at None looked = on looked c.writer.due c.writer.left refl refl
+        at (Some k) looking = look_less s w u c x o m n going makes k looking (roots.1 k looking)
 
 -- a background write has still to tell the root
 abbrev IsGoing : Upkeep → Type 0
@@ -307,22 +398,22 @@ IsGoing _ = Unit {0}
 
 -- the commit roots that a session keeps are those of whom it is to mark, and its background write has
 -- still to tell the root
-abbrev Rooted : Past → Work → Type 0
-Rooted past (work.Commit c) = HasRoots past c
-Rooted past (work.Upkeep u) = IsGoing u
-Rooted past _ = Unit {0}
+abbrev Rooted : Table → Past → Work → Type 0
+Rooted t past (work.Commit c) = HasRoots t past c
+Rooted t past (work.Upkeep u) = IsGoing u
+Rooted t past _ = Unit {0}
 
 -- what a session may do keeps its roots
-rooted : (starts : Starts) (h : History) (s : ℕ) (v : Work) → May starts h s v → Rooted h.past v
-rooted starts h s (work.Commit c) may = may.roots
-rooted starts h s work.Rest may = tt
-rooted starts h s work.Login may = tt
-rooted starts h s work.End may = tt
-rooted starts h s work.Refresh may = tt
-rooted starts h s (work.Read r) may = tt
-rooted starts h s (work.Changes r) may = tt
-rooted starts h s (work.Plan edit marks) may = tt
-rooted starts h s (work.Upkeep u) may = by u may.1
+rooted : (starts : Starts) (t : Table) (h : History) (s : ℕ) (v : Work) → May starts t h s v → Rooted t h.past v
+rooted starts t h s (work.Commit c) may = (may.roots, may.looks)
+rooted starts t h s work.Rest may = tt
+rooted starts t h s work.Login may = tt
+rooted starts t h s work.End may = tt
+rooted starts t h s work.Refresh may = tt
+rooted starts t h s (work.Read r) may = tt
+rooted starts t h s (work.Changes r) may = tt
+rooted starts t h s (work.Plan edit marks) may = tt
+rooted starts t h s (work.Upkeep u) may = by u may.1
   where
     by : (u : Upkeep) → MayKeepUp h s u → IsGoing u
     by (upkeep.Publish b) m = m.1
@@ -335,7 +426,7 @@ rooted starts h s (work.Upkeep u) may = by u may.1
     by upkeep.Detach m = tt
     by (upkeep.Detaching pin) m = tt
     by upkeep.Observe m = tt
-rooted starts h s (work.Move r) may = tt
+rooted starts t h s (work.Move r) may = tt
 
 -- ---- background work
 
@@ -422,7 +513,7 @@ module _ (s : ℕ) (w u : State) (m n : NodeState) (x : Work) where
 
   -- ---- all
 
-  less : IsTable w.table.documents → (v : Work) (o : StepOut) → Rooted w.past v → MakesState s w v u x o → IsWait o ⊎ (now < steps_left s w.table (memory_of w s) v)
+  less : IsTable w.table.documents → (v : Work) (o : StepOut) → Rooted w.table w.past v → MakesState s w v u x o → IsWait o ⊎ (now < steps_left s w.table (memory_of w s) v)
   less table work.Login (answers.Ready (ends.Pinned pin)) roots h = inr (rest_less 0 h.1)
   less table work.Login answers.Memory roots h = inr (rest_less 0 h.1)
   less table work.Login _ roots h = absurd h
@@ -465,10 +556,10 @@ module _ (s : ℕ) (w u : State) (m n : NodeState) (x : Work) where
 pub lowers : {L : Type 0} (starts : Starts) (says : Says) (w u : WorldOf L) (s : ℕ) (o : StepOut) → IsWorld starts says w → StepsIn w s u o → IsWait o ⊎ (left_in u s < left_in w s)
 lowers {L} starts says w u s o is m =
     subst (λ (v : Work). IsWait o ⊎ (steps_left s u.table (memory_of (state_of u) s) v < left_in w s)) (sym (does_now w s u o m))
-    (less s (state_of w) (state_of u) (memory_of (state_of w) s) (memory_of (state_of u) s) m.does is.table (work_in w.actors s) o (rooted starts (live w.history) s (work_in w.actors s) (is.may s)) m.makes)
+    (less s (state_of w) (state_of u) (memory_of (state_of w) s) (memory_of (state_of u) s) m.does is.table (work_in w.actors s) o (rooted starts w.table (live w.history) s (work_in w.actors s) (is.may s)) m.makes)
 
 -- nothing is left only where nothing is done
-pub over : (starts : Starts) (h : History) (s : ℕ) (t : Table) (m : NodeState) (v : Work) → May starts h s v → steps_left s t m v ≡ 0 → v ≡ work.Rest
+pub over : (starts : Starts) (h : History) (s : ℕ) (t : Table) (m : NodeState) (v : Work) → May starts t h s v → steps_left s t m v ≡ 0 → v ≡ work.Rest
 over starts past s t m work.Rest may h = refl
 over starts past s t m work.Login may h = absurd (omega (arith, h))
 over starts past s t m work.End may h = absurd (omega (arith, h))
@@ -482,7 +573,7 @@ over starts past s t m (work.Commit c) may h = absurd (by c.outcome h)
     by None h = omega (arith, h)
     by (Some e) h = omega (arith, h)
 over starts past s t m (work.Move r) may h = absurd (omega (arith, h))
-over starts past s t m (work.Upkeep u) may h = absurd (by u (rooted starts past s (work.Upkeep u) may) h)
+over starts past s t m (work.Upkeep u) may h = absurd (by u (rooted starts t past s (work.Upkeep u) may) h)
   where
     by : (u : Upkeep) → IsGoing u → upkeep_left m u ≡ 0 → ⊥
     by upkeep.Write g h = omega (arith, h)

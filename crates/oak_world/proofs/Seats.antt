@@ -19,7 +19,7 @@ use Rattle.core_world.proofs.Lives.{its_node, on_node}
 use Rattle.oak_world.specs.declared.actor.Actor.{Actor}
 use Rattle.oak_world.specs.Kept.{IsAskedWorld, IsWorld}
 use Rattle.oak_step.specs.Works.{kind_due}
-use Rattle.oak_world.specs.Worlds.{ActorState, WorldOf, actor_in, live, node_in, shown_actor, shown_world, state_of, work_in}
+use Rattle.oak_world.specs.Worlds.{ActorState, WorldOf, actor_in, live, node_in, shown_actor, shown_world, state_of, with_formers, work_in}
 use Rattle.oak_world.proofs.Calls.{actor_shown}
 
 -- what is read at a place of a list
@@ -38,7 +38,7 @@ module _ (starts : Starts) (says : Says) (proper : StartsProper starts) {L : Typ
   w = shown_world law j t ms actors
 
   pub session_on : slice_get j.sessions s ≡ Some (node_in w.history s)
-  session_on = on_node starts says proper (state_of w) is.kept.sessions s there
+  session_on = on_node starts says proper (with_formers (state_of w) is.formers) is.kept.sessions s there
 
   pub session_within : s < length j.sessions
   session_within = slice_get_within j.sessions s (node_in w.history s) session_on
@@ -47,7 +47,7 @@ module _ (starts : Starts) (says : Says) (proper : StartsProper starts) {L : Typ
   actor_within = subst (λ (n : ℕ). s < n) (sym is.seats ∙ length-map actors shown_actor) session_within
 
   node : IsNode j.clusters (node_in w.history s)
-  node = its_node starts says proper (state_of w) is.kept.sessions s there
+  node = its_node starts says proper (with_formers (state_of w) is.formers) is.kept.sessions s there
 
   module _ (k : ℕ) (read : slice_get j.sessions s ≡ Some k) where
     pub node_is : node_in w.history s ≡ k

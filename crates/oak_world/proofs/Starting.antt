@@ -1,6 +1,5 @@
 -- The world before any step.
 use Rattle.jr_path.specs.declared.path.Path.{Path}
-use Rattle.core_world.proofs.Begun.{start_lists}
 use Rattle.std.proofs.Common.{◌≡◌, ℕ, zero, suc, ◌+◌, ◌-◌, ◌≤◌, false, List, [], ◌∷◌, ◌++◌, length, map, Option, Some, None, refl, sym, ap, subst, ◌∙◌, arith}
 use Rattle.std.specs.Prelude.{reverse, slice_get, sum_by}
 use Rattle.std.specs.List.{range_with_len}
@@ -66,20 +65,20 @@ idle_attached (k ∷ ks) (suc s) = idle_attached ks s
 
 start_same : {L : Type 0} (law : L) (clusters : ℕ) (sessions : List ℕ) → state_of (start_world law clusters sessions) ≡ start_state clusters sessions
 start_same law clusters sessions =
-    ap (λ (f : ℕ → Option Running). record (start_state clusters sessions) { running = f; reading = λ s. reading_of (work_in (map (λ k. idle) sessions) s); observing = λ s. observing_of (work_in (map (λ k. idle) sessions) s) }) (fun_ext (λ s. ap (running_of s) (idle_works sessions s)))
+    ap (λ (f : ℕ → Option Running). record (start_state clusters sessions) { running = f; reading = λ s. reading_of (work_in (map (λ k. idle) sessions) s); observing = λ s. observing_of (work_in (map (λ k. idle) sessions) s) }) (fun_ext (λ s. ap (running_of (start_table clusters (length sessions)) s) (idle_works sessions s)))
     ∙ (ap (λ (f : ℕ → Option Reader). record (start_state clusters sessions) { reading = f; observing = λ s. observing_of (work_in (map (λ k. idle) sessions) s) }) (fun_ext (λ s. ap reading_of (idle_works sessions s)))
     ∙ ap (λ (f : ℕ → Option ChangesReader). record (start_state clusters sessions) { observing = f }) (fun_ext (λ s. ap observing_of (idle_works sessions s))))
 
 pub start_is_world : (starts : Starts) (says : Says) {L : Type 0} (law : L) (clusters : ℕ) (sessions : List ℕ) → length sessions ≤ 64 → AreNodes clusters sessions → IsWorld starts says (start_world law clusters sessions)
 start_is_world starts says law clusters sessions few nodes = record {
+  formers = λ p k. None;
   kept = subst (λ (t : State). IsKept starts says t) (sym (start_same law clusters sessions)) (start_whole starts says clusters sessions nodes);
   table = start_in_order clusters (length sessions);
   few = few;
   attached = idle_attached sessions;
   unstopped = λ k. refl;
-  unsplit = λ p. ap (λ (f : Path → List PrevEntry). f p) (start_lists clusters (length sessions));
   seats = length-map sessions (λ k. idle);
-  may = λ s. subst (λ (v : Work). May starts (live (start_world law clusters sessions).history) s v) (sym (idle_works sessions s)) tt;
+  may = λ s. subst (λ (v : Work). May starts (start_world law clusters sessions).table (live (start_world law clusters sessions).history) s v) (sym (idle_works sessions s)) tt;
 }
 
 -- no event was made, and nothing is done

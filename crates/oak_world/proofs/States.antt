@@ -104,15 +104,21 @@ module _ {L : Type 0} (w : WorldOf L) (s : ℕ) (there : s < length w.actors) wh
     formers = (state_of w).formers;
   }
 
-  pub moved_is : (p : Parts) (a : ActorState) → state_of (with_parts w s p a) ≡ moved (reverse p.list) p.table p.memory (running_of s a.work) a.work
-  moved_is p a =
-      ap (λ (f : ℕ → Option Running). record (state_of (with_parts w s p a)) { running = f }) (session_set running_of w.actors s a there)
-      ∙ readers_set (moved (reverse p.list) p.table p.memory (running_of s a.work) a.work) a
+  -- over other documents the committers of the sessions stand as they stood
+  abbrev pub LeavesLooks : Table → Type 0
+  LeavesLooks t = (q : ℕ) → running_of t q (work_in w.actors q) ≡ running_of w.table q (work_in w.actors q)
+
+  pub moved_is : (p : Parts) (a : ActorState) → LeavesLooks p.table → state_of (with_parts w s p a) ≡ moved (reverse p.list) p.table p.memory (running_of p.table s a.work) a.work
+  moved_is p a leaves =
+      ap (λ (f : ℕ → Option Running). record (state_of (with_parts w s p a)) { running = f })
+      (session_set (running_of p.table) w.actors s a there
+      ∙ ap (λ (f : ℕ → Option Running). with_session f s (running_of p.table s a.work)) (fun_ext leaves))
+      ∙ readers_set (moved (reverse p.list) p.table p.memory (running_of p.table s a.work) a.work) a
 
   -- room for a reply changes neither the state nor what the session does
   pub replied_state : (room : Option ℕ) → state_of (with_reply w s room) ≡ state_of w
   replied_state room =
-      ap (λ (f : ℕ → Option Running). record (state_of (with_reply w s room)) { running = f }) (session_set running_of w.actors s (record (actor_in w.actors s) { reply = room }) there ∙ session_same (state_of w).running s (running_of s (work_in w.actors s)) refl)
+      ap (λ (f : ℕ → Option Running). record (state_of (with_reply w s room)) { running = f }) (session_set (running_of w.table) w.actors s (record (actor_in w.actors s) { reply = room }) there ∙ session_same (state_of w).running s (running_of w.table s (work_in w.actors s)) refl)
       ∙ (readers_set (state_of w) (record (actor_in w.actors s) { reply = room })
       ∙ readers_same (state_of w) (work_in w.actors s) (refl, refl))
 
@@ -120,15 +126,15 @@ module _ {L : Type 0} (w : WorldOf L) (s : ℕ) (there : s < length w.actors) wh
   replied_work room = ap (λ (a : ActorState). a.work) (actor_set w.actors s (record (actor_in w.actors s) { reply = room }) there)
 
   -- what the session did not have, it has not
-  pub quiet_is : (past : Past) (table : Table) (m : NodeState) (x : Option Running) (v : Work) → running_of s (work_in w.actors s) ≡ x → SameReaders (work_in w.actors s) v
+  pub quiet_is : (past : Past) (table : Table) (m : NodeState) (x : Option Running) (v : Work) → running_of w.table s (work_in w.actors s) ≡ x → SameReaders (work_in w.actors s) v
       → moved past table m x v ≡ record (state_of w) { past = past; table = table; memories = with_memory w.memories (node_in w.history s) m }
   quiet_is past table m x v running same =
       ap (λ (f : ℕ → Option Running). record (moved past table m x v) { running = f }) (session_same (state_of w).running s x running)
       ∙ readers_same (record (state_of w) { past = past; table = table; memories = with_memory w.memories (node_in w.history s) m }) v same
 
   -- nothing is changed but what the session does
-  pub rest_is : (a : ActorState) → state_of (with_parts w s (parts_at w s) a) ≡ with_readers (record (state_of w) { running = with_session (state_of w).running s (running_of s a.work) }) a.work
+  pub rest_is : (a : ActorState) → state_of (with_parts w s (parts_at w s) a) ≡ with_readers (record (state_of w) { running = with_session (state_of w).running s (running_of w.table s a.work) }) a.work
   rest_is a =
-      moved_is (parts_at w s) a
-      ∙ ap (λ (past : Past). moved past w.table (memory_at w.memories (node_in w.history s)) (running_of s a.work) a.work) (reverse-reverse w.history.past)
-      ∙ ap (λ (ms : List NodeState). record (moved w.history.past w.table (memory_at w.memories (node_in w.history s)) (running_of s a.work) a.work) { memories = ms }) (memory_same w.memories (node_in w.history s))
+      moved_is (parts_at w s) a (λ q. refl)
+      ∙ ap (λ (past : Past). moved past w.table (memory_at w.memories (node_in w.history s)) (running_of w.table s a.work) a.work) (reverse-reverse w.history.past)
+      ∙ ap (λ (ms : List NodeState). record (moved w.history.past w.table (memory_at w.memories (node_in w.history s)) (running_of w.table s a.work) a.work) { memories = ms }) (memory_same w.memories (node_in w.history s))

@@ -1,5 +1,5 @@
 -- What a session does, it may still do after events of others.
-use Rattle.std.proofs.Common.{◌≡◌, inl, inr, ℕ, Bool, true, false, ◌||◌, List, [], ◌∷◌, ◌++◌, map, refl, sym, ap, ◌∙◌, None}
+use Rattle.std.proofs.Common.{◌≡◌, inl, inr, ℕ, Bool, true, false, ◌||◌, List, [], ◌∷◌, ◌++◌, map, refl, sym, ap, subst, ◌∙◌, None}
 use Rattle.std.specs.List.{list_any}
 use Rattle.jr_path.specs.declared.path.Path.{Path}
 use Rattle.jr_rev.specs.declared.revision.Revision.{Revision}
@@ -23,9 +23,11 @@ use Rattle.oak_step.specs.declared.work.Work.{Work}
 use Rattle.oak_step.specs.declared.work.Work.TheVariants as work
 use Rattle.oak_world.specs.Kept.{May}
 use Rattle.oak_world.proofs.Lasting.{upkeep_lasts}
+use Rattle.oak_world.proofs.Looking.{SamePrevious, once_same}
 use Rattle.oak_world.proofs.Others.{attached_left}
 use Rattle.oak_world.specs.Steps.{IsPresent}
-use Rattle.oak_world.specs.Worlds.{Story, live}
+use Rattle.oak_store.specs.Tables.{Table}
+use Rattle.oak_world.specs.Worlds.{Story, live, once_looked}
 
 -- ---- events of others
 
@@ -75,8 +77,8 @@ pub same_roots : (f g : Met → Path) (ms : List Met) → ((m : Met) → In m ms
 same_roots f g [] same = refl
 same_roots f g (m ∷ ms) same = ap (λ x. x ∷ map f ms) (same m (inl refl)) ∙ ap (λ xs. g m ∷ xs) (same_roots f g ms (λ k h. same k (inr h)))
 
-module _ (starts : Starts) (says : Says) (last : StartsLast starts says) (h : Story) (nodes : AreNodes h.clusters h.sessions) (run : IsRun starts says (live h)) (q : ℕ) (own : Past) (now : IsRun starts says (after own (live h))) (others : AreOthers q own h.past) where
-  pub may_last : (v : Work) → ((c : Committing) → v ≡ work.Commit c → (f : Met) → In f c.writer.due → is_drawn h.past f.other ≡ true) → May starts (live h) q v → May starts (after own (live h)) q v
+module _ (starts : Starts) (says : Says) (last : StartsLast starts says) (h : Story) (nodes : AreNodes h.clusters h.sessions) (run : IsRun starts says (live h)) (q : ℕ) (own : Past) (now : IsRun starts says (after own (live h))) (others : AreOthers q own h.past) (t u : Table) (same : SamePrevious t u) where
+  pub may_last : (v : Work) → ((c : Committing) → v ≡ work.Commit c → (f : Met) → In f (once_looked t c).writer.due → is_drawn h.past f.other ≡ true) → May starts t (live h) q v → May starts u (after own (live h)) q v
   may_last work.Rest drawn may = tt
   may_last work.Login drawn may = login_left q own h.past others ∙ may
   may_last work.End drawn may = come_left (live h) q own others may
@@ -87,8 +89,9 @@ module _ (starts : Starts) (says : Says) (last : StartsLast starts says) (h : St
   may_last (work.Commit c) drawn may = record {
     come = come_left (live h) q own others may.come;
     unended = may.unended;
-    roots = may.roots ∙ sym (same_roots (λ f. root_of (own ++ h.past) f.other) (λ f. root_of h.past f.other) c.writer.due (λ f i. roots_last starts says h.clusters h.sessions nodes own h.past f.other now (drawn c refl f i)));
-    looked = may.looked;
+    roots = subst (λ (d : Committing). d.roots ≡ map (λ f. root_of (own ++ h.past) f.other) d.writer.due) (sym (once_same t u same c may.looks))
+        (may.roots ∙ sym (same_roots (λ f. root_of (own ++ h.past) f.other) (λ f. root_of h.past f.other) (once_looked t c).writer.due (λ f i. roots_last starts says h.clusters h.sessions nodes own h.past f.other now (drawn c refl f i))));
+    looks = may.looks;
   }
   may_last (work.Upkeep u) drawn may = (come_left (live h) q own others may.0, upkeep_lasts starts says h nodes q own now others u may.1)
   may_last (work.Move r) drawn may = (come_left (live h) q own others may.0, ended_lasts r own h.past may.1, may.2)

@@ -1,7 +1,7 @@
 -- A step of a session on its parts is, by what it does, one of the steps of the state.
 use Rattle.jr_path.specs.declared.path.Path.{Path}
-use Rattle.core_world.specs.States.{listed_at}
-use Rattle.std.proofs.Common.{◌≡◌, inl, inr, ℕ, ◌<◌, Bool, Option, Some, None, List, [], ◌∷◌, ◌++◌, length, map, refl, sym, ap, ◌∙◌}
+use Rattle.std.proofs.Common.{◌≡◌, inl, inr, ℕ, ◌<◌, Bool, true, Option, Some, None, List, [], ◌∷◌, ◌++◌, length, map, refl, sym, ap, subst, ◌∙◌}
+use mathlib.Core.Bool.{false≢true}
 use Rattle.std.proofs.lemmas.List.{reverse-reverse}
 use Rattle.std.specs.Prelude.{reverse}
 use Rattle.jr_rev.specs.declared.revision.Revision.{Revision}
@@ -11,6 +11,8 @@ use Rattle.oak_clash.specs.declared.mark.MarkAt.{MarkAt}
 use Rattle.oak_clash.specs.Clashes.{marked_paths}
 use Rattle.oak_commit.specs.Clashing.{Met}
 use Rattle.oak_commit.specs.Committing.{Committing, begun, first_path, is_past, wanting}
+use Rattle.oak_commit.specs.Kept.{undoes}
+use Rattle.oak_commit.specs.declared.look.Look.{Look}
 use Rattle.oak_commit.specs.declared.outcome.CommitEnd.TheVariants as end
 use Rattle.oak_machine.specs.declared.event.Event.{Event}
 use Rattle.oak_machine.specs.declared.event.Event.TheVariants as event
@@ -37,22 +39,24 @@ use Rattle.oak_sync.specs.Learning as learning
 use Rattle.oak_sync.specs.Publishing as publishing
 use Rattle.oak_sync.specs.declared.back_read.BackRead.{BackRead}
 use Rattle.oak_sync.specs.declared.back_write.BackWrite.{BackWrite}
-use Rattle.oak_sync.proofs.Standing.{below_due, root_due}
+use Rattle.oak_sync.proofs.Standing.{IsPathDue, below_due, root_due}
 use Rattle.oak_step.specs.declared.upkeep.Upkeep.{Upkeep}
 use Rattle.oak_step.specs.declared.upkeep.Upkeep.TheVariants as upkeep
 use Rattle.oak_step.proofs.Backs.{goes_on, read_table, reads_on, told_table}
 use Rattle.oak_step.specs.Parts.{CommitsOn, EndsSo, IsGivenUp, KeepsUp, LearnsOn, Parts, PublishesFirst, PublishesOn, Steps, UpdatesOn, UpdatesDocument, after_ask, pinned_base, changes_on, learned_on, parts, parts_ended, published_on, read_on}
 use Rattle.oak_world.specs.Steps.{BeginsBackWrite, MakesState, MakesBackRead, MakesBackWrite, MakesCommit, MakesUpdate, MakesUpkeep}
-use Rattle.oak_world.specs.Worlds.{ActorState, WorldOf, node_in, observing_of, parts_at, reading_of, running_as, running_of, state_of, with_parts, work_in}
-use Rattle.oak_world.proofs.Making.{begins_is, ended_is, makes_last, makes_mark, makes_undo, makes_write, observes_is, reads_is, runs_is, same_is, sets_is, told_is}
-use Rattle.oak_world.proofs.States.{SameReaders, same_readers}
-use Rattle.oak_step.proofs.Stages.{IsMarkStage, last_stage, mark_stage, undo_stage, write_stage}
+use Rattle.oak_world.specs.Worlds.{ActorState, WorldOf, node_in, observing_of, once_looked, parts_at, reading_of, running_as, running_of, state_of, with_parts, work_in}
+use Rattle.oak_world.specs.Kept.{IsLooking}
+use Rattle.oak_world.proofs.Looking.{SamePrevious, both_previous, once_alone, same_previous, update_previous}
+use Rattle.oak_world.proofs.Making.{begins_is, ended_is, makes_last, makes_look, makes_mark, makes_undo, makes_write, observes_is, reads_is, runs_is, same_is, sets_is, told_is}
+use Rattle.oak_world.proofs.States.{LeavesLooks, SameReaders, same_readers}
+use Rattle.oak_step.proofs.Stages.{IsLookStage, IsMarkStage, last_stage, look_stage, mark_stage, undo_stage, write_stage}
 
 -- parts with the same documents, memory and events
 same_parts : (p q : Parts) → p.table ≡ q.table → p.memory ≡ q.memory → p.list ≡ q.list → p ≡ q
 same_parts p q t m es = ap (λ (x : Table). parts x p.memory p.list) t ∙ (ap (λ (x : NodeState). parts q.table x p.list) m ∙ ap (λ (x : List Event). parts q.table q.memory x) es)
 
-module _ {L : Type 0} (w : WorldOf L) (s : ℕ) (there : s < length w.actors) (q : Parts) (v : Work) (a : ActorState) (does : a.work ≡ v) (unsplit : (p : Path) → listed_at w.table p ≡ []) where
+module _ {L : Type 0} (w : WorldOf L) (s : ℕ) (there : s < length w.actors) (q : Parts) (v : Work) (a : ActorState) (does : a.work ≡ v) (leaves : (t : Table) → SamePrevious w.table t → LeavesLooks w s there t) where
   abbrev node : ℕ
   node = node_in w.history s
 
@@ -62,8 +66,8 @@ module _ {L : Type 0} (w : WorldOf L) (s : ℕ) (there : s < length w.actors) (q
   abbrev now : State
   now = state_of (with_parts w s q a)
 
-  running_now : (y : Work) → v ≡ y → running_of s a.work ≡ running_of s y
-  running_now y is = ap (running_of s) (does ∙ is)
+  running_now : (t : Table) (y : Work) → v ≡ y → running_of t s a.work ≡ running_of t s y
+  running_now t y is = ap (running_of t s) (does ∙ is)
 
   reading_now : (y : Work) → v ≡ y → reading_of a.work ≡ reading_of y
   reading_now y is = ap reading_of (does ∙ is)
@@ -72,43 +76,43 @@ module _ {L : Type 0} (w : WorldOf L) (s : ℕ) (there : s < length w.actors) (q
   observing_now y is = ap observing_of (does ∙ is)
 
   -- nothing changes
-  module _ (u y : Work) (here : work_in w.actors s ≡ u) (is : v ≡ y) (running : running_of s u ≡ running_of s y) (same : SameReaders u y) where
-    abbrev runs : running_of s (work_in w.actors s) ≡ running_of s a.work
-    runs = ap (running_of s) here ∙ (running ∙ sym (running_now y is))
+  module _ (u y : Work) (here : work_in w.actors s ≡ u) (is : v ≡ y) (running : (t : Table) → running_of w.table s u ≡ running_of t s y) (same : SameReaders u y) where
+    abbrev runs : (t : Table) → running_of w.table s (work_in w.actors s) ≡ running_of t s a.work
+    runs t = ap (running_of w.table s) here ∙ (running t ∙ sym (running_now t y is))
 
     abbrev reads : SameReaders (work_in w.actors s) a.work
     reads = same_readers (work_in w.actors s) a.work u y here (does ∙ is) same
 
     still : q ≡ parts_at w s → now ≡ state_of w
-    still alike = ap (λ (p : Parts). state_of (with_parts w s p a)) alike ∙ same_is w s there a runs reads
+    still alike = ap (λ (p : Parts). state_of (with_parts w s p a)) alike ∙ same_is w s there leaves a (runs w.table) reads
 
     tells : (e : Event) (m : NodeState) → q ≡ parts w.table m (reverse w.history.past ++ e ∷ []) → now ≡ record (state_of w) { past = e ∷ w.history.past; memories = with_memory w.memories node m }
-    tells e m alike = ap (λ (p : Parts). state_of (with_parts w s p a)) alike ∙ told_is w s there e m a runs reads
+    tells e m alike = ap (λ (p : Parts). state_of (with_parts w s p a)) alike ∙ told_is w s there leaves e m a (runs w.table) reads
 
-    sets : (e : Event) (t : Table) → q ≡ parts t memory (reverse w.history.past ++ e ∷ []) → now ≡ record (state_of w) { past = e ∷ w.history.past; table = t }
-    sets e t alike = ap (λ (p : Parts). state_of (with_parts w s p a)) alike ∙ sets_is w s there e t a runs reads
+    sets : (e : Event) (t : Table) → SamePrevious w.table t → q ≡ parts t memory (reverse w.history.past ++ e ∷ []) → now ≡ record (state_of w) { past = e ∷ w.history.past; table = t }
+    sets e t previous alike = ap (λ (p : Parts). state_of (with_parts w s p a)) alike ∙ sets_is w s there leaves e t a previous (runs t) reads
 
   login_makes : work_in w.actors s ≡ work.Login → (o : StepOut) → Steps s node (parts_at w s) work.Login q v o → MakesState s (state_of w) work.Login now v o
-  login_makes here (answers.Ready (ends.Pinned pin)) h = (tells work.Login work.Rest here h.2 refl (refl, refl) (event.Login s memory.head) (with_pin memory s (pin_now memory)) h.1, h.2, h.0)
-  login_makes here answers.Memory h = (still work.Login work.Rest here h.1 refl (refl, refl) h.0, h.1)
+  login_makes here (answers.Ready (ends.Pinned pin)) h = (tells work.Login work.Rest here h.2 (λ t. refl) (refl, refl) (event.Login s memory.head) (with_pin memory s (pin_now memory)) h.1, h.2, h.0)
+  login_makes here answers.Memory h = (still work.Login work.Rest here h.1 (λ t. refl) (refl, refl) h.0, h.1)
   login_makes here _ h = absurd h
 
   end_makes : work_in w.actors s ≡ work.End → (o : StepOut) → Steps s node (parts_at w s) work.End q v o → MakesState s (state_of w) work.End now v o
-  end_makes here (answers.Ready ends.Ended) h = (tells work.End work.Rest here h.1 refl (refl, refl) (event.Went s kind.End) (without_session memory s) h.0, h.1)
-  end_makes here answers.Memory h = (still work.End work.Rest here h.1 refl (refl, refl) h.0, h.1)
+  end_makes here (answers.Ready ends.Ended) h = (tells work.End work.Rest here h.1 (λ t. refl) (refl, refl) (event.Went s kind.End) (without_session memory s) h.0, h.1)
+  end_makes here answers.Memory h = (still work.End work.Rest here h.1 (λ t. refl) (refl, refl) h.0, h.1)
   end_makes here _ h = absurd h
 
   refresh_makes : work_in w.actors s ≡ work.Refresh → (o : StepOut) → Steps s node (parts_at w s) work.Refresh q v o → MakesState s (state_of w) work.Refresh now v o
-  refresh_makes here (answers.Ready (ends.Pinned pin)) h = (tells work.Refresh work.Rest here h.2 refl (refl, refl) (event.Refresh s memory.head) (with_pin memory s (pin_now memory)) h.1, h.2, h.0)
-  refresh_makes here answers.Memory h = (still work.Refresh work.Rest here h.1 refl (refl, refl) h.0, h.1)
+  refresh_makes here (answers.Ready (ends.Pinned pin)) h = (tells work.Refresh work.Rest here h.2 (λ t. refl) (refl, refl) (event.Refresh s memory.head) (with_pin memory s (pin_now memory)) h.1, h.2, h.0)
+  refresh_makes here answers.Memory h = (still work.Refresh work.Rest here h.1 (λ t. refl) (refl, refl) h.0, h.1)
   refresh_makes here _ h = absurd h
 
   -- a reader alone
   module _ (r : Reader) (here : work_in w.actors s ≡ work.Read r) where
-    reader_on : (y : Work) → v ≡ y → running_of s y ≡ None → observing_of y ≡ None → q ≡ parts_at w s → now ≡ with_reader (state_of w) s (reading_of y)
+    reader_on : (y : Work) → v ≡ y → running_of w.table s y ≡ None → observing_of y ≡ None → q ≡ parts_at w s → now ≡ with_reader (state_of w) s (reading_of y)
     reader_on y is none unobserved same =
         ap (λ (p : Parts). state_of (with_parts w s p a)) same
-        ∙ (reads_is w s there a (ap (running_of s) here ∙ sym (running_now y is ∙ none)) (ap observing_of here ∙ sym (observing_now y is ∙ unobserved))
+        ∙ (reads_is w s there leaves a (ap (running_of w.table s) here ∙ sym (running_now w.table y is ∙ none)) (ap observing_of here ∙ sym (observing_now y is ∙ unobserved))
         ∙ ap (λ (x : Option Reader). with_reader (state_of w) s x) (reading_now y is))
 
     read_makes : (o : StepOut) → Steps s node (parts_at w s) (work.Read r) q v o → MakesState s (state_of w) (work.Read r) now v o
@@ -121,10 +125,10 @@ module _ {L : Type 0} (w : WorldOf L) (s : ℕ) (there : s < length w.actors) (q
 
   -- a reader of changes alone
   module _ (r : ChangesReader) (here : work_in w.actors s ≡ work.Changes r) where
-    observes_on : (y : Work) → v ≡ y → running_of s y ≡ None → reading_of y ≡ None → q ≡ parts_at w s → now ≡ with_observer (state_of w) s (observing_of y)
+    observes_on : (y : Work) → v ≡ y → running_of w.table s y ≡ None → reading_of y ≡ None → q ≡ parts_at w s → now ≡ with_observer (state_of w) s (observing_of y)
     observes_on y is none unread same =
         ap (λ (p : Parts). state_of (with_parts w s p a)) same
-        ∙ (observes_is w s there a (ap (running_of s) here ∙ sym (running_now y is ∙ none)) (ap reading_of here ∙ sym (reading_now y is ∙ unread))
+        ∙ (observes_is w s there leaves a (ap (running_of w.table s) here ∙ sym (running_now w.table y is ∙ none)) (ap reading_of here ∙ sym (reading_now y is ∙ unread))
         ∙ ap (λ (x : Option ChangesReader). with_observer (state_of w) s x) (observing_now y is))
 
     changes_make : (o : StepOut) → Steps s node (parts_at w s) (work.Changes r) q v o → MakesState s (state_of w) (work.Changes r) now v o
@@ -136,51 +140,60 @@ module _ {L : Type 0} (w : WorldOf L) (s : ℕ) (there : s < length w.actors) (q
   plan_makes : (edit : Edit) (marks : List MarkAt) → work_in w.actors s ≡ work.Plan edit marks → (o : StepOut) → Steps s node (parts_at w s) (work.Plan edit marks) q v o → MakesState s (state_of w) (work.Plan edit marks) now v o
   plan_makes edit marks here (answers.Went kind.Draw) h = (
     ap (λ (p : Parts). state_of (with_parts w s p a)) h.0
-        ∙ begins_is w s there (event.Draw (record { revision = next_draw memory; session = s; base = pinned_base memory s; edit = edit; marks = marks })) (with_notes (next_draw memory) (with_draw memory (next_draw memory)) (marked_paths marks)) a
-        (Some (running_as s (begun (next_draw memory) (pinned_base memory s) edit marks))) (running_now _ h.1) (same_readers (work_in w.actors s) a.work (work.Plan edit marks) _ here (does ∙ h.1) (refl, refl)),
+        ∙ begins_is w s there leaves (event.Draw (record { revision = next_draw memory; session = s; base = pinned_base memory s; edit = edit; marks = marks })) (with_notes (next_draw memory) (with_draw memory (next_draw memory)) (marked_paths marks)) a
+        (Some (running_as s (begun (next_draw memory) (pinned_base memory s) edit marks))) (running_now w.table _ h.1) (same_readers (work_in w.actors s) a.work (work.Plan edit marks) _ here (does ∙ h.1) (refl, refl)),
     h.1,
   )
-  plan_makes edit marks here answers.Memory h = (still (work.Plan edit marks) work.Rest here h.1 refl (refl, refl) h.0, h.1)
+  plan_makes edit marks here answers.Memory h = (still (work.Plan edit marks) work.Rest here h.1 (λ t. refl) (refl, refl) h.0, h.1)
   plan_makes edit marks here _ h = absurd h
 
   move_makes : (r : Revision) → work_in w.actors s ≡ work.Move r → (o : StepOut) → Steps s node (parts_at w s) (work.Move r) q v o → MakesState s (state_of w) (work.Move r) now v o
-  move_makes r here (answers.Wait o) h = (still (work.Move r) (work.Move r) here h.1.2 refl (refl, refl) (same_parts q (parts_at w s) h.0 h.1.0 h.1.1), h.1.2, h.1.3)
+  move_makes r here (answers.Wait o) h = (still (work.Move r) (work.Move r) here h.1.2 (λ t. refl) (refl, refl) (same_parts q (parts_at w s) h.0 h.1.0 h.1.1), h.1.2, h.1.3)
   move_makes r here (answers.Ready (ends.Commit (end.Committed o))) h =
-      (tells (work.Move r) work.Rest here h.1.4 refl (refl, refl) (event.Refresh s memory.head) (with_pin memory s (pin_now memory)) (same_parts q (parts w.table (with_pin memory s (pin_now memory)) (reverse w.history.past ++ event.Refresh s memory.head ∷ [])) h.0 h.1.2 h.1.3), h.1.4, h.1.0, h.1.1)
+      (tells (work.Move r) work.Rest here h.1.4 (λ t. refl) (refl, refl) (event.Refresh s memory.head) (with_pin memory s (pin_now memory)) (same_parts q (parts w.table (with_pin memory s (pin_now memory)) (reverse w.history.past ++ event.Refresh s memory.head ∷ [])) h.0 h.1.2 h.1.3), h.1.4, h.1.0, h.1.1)
   move_makes r here _ h = absurd h.1
 
   -- ---- a commit
 
-  module _ (c : Committing) (here : work_in w.actors s ≡ work.Commit c) (roots : c.roots ≡ map (λ (f : Met). root_of w.history.past f.other) c.writer.due) where
+  module _ (c : Committing) (here : work_in w.actors s ≡ work.Commit c) (roots : (once_looked w.table c).roots ≡ map (λ (f : Met). root_of w.history.past f.other) (once_looked w.table c).writer.due) (looks : (k : Look) → c.looking ≡ Some k → IsLooking c k) where
     root_first : (at : IsMarkStage c) → first_path c.roots ≡ root_of w.history.past at.first.other
-    root_first at = ap first_path (roots ∙ ap (map (λ (f : Met). root_of w.history.past f.other)) at.due)
+    root_first at = ap first_path (subst (λ (e : Committing). e.roots ≡ map (λ (f : Met). root_of w.history.past f.other) e.writer.due) (once_alone w.table c at.looked) roots ∙ ap (map (λ (f : Met). root_of w.history.past f.other)) at.due)
+
+    -- one that undoes looks at no previous document
+    unlooking : undoes c.outcome ≡ true → c.looking ≡ None
+    unlooking undoing = by c.looking refl
+      where
+        by : (o : Option Look) → c.looking ≡ o → o ≡ None
+        by None is = refl
+        by (Some k) is = absurd (false≢true (sym (ap undoes (looks k is).going) ∙ undoing))
 
     alike : (d : Committing) → v ≡ work.Commit d → SameReaders (work_in w.actors s) a.work
     alike d is = same_readers (work_in w.actors s) a.work (work.Commit c) (work.Commit d) here (does ∙ is) (refl, refl)
 
     updates : (x : StepKind) (d : Committing) → q.memory ≡ memory → v ≡ work.Commit d → UpdatesDocument s w.table (reverse w.history.past) c q.table q.list d x → MakesUpdate s (state_of w) c now d x
-    updates kind.Mark d same is h = let at : IsMarkStage c = mark_stage c h.0 in makes_mark w s there c q a d same (does ∙ is) (alike d is) at (root_first at) h.1
-    updates kind.Write d same is h = makes_write w s there c q a d same (does ∙ is) (alike d is) (write_stage c h.0) (unsplit (write_stage c h.0).first) h.1
-    updates kind.Last d same is h = makes_last w s there c q a d same (does ∙ is) (alike d is) (last_stage c h.0) h.1
-    updates kind.Undo d same is h = makes_undo w s there c q a d same (does ∙ is) (alike d is) (undo_stage c h.0) h.1
+    updates kind.Mark d same is h = let at : IsMarkStage c = mark_stage c h.0 in makes_mark w s there leaves c q a d same (does ∙ is) (alike d is) at (root_first at) h.1
+    updates kind.Write d same is h = makes_write w s there leaves c q a d same (does ∙ is) (alike d is) (write_stage c h.0) h.1
+    updates kind.Read d same is h = let at : IsLookStage c = look_stage c h.0 in makes_look w s there leaves c q a d same (does ∙ is) (alike d is) at (looks at.looking at.looked) here h.1
+    updates kind.Last d same is h = makes_last w s there leaves c q a d same (does ∙ is) (alike d is) (last_stage c h.0) h.1
+    updates kind.Undo d same is h = makes_undo w s there leaves c q a d same (does ∙ is) (alike d is) (undo_stage c h.0) (unlooking (undo_stage c h.0).undoing) h.1
     updates _ d same is h = absurd h
 
     given_up : (o : StepOut) → q.memory ≡ memory → IsGivenUp w.table (reverse w.history.past) c q.table q.list v o → now ≡ after_want (state_of w) s (running_as s c)
     given_up o same h =
         ap (λ (p : Parts). state_of (with_parts w s p a)) (same_parts q (parts_at w s) h.table same h.list)
-        ∙ (runs_is w s there w.history.past (reverse w.history.past) w.table a (Some (running_as s (wanting c))) (reverse-reverse w.history.past) (running_now (work.Commit (wanting c)) h.does) (alike (wanting c) h.does)
+        ∙ (runs_is w s there leaves w.history.past (reverse w.history.past) w.table a (Some (running_as s (wanting c))) (λ k p. refl) (reverse-reverse w.history.past) (running_now w.table (work.Commit (wanting c)) h.does) (alike (wanting c) h.does)
         ∙ ap (λ (b : Bool). record (state_of w) { running = with_session (state_of w).running s (Some (record (running_as s (wanting c)) { committed = b })) }) (sym (ap is_past h.going)))
 
-    ends_so : (y : Work) (o : StepOut) → EndsSo c y o → (running_of s y ≡ None) × SameReaders (work.Commit c) y
-    ends_so y (answers.Went kind.Finish) h = (ap (running_of s) h.1, same_readers (work.Commit c) y (work.Commit c) (work.Move c.revision) refl h.1 (refl, refl))
-    ends_so y (answers.Ready (ends.Commit e)) h = (ap (running_of s) h.2, same_readers (work.Commit c) y (work.Commit c) work.Rest refl h.2 (refl, refl))
+    ends_so : (y : Work) (o : StepOut) → EndsSo c y o → (running_of w.table s y ≡ None) × SameReaders (work.Commit c) y
+    ends_so y (answers.Went kind.Finish) h = (ap (running_of w.table s) h.1, same_readers (work.Commit c) y (work.Commit c) (work.Move c.revision) refl h.1 (refl, refl))
+    ends_so y (answers.Ready (ends.Commit e)) h = (ap (running_of w.table s) h.2, same_readers (work.Commit c) y (work.Commit c) work.Rest refl h.2 (refl, refl))
     ends_so y _ h = absurd h
 
     ended : (o : StepOut) → q ≡ parts_ended node (parts_at w s) c.revision → EndsSo c v o → now ≡ after_finish (state_of w) s (running_as s c)
     ended o same h =
         let quiet = ends_so v o h in
         ap (λ (p : Parts). state_of (with_parts w s p a)) same
-        ∙ ended_is w s there c.revision a (ap (running_of s) does ∙ quiet.0) (same_readers (work_in w.actors s) a.work (work.Commit c) v here does quiet.1)
+        ∙ ended_is w s there leaves c.revision a (ap (running_of w.table s) does ∙ quiet.0) (same_readers (work_in w.actors s) a.work (work.Commit c) v here does quiet.1)
 
     commit_makes : (o : StepOut) → CommitsOn s node (parts_at w s) c q v o → MakesCommit s (state_of w) c now v o
     commit_makes o (inl h) = inr (inl (h.0, ended o h.1 h.2, h.2))
@@ -194,7 +207,11 @@ module _ {L : Type 0} (w : WorldOf L) (s : ℕ) (there : s < length w.actors) (q
 
   module _ (k : Upkeep) (here : work_in w.actors s ≡ work.Upkeep k) where
     nothing : q ≡ parts_at w s → v ≡ work.Rest → now ≡ state_of w
-    nothing same rest = still (work.Upkeep k) work.Rest here rest refl (refl, refl) same
+    nothing same rest = still (work.Upkeep k) work.Rest here rest (λ t. refl) (refl, refl) same
+
+    -- what a background write tells is a node's document
+    told_previous : (b : BackWrite) (p : Path) → IsPathDue b p → SamePrevious w.table (after_ask w.table (publishing.due b))
+    told_previous b p told = both_previous w.table (after_update w.table (publishing.back_op p b.upto)) (after_ask w.table (publishing.due b)) (update_previous w.table (publishing.back_op p b.upto) refl) (told_table w.table b p told)
 
     publishes : (b : BackWrite) (o : StepOut) → PublishesOn s node (parts_at w s) b q v o → MakesBackWrite s (state_of w) b now v o
     publishes b (answers.Went kind.Back) h =
@@ -203,7 +220,7 @@ module _ {L : Type 0} (w : WorldOf L) (s : ℕ) (there : s < length w.actors) (q
           h.0,
           p.0,
           (p.1).asks,
-          sets (work.Upkeep k) (work.Upkeep (upkeep.Publish (published_on w.table b))) here h.2 refl (refl, refl) (event.Went s kind.Back) (after_ask w.table (publishing.due b)) h.1
+          sets (work.Upkeep k) (work.Upkeep (upkeep.Publish (published_on w.table b))) here h.2 (λ t. refl) (refl, refl) (event.Went s kind.Back) (after_ask w.table (publishing.due b)) (told_previous b p.0 p.1) h.1
               ∙ ap (λ (t : Table). record (state_of w) { past = event.Went s kind.Back ∷ w.history.past; table = t }) (told_table w.table b p.0 p.1),
           h.2 ∙ ap (λ (c : BackWrite). work.Upkeep (upkeep.Publish c)) goes,
         )
@@ -211,7 +228,7 @@ module _ {L : Type 0} (w : WorldOf L) (s : ℕ) (there : s < length w.actors) (q
         let root = root_due b h.0 in (
           h.0,
           h.1,
-          sets (work.Upkeep k) work.Rest here h.3 refl (refl, refl) (event.Out node b.upto) (after_ask w.table (publishing.due b)) h.2
+          sets (work.Upkeep k) work.Rest here h.3 (λ t. refl) (refl, refl) (event.Out node b.upto) (after_ask w.table (publishing.due b)) (told_previous b [] root) h.2
               ∙ ap (λ (t : Table). record (state_of w) { past = event.Out node b.upto ∷ w.history.past; table = t }) (told_table w.table b [] root),
           h.3,
         )
@@ -225,46 +242,46 @@ module _ {L : Type 0} (w : WorldOf L) (s : ℕ) (there : s < length w.actors) (q
     learns : (b : BackRead) (o : StepOut) → LearnsOn s node (parts_at w s) b q v o → MakesBackRead s (state_of w) b now v o
     learns b (answers.Went kind.Back) h = (
       h.0,
-      sets (work.Upkeep k) (work.Upkeep (upkeep.Read (learned_on w.table b))) here h.2 refl (refl, refl) (event.Went s kind.Back) (after_ask w.table (learning.due b)) h.1
+      sets (work.Upkeep k) (work.Upkeep (upkeep.Read (learned_on w.table b))) here h.2 (λ t. refl) (refl, refl) (event.Went s kind.Back) (after_ask w.table (learning.due b)) (same_previous w.table (after_ask w.table (learning.due b)) (read_table w.table b h.0)) h.1
           ∙ ap (λ (t : Table). record (state_of w) { past = event.Went s kind.Back ∷ w.history.past; table = t }) (read_table w.table b h.0),
       h.2 ∙ ap (λ (c : BackRead). work.Upkeep (upkeep.Read c)) (reads_on w.table b h.0),
     )
     learns b (answers.Ready (ends.Learnt u)) h =
-        (h.0, h.1, tells (work.Upkeep k) work.Rest here h.3 refl (refl, refl) (event.In node (learned memory b.last b.sweep).head) (learned memory b.last b.sweep) h.2, h.3)
+        (h.0, h.1, tells (work.Upkeep k) work.Rest here h.3 (λ t. refl) (refl, refl) (event.In node (learned memory b.last b.sweep).head) (learned memory b.last b.sweep) h.2, h.3)
     learns b answers.Memory h = (nothing h.0 h.1, h.1)
     learns b _ h = absurd h
 
   upkeep_makes : (k : Upkeep) → work_in w.actors s ≡ work.Upkeep k → (o : StepOut) → KeepsUp s node (parts_at w s) k q v o → MakesUpkeep s (state_of w) k now v o
-  upkeep_makes upkeep.Write here (answers.Went kind.Back) h = (h.0, h.1, tells (work.Upkeep upkeep.Write) (work.Upkeep (upkeep.Noted h.0)) here h.3 refl (refl, refl) (event.Went s kind.Back) (without_seen memory) h.2, h.3)
-  upkeep_makes upkeep.Write here answers.Memory h = (still (work.Upkeep upkeep.Write) work.Rest here h.1 refl (refl, refl) h.0, h.1)
+  upkeep_makes upkeep.Write here (answers.Went kind.Back) h = (h.0, h.1, tells (work.Upkeep upkeep.Write) (work.Upkeep (upkeep.Noted h.0)) here h.3 (λ t. refl) (refl, refl) (event.Went s kind.Back) (without_seen memory) h.2, h.3)
+  upkeep_makes upkeep.Write here answers.Memory h = (still (work.Upkeep upkeep.Write) work.Rest here h.1 (λ t. refl) (refl, refl) h.0, h.1)
   upkeep_makes upkeep.Write here _ h = absurd h
   upkeep_makes (upkeep.Noted n) here o h = publishes_first (upkeep.Noted n) here n o h
   upkeep_makes (upkeep.Publish b) here o h = publishes (upkeep.Publish b) here b o h
   upkeep_makes (upkeep.Read b) here o h = learns (upkeep.Read b) here b o h
-  upkeep_makes (upkeep.Checkpoint i) here (answers.Ready (ends.Set None)) h = (h.0, h.1, sets (work.Upkeep (upkeep.Checkpoint i)) work.Rest here h.3 refl (refl, refl) (event.Checkpoint i (h.0).base) (after_update w.table (setting_op (change.Checkpoint i h.0))) h.2, h.3)
-  upkeep_makes (upkeep.Checkpoint i) here answers.Memory h = (still (work.Upkeep (upkeep.Checkpoint i)) work.Rest here h.1 refl (refl, refl) h.0, h.1)
+  upkeep_makes (upkeep.Checkpoint i) here (answers.Ready (ends.Set None)) h = (h.0, h.1, sets (work.Upkeep (upkeep.Checkpoint i)) work.Rest here h.3 (λ t. refl) (refl, refl) (event.Checkpoint i (h.0).base) (after_update w.table (setting_op (change.Checkpoint i h.0))) (update_previous w.table (setting_op (change.Checkpoint i h.0)) refl) h.2, h.3)
+  upkeep_makes (upkeep.Checkpoint i) here answers.Memory h = (still (work.Upkeep (upkeep.Checkpoint i)) work.Rest here h.1 (λ t. refl) (refl, refl) h.0, h.1)
   upkeep_makes (upkeep.Checkpoint i) here _ h = absurd h
-  upkeep_makes (upkeep.Release i) here (answers.Ready (ends.Set None)) h = (h.0, sets (work.Upkeep (upkeep.Release i)) work.Rest here h.2 refl (refl, refl) (event.Release i) (after_update w.table (setting_op (change.Release i))) h.1, h.2)
-  upkeep_makes (upkeep.Release i) here (answers.Ready ends.NoCheckpoint) h = (h.0, sets (work.Upkeep (upkeep.Release i)) work.Rest here h.2 refl (refl, refl) (event.Went s kind.Settings) (after_update w.table (setting_op (change.Release i))) h.1, h.2)
-  upkeep_makes (upkeep.Release i) here answers.Memory h = (still (work.Upkeep (upkeep.Release i)) work.Rest here h.1 refl (refl, refl) h.0, h.1)
+  upkeep_makes (upkeep.Release i) here (answers.Ready (ends.Set None)) h = (h.0, sets (work.Upkeep (upkeep.Release i)) work.Rest here h.2 (λ t. refl) (refl, refl) (event.Release i) (after_update w.table (setting_op (change.Release i))) (update_previous w.table (setting_op (change.Release i)) refl) h.1, h.2)
+  upkeep_makes (upkeep.Release i) here (answers.Ready ends.NoCheckpoint) h = (h.0, sets (work.Upkeep (upkeep.Release i)) work.Rest here h.2 (λ t. refl) (refl, refl) (event.Went s kind.Settings) (after_update w.table (setting_op (change.Release i))) (update_previous w.table (setting_op (change.Release i)) refl) h.1, h.2)
+  upkeep_makes (upkeep.Release i) here answers.Memory h = (still (work.Upkeep (upkeep.Release i)) work.Rest here h.1 (λ t. refl) (refl, refl) h.0, h.1)
   upkeep_makes (upkeep.Release i) here _ h = absurd h
-  upkeep_makes (upkeep.Attach i) here (answers.Ready (ends.Set (Some pin))) h = (h.0, sets (work.Upkeep (upkeep.Attach i)) work.Rest here h.2 refl (refl, refl) (event.Attach s i) (after_update w.table (setting_op (change.Attach s i))) h.1, h.2)
-  upkeep_makes (upkeep.Attach i) here (answers.Ready ends.NoCheckpoint) h = (h.0, sets (work.Upkeep (upkeep.Attach i)) work.Rest here h.2 refl (refl, refl) (event.Went s kind.Settings) (after_update w.table (setting_op (change.Attach s i))) h.1, h.2)
-  upkeep_makes (upkeep.Attach i) here answers.Memory h = (still (work.Upkeep (upkeep.Attach i)) work.Rest here h.1 refl (refl, refl) h.0, h.1)
+  upkeep_makes (upkeep.Attach i) here (answers.Ready (ends.Set (Some pin))) h = (h.0, sets (work.Upkeep (upkeep.Attach i)) work.Rest here h.2 (λ t. refl) (refl, refl) (event.Attach s i) (after_update w.table (setting_op (change.Attach s i))) (update_previous w.table (setting_op (change.Attach s i)) refl) h.1, h.2)
+  upkeep_makes (upkeep.Attach i) here (answers.Ready ends.NoCheckpoint) h = (h.0, sets (work.Upkeep (upkeep.Attach i)) work.Rest here h.2 (λ t. refl) (refl, refl) (event.Went s kind.Settings) (after_update w.table (setting_op (change.Attach s i))) (update_previous w.table (setting_op (change.Attach s i)) refl) h.1, h.2)
+  upkeep_makes (upkeep.Attach i) here answers.Memory h = (still (work.Upkeep (upkeep.Attach i)) work.Rest here h.1 (λ t. refl) (refl, refl) h.0, h.1)
   upkeep_makes (upkeep.Attach i) here _ h = absurd h
-  upkeep_makes upkeep.Detach here (answers.Went kind.Pin) h = (tells (work.Upkeep upkeep.Detach) (work.Upkeep (upkeep.Detaching (pin_now memory))) here h.1 refl (refl, refl) (event.Refresh s memory.head) (with_pin memory s (pin_now memory)) h.0, h.1)
-  upkeep_makes upkeep.Detach here answers.Memory h = (still (work.Upkeep upkeep.Detach) work.Rest here h.1 refl (refl, refl) h.0, h.1)
+  upkeep_makes upkeep.Detach here (answers.Went kind.Pin) h = (tells (work.Upkeep upkeep.Detach) (work.Upkeep (upkeep.Detaching (pin_now memory))) here h.1 (λ t. refl) (refl, refl) (event.Refresh s memory.head) (with_pin memory s (pin_now memory)) h.0, h.1)
+  upkeep_makes upkeep.Detach here answers.Memory h = (still (work.Upkeep upkeep.Detach) work.Rest here h.1 (λ t. refl) (refl, refl) h.0, h.1)
   upkeep_makes upkeep.Detach here _ h = absurd h
-  upkeep_makes (upkeep.Detaching pin) here (answers.Ready (ends.Pinned o)) h = (h.0, sets (work.Upkeep (upkeep.Detaching pin)) work.Rest here h.2 refl (refl, refl) (event.Detach s) (after_update w.table (setting_op (change.Detach s))) h.1, h.2)
-  upkeep_makes (upkeep.Detaching pin) here answers.Memory h = (still (work.Upkeep (upkeep.Detaching pin)) work.Rest here h.1 refl (refl, refl) h.0, h.1)
+  upkeep_makes (upkeep.Detaching pin) here (answers.Ready (ends.Pinned o)) h = (h.0, sets (work.Upkeep (upkeep.Detaching pin)) work.Rest here h.2 (λ t. refl) (refl, refl) (event.Detach s) (after_update w.table (setting_op (change.Detach s))) (update_previous w.table (setting_op (change.Detach s)) refl) h.1, h.2)
+  upkeep_makes (upkeep.Detaching pin) here answers.Memory h = (still (work.Upkeep (upkeep.Detaching pin)) work.Rest here h.1 (λ t. refl) (refl, refl) h.0, h.1)
   upkeep_makes (upkeep.Detaching pin) here _ h = absurd h
-  upkeep_makes upkeep.Observe here (answers.Ready (ends.Pinned pin)) h = (h.0, tells (work.Upkeep upkeep.Observe) work.Rest here h.2 refl (refl, refl) (event.Went s kind.Pin) (with_pin memory (cursor_owner s) pin) h.1, h.2)
-  upkeep_makes upkeep.Observe here answers.Memory h = (still (work.Upkeep upkeep.Observe) work.Rest here h.1 refl (refl, refl) h.0, h.1)
+  upkeep_makes upkeep.Observe here (answers.Ready (ends.Pinned pin)) h = (h.0, tells (work.Upkeep upkeep.Observe) work.Rest here h.2 (λ t. refl) (refl, refl) (event.Went s kind.Pin) (with_pin memory (cursor_owner s) pin) h.1, h.2)
+  upkeep_makes upkeep.Observe here answers.Memory h = (still (work.Upkeep upkeep.Observe) work.Rest here h.1 (λ t. refl) (refl, refl) h.0, h.1)
   upkeep_makes upkeep.Observe here _ h = absurd h
 
   -- ---- all
 
-  pub makes : (u : Work) → work_in w.actors s ≡ u → (u ≡ work.Rest → ⊥) → ((c : Committing) → u ≡ work.Commit c → c.roots ≡ map (λ (f : Met). root_of w.history.past f.other) c.writer.due)
+  pub makes : (u : Work) → work_in w.actors s ≡ u → (u ≡ work.Rest → ⊥) → ((c : Committing) → u ≡ work.Commit c → ((once_looked w.table c).roots ≡ map (λ (f : Met). root_of w.history.past f.other) (once_looked w.table c).writer.due) × ((k : Look) → c.looking ≡ Some k → IsLooking c k))
       → (o : StepOut) → Steps s node (parts_at w s) u q v o → MakesState s (state_of w) u now v o
   makes work.Rest here busy roots o h = absurd (busy refl)
   makes work.Login here busy roots o h = login_makes here o h
@@ -273,6 +290,6 @@ module _ {L : Type 0} (w : WorldOf L) (s : ℕ) (there : s < length w.actors) (q
   makes (work.Read r) here busy roots o h = read_makes r here o h
   makes (work.Changes r) here busy roots o h = changes_make r here o h
   makes (work.Plan edit marks) here busy roots o h = plan_makes edit marks here o h
-  makes (work.Commit c) here busy roots o h = commit_makes c here (roots c refl) o h
+  makes (work.Commit c) here busy roots o h = commit_makes c here (roots c refl).0 (roots c refl).1 o h
   makes (work.Upkeep k) here busy roots o h = upkeep_makes k here o h
   makes (work.Move r) here busy roots o h = move_makes r here o h

@@ -10,13 +10,14 @@ use Rattle.oak_machine.specs.Laws.{AreOthers, Says, Starts, after, is_event_of}
 use Rattle.oak_machine.specs.Sessions.{is_attached, is_stopped, is_stopped_under}
 use Rattle.oak_machine.specs.Steps.{is_kind, step_number, where_test}
 use Rattle.core_world.specs.Kept.{IsKept}
-use Rattle.core_world.specs.States.{State, history_in, listed_at}
+use Rattle.core_world.specs.States.{State, history_in}
 use Rattle.core_world.proofs.Flights.{number_itself, other_number, same_number}
 use Rattle.oak_port.specs.declared.task.StepOut.{StepOut}
 use Rattle.oak_port.specs.declared.task.StepOut.TheVariants as answers
 use Rattle.oak_port.specs.Ports.{AreOfStep, Makes as Tells, is_by_due}
 use Rattle.oak_step.specs.declared.work.Work.{Work}
 use Rattle.oak_world.specs.Kept.{May}
+use Rattle.oak_world.proofs.Looking.{SamePrevious}
 use Rattle.oak_world.specs.Seen.{shown_work}
 use Rattle.oak_step.specs.Works.{kind_due}
 use Rattle.oak_world.specs.Steps.{attached_after, attaching, is_made}
@@ -26,11 +27,11 @@ pub record IsStepOf (starts : Starts) (says : Says) (s : ℕ) (w : State) (v : W
   pub own : Past
   pub grown : history_in u ≡ after own (history_in w)
   pub kept : IsKept starts says u
-  pub may : May starts (after own (history_in w)) s x
+  pub may : May starts u.table (after own (history_in w)) s x
   pub apart : (q : ℕ) → (q == s) ≡ false → AreOthers q own w.past
   pub attached : attached_after v o (is_attached w.past s) ≡ is_attached (own ++ w.past) s
   pub unstopped : (k : ℕ) → is_stopped w.past k ≡ false → is_stopped (own ++ w.past) k ≡ false
-  pub same : listed_at u.table ≡ listed_at w.table
+  pub same : SamePrevious w.table u.table
   pub tells : Tells (history_in w) s (shown_work v) o own (shown_work x)
   pub of_step : AreOfStep (history_in w) s (shown_work v) o own
   pub as_due : is_by_due (kind_due v) own ≡ true

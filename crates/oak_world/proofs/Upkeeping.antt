@@ -1,5 +1,5 @@
 -- The steps of background work and on the settings, from one state to the next.
-use Rattle.core_world.proofs.Unsplit.{back_lists, settings_lists}
+use Rattle.oak_world.proofs.Looking.{update_previous}
 use Rattle.std.proofs.Common.{◌≡◌, ℕ, Bool, true, false, cond, ◌&&◌, Option, Some, None, [], ◌∷◌, inl, inr, is_some, refl, sym, ap, subst, ◌∙◌}
 use Rattle.std.specs.Prelude.{◌==◌, IsSome, length, slice_get}
 use Rattle.std.specs.BTreeMap.{is_at}
@@ -32,7 +32,8 @@ use Rattle.core_heads.proofs.Orders.{at_most_itself}
 use Rattle.core_nodes.specs.Nodes.{IsMemoryOf, base_of_pin, cursor_owner}
 use Rattle.core_world.specs.Kept.{IsKept, WereOnRoot}
 use Rattle.core_world.specs.States.{State, history_in, memory_of, node_of, nodes_in}
-use Rattle.core_world.specs.Steps.{after_attach, after_back, after_checkpoint, after_detach, after_learn, after_observe, after_out, after_pending, after_refresh, after_release, after_unfound, after_went}
+use Rattle.core_world.specs.Steps.{after_attach, after_back, after_checkpoint, after_detach, after_learn, after_observe, after_out, after_pending, after_refresh, after_release, after_unfound, after_went, setting_op}
+use Rattle.oak_sync.specs.Publishing.{back_op}
 use Rattle.core_world.proofs.Backs.{heard, own_entry_is, told_now}
 use Rattle.core_world.proofs.Draws.{base_is}
 use Rattle.core_world.proofs.Flights.{number_itself}
@@ -88,7 +89,7 @@ module _ (starts : Starts) (says : Says) (proper : StartsProper starts) (w : Sta
 
   -- memory was refused
   refused_step : (k : Upkeep) → Tells (history_in w) s (shown_upkeep k) answers.Memory [] Idle → (u : State) (x : Work) → u ≡ w → x ≡ work.Rest → StepOf (work.Upkeep k) u x answers.Memory
-  refused_step k tells u x same is = at_those (work.Upkeep k) answers.Memory w work.Rest u x same is (record { own = []; grown = refl; kept = kept; may = tt; apart = λ q m. refl; attached = refused_stays (work.Upkeep k) (is_attached w.past s); unstopped = λ q m. m; same = refl; tells = tells; of_step = refl; as_due = refl })
+  refused_step k tells u x same is = at_those (work.Upkeep k) answers.Memory w work.Rest u x same is (record { own = []; grown = refl; kept = kept; may = tt; apart = λ q m. refl; attached = refused_stays (work.Upkeep k) (is_attached w.past s); unstopped = λ q m. m; same = λ i q. refl; tells = tells; of_step = refl; as_due = refl })
 
   module _ (come : IsPresent (history_in w) s) (few : slice_get w.sessions (cursor_owner s) ≡ None) (unobserved : w.observing s ≡ None) (idle : w.running s ≡ None) (unread : w.reading s ≡ None) where
     -- ---- a background write
@@ -102,7 +103,7 @@ module _ (starts : Starts) (says : Says) (proper : StartsProper starts) (w : Sta
       apart = apart_one w.past s (event.Went s kind.Back) (λ q m. flipped q s m);
       attached = refl;
       unstopped = λ q k. k;
-      same = refl;
+      same = λ i q. refl;
       tells = (node_of w s, on, refl, refl, ap Publishing upto_is);
       of_step = kind_told kind.Back (s == s && true) (with_true (s == s) (number_itself s));
       as_due = refl;
@@ -141,7 +142,7 @@ module _ (starts : Starts) (says : Says) (proper : StartsProper starts) (w : Sta
         apart = apart_one w.past s (event.Went s kind.Back) (λ q m. flipped q s m);
         attached = still (answers.Went kind.Back);
         unstopped = λ q k. k;
-        same = back_lists w.table p b.upto;
+        same = update_previous w.table (back_op p b.upto) refl;
         tells = subst (λ (y : Shows). Tells (history_in w) s y (answers.Went kind.Back) (event.Went s kind.Back ∷ []) (Publishing b.upto)) (sym shown) (refl, refl, refl);
         of_step = kind_told kind.Back (s == s && true) (with_true (s == s) (number_itself s));
         as_due = refl;
@@ -159,14 +160,14 @@ module _ (starts : Starts) (says : Says) (proper : StartsProper starts) (w : Sta
         apart = apart_one w.past s (event.Out (node_of w s) b.upto) (λ q m. refl);
         attached = still (answers.Ready (ends.Published b.upto));
         unstopped = λ q k. k;
-        same = back_lists w.table [] b.upto;
+        same = update_previous w.table (back_op [] b.upto) refl;
         tells = subst (λ (y : Shows). Tells (history_in w) s y (answers.Ready (ends.Published b.upto)) (event.Out (node_of w s) b.upto ∷ []) Idle) (sym shown) (node_of w s, on, refl, refl, refl);
         of_step = subst (λ (y : Shows). AreOfStep (history_in w) s y (answers.Ready (ends.Published b.upto)) (event.Out (node_of w s) b.upto ∷ [])) (sym shown) (kind_told kind.Back (is_on (history_in w) s (node_of w s)) is_mine);
         as_due = refl;
       }
 
       still_step : (u : State) (x : Work) → u ≡ w → x ≡ work.Rest → StepOf v u x answers.Memory
-      still_step u x same is = at_those v answers.Memory w work.Rest u x same is (record { own = []; grown = refl; kept = kept; may = tt; apart = λ q m. refl; attached = refused_stays v (is_attached w.past s); unstopped = λ q m. m; same = refl; tells = subst (λ (y : Shows). Tells (history_in w) s y answers.Memory [] Idle) (sym shown) (refl, refl); of_step = refl; as_due = refl })
+      still_step u x same is = at_those v answers.Memory w work.Rest u x same is (record { own = []; grown = refl; kept = kept; may = tt; apart = λ q m. refl; attached = refused_stays v (is_attached w.past s); unstopped = λ q m. m; same = λ i q. refl; tells = subst (λ (y : Shows). Tells (history_in w) s y answers.Memory [] Idle) (sym shown) (refl, refl); of_step = refl; as_due = refl })
 
       publish_step : (u : State) (x : Work) (o : StepOut) → MakesBackWrite s w b u x o → StepOf v u x o
       publish_step u x (answers.Went kind.Back) m =
@@ -203,7 +204,7 @@ module _ (starts : Starts) (says : Says) (proper : StartsProper starts) (w : Sta
             apart = apart_one w.past s (event.Went s kind.Back) (λ q m. flipped q s m);
             attached = refl;
             unstopped = λ q k. k;
-            same = refl;
+            same = λ i q. refl;
             tells = subst (λ (y : Shows). Tells (history_in w) s y (answers.Went kind.Back) (event.Went s kind.Back ∷ []) (Learning d.last_rev)) (sym (ap (shown_read b) at)) (d.last_rev, told.public, refl, refl, refl);
             of_step = kind_told kind.Back (s == s && true) (with_true (s == s) (number_itself s));
             as_due = refl;
@@ -218,7 +219,7 @@ module _ (starts : Starts) (says : Says) (proper : StartsProper starts) (w : Sta
         apart = apart_one w.past s (event.In (node_of w s) (learned (memory_of w s) b.last b.sweep).head) (λ q m. refl);
         attached = refl;
         unstopped = λ q k. k;
-        same = refl;
+        same = λ i q. refl;
         tells = subst (λ (y : Shows). Tells (history_in w) s y (answers.Ready (ends.Learnt (learned (memory_of w s) b.last b.sweep).head)) (event.In (node_of w s) (learned (memory_of w s) b.last b.sweep).head ∷ []) Idle) (sym (ap (shown_read b) at)) (node_of w s, on, λ r seen. heard starts says proper w (layers_of starts says w kept) s come.login b.last b.sweep were r seen, refl, refl);
         of_step = subst (λ (y : Shows). AreOfStep (history_in w) s y (answers.Ready (ends.Learnt (learned (memory_of w s) b.last b.sweep).head)) (event.In (node_of w s) (learned (memory_of w s) b.last b.sweep).head ∷ [])) (sym (ap (shown_read b) at)) (kind_told kind.Learn (is_on (history_in w) s (node_of w s)) is_mine);
         as_due = refl;
@@ -253,7 +254,7 @@ module _ (starts : Starts) (says : Says) (proper : StartsProper starts) (w : Sta
       apart = apart_one w.past s (event.Checkpoint i pin.base) (λ q m. refl);
       attached = refl;
       unstopped = λ q k. k;
-      same = settings_lists w.table (change.Checkpoint i pin);
+      same = update_previous w.table (setting_op (change.Checkpoint i pin)) refl;
       tells = (pin.base, base_is starts says proper w kept.sessions s (node_alive starts says proper w kept.sessions s there on_now) come.login come.stays detached ∙ ap (λ (o : Option Pin). Some (option_map_or (λ (p : Pin). p.base) o (memory_of w s).head)) has, refl, refl);
       of_step = refl;
       as_due = refl;
@@ -279,7 +280,7 @@ module _ (starts : Starts) (says : Says) (proper : StartsProper starts) (w : Sta
       apart = apart_one w.past s (event.Release i) (λ q m. refl);
       attached = refl;
       unstopped = λ q k. k;
-      same = settings_lists w.table (change.Release i);
+      same = update_previous w.table (setting_op (change.Release i)) refl;
       tells = (refl, refl);
       of_step = refl;
       as_due = refl;
@@ -296,7 +297,7 @@ module _ (starts : Starts) (says : Says) (proper : StartsProper starts) (w : Sta
           apart = apart_one w.past s (event.Went s kind.Settings) (λ q m. flipped q s m);
           attached = refl;
           unstopped = λ q k. k;
-          same = settings_lists w.table (change.Release i);
+          same = update_previous w.table (setting_op (change.Release i)) refl;
           tells = (gone, refl, refl);
           of_step = kind_told kind.Settings (s == s && true) (with_true (s == s) (number_itself s));
           as_due = refl;
@@ -315,7 +316,7 @@ module _ (starts : Starts) (says : Says) (proper : StartsProper starts) (w : Sta
           apart = apart_one w.past s (event.Attach s i) (λ q m. flipped q s m);
           attached = chosen s true (is_attached w.past s);
           unstopped = λ q k. k;
-          same = settings_lists w.table (change.Attach s i);
+          same = update_previous w.table (setting_op (change.Attach s i)) refl;
           tells = (there_is, refl, refl);
           of_step = kind_told kind.Settings (s == s) (number_itself s);
           as_due = refl;
@@ -332,7 +333,7 @@ module _ (starts : Starts) (says : Says) (proper : StartsProper starts) (w : Sta
           apart = apart_one w.past s (event.Went s kind.Settings) (λ q m. flipped q s m);
           attached = refl;
           unstopped = λ q k. k;
-          same = settings_lists w.table (change.Attach s i);
+          same = update_previous w.table (setting_op (change.Attach s i)) refl;
           tells = (gone, refl, refl);
           of_step = kind_told kind.Settings (s == s && true) (with_true (s == s) (number_itself s));
           as_due = refl;
@@ -350,7 +351,7 @@ module _ (starts : Starts) (says : Says) (proper : StartsProper starts) (w : Sta
       apart = apart_one w.past s (event.Refresh s (memory_of w s).head) (λ q m. flipped q s m);
       attached = chosen s false (is_attached w.past s);
       unstopped = λ q k. k;
-      same = refl;
+      same = λ i q. refl;
       tells = ((memory_of w s).head, refl, refl, refl);
       of_step = kind_told kind.Pin (s == s) (number_itself s);
       as_due = refl;
@@ -366,7 +367,7 @@ module _ (starts : Starts) (says : Says) (proper : StartsProper starts) (w : Sta
       apart = apart_one w.past s (event.Detach s) (λ q m. flipped q s m);
       attached = refl;
       unstopped = λ q k. k;
-      same = settings_lists w.table (change.Detach s);
+      same = update_previous w.table (setting_op (change.Detach s)) refl;
       tells = (refl, refl, refl);
       of_step = kind_told kind.Settings (s == s) (number_itself s);
       as_due = refl;
@@ -383,7 +384,7 @@ module _ (starts : Starts) (says : Says) (proper : StartsProper starts) (w : Sta
       apart = apart_one w.past s (event.Went s kind.Pin) (λ q m. flipped q s m);
       attached = refl;
       unstopped = λ q k. k;
-      same = refl;
+      same = λ i q. refl;
       tells = (base_is starts says proper w kept.sessions s (node_alive starts says proper w kept.sessions s there on_now) come.login come.stays detached ∙ ap (λ (o : Option Pin). Some (option_map_or (λ (p : Pin). p.base) o (memory_of w s).head)) has, refl, refl);
       of_step = kind_told kind.Pin (s == s && true) (with_true (s == s) (number_itself s));
       as_due = refl;

@@ -1,5 +1,5 @@
 -- What a step of a session keeps, and what the session is told by it.
-use Rattle.core_world.proofs.Unsplit.{last_lists, mark_lists, undoing_lists, want_lists, write_lists}
+use mathlib.Core.Bool.{false≢true}
 use Rattle.std.proofs.Common.{◌≡◌, ◌⊎◌, inl, inr, ℕ, Bool, true, false, cond, not, ◌&&◌, Option, Some, None, List, [], ◌∷◌, ◌++◌, map, drop, is_some, refl, sym, ap, subst, ◌∙◌}
 use Rattle.std.specs.Prelude.{◌==◌, slice_get, reverse}
 use Rattle.std.specs.List.{list_any}
@@ -22,16 +22,18 @@ use Rattle.oak_changes.specs.Reading as changes
 use Rattle.oak_clash.specs.declared.mark.MarkAt.{MarkAt}
 use Rattle.oak_clash.specs.Clashes.{commit_root, marked_paths}
 use Rattle.oak_commit.specs.Clashing.{Met, found, mark_op}
-use Rattle.oak_commit.specs.Committing.{Committing, begun, is_past, refused, roots_in, wanting, with_undone, written_alone}
+use Rattle.oak_commit.specs.Committing.{Committing, begun, is_past, refused, roots_in, wanting, with_undone, written}
 use Rattle.oak_commit.specs.Kept.{undoes}
 use Rattle.oak_commit.specs.Stages.{stage_of}
 use Rattle.oak_commit.specs.declared.outcome.CommitEnd.{CommitEnd}
 use Rattle.oak_commit.specs.declared.outcome.CommitEnd.TheVariants as end
 use Rattle.oak_commit.specs.declared.stage.Stage.{Stage}
 use Rattle.oak_commit.specs.declared.stage.Stage.TheVariants as stage
-use Rattle.oak_commit.specs.Writing.{last_op}
+use Rattle.oak_commit.specs.Looking.{whole}
+use Rattle.oak_commit.specs.Writing.{last_op, write_op}
+use Rattle.oak_commit.specs.declared.look.Look.{Look}
 use Rattle.oak_doc.specs.Updates.{updated}
-use Rattle.oak_store.specs.Tables.{next_number}
+use Rattle.oak_store.specs.Tables.{Table, next_number}
 use Rattle.oak_doc.specs.declared.document.Document.{Document}
 use Rattle.oak_doc.specs.declared.update.OpFault.{OpFault}
 use Rattle.oak_doc.specs.declared.update.OpFault.TheVariants as fault
@@ -77,29 +79,30 @@ use Rattle.core_watch.specs.Moments.{IsReaderFor}
 use Rattle.core_watch.specs.Standing.{path_read}
 use Rattle.core_watch.proofs.Moments.{fed_keeps}
 use Rattle.core_world.specs.Kept.{IsKept}
-use Rattle.core_world.specs.States.{State, base_in, history_in, memory_at, memory_of, node_of, nodes_in, with_session}
+use Rattle.core_world.specs.States.{State, base_in, history_in, memory_at, memory_of, moved_in, node_of, nodes_in, with_session}
 use Rattle.core_world.specs.Steps.{IsThrough, after_draw, after_finish, after_last, after_leave, after_login, after_mark, after_refresh, after_undoing, after_want, after_write, after_write_in_want, draw_in, lasted_by, marked_by, with_observer, with_reader}
 use Rattle.core_world.proofs.Commits.{its, on_its_node}
 use Rattle.core_world.proofs.Flights.{number_itself}
 use Rattle.core_world.proofs.Lives.{its_head}
 use Rattle.core_world.proofs.Loads.{children_given, node_given}
 use Rattle.core_world.proofs.Readers.{live_is}
-use Rattle.core_world.proofs.Truths.{met_here}
+use Rattle.core_world.proofs.Truths.{met_rooted}
 use Rattle.core_world.proofs.Whole.{changes_whole, draw_whole, feed_whole, finish_whole, gone_whole, last_whole, leave_whole, login_whole, mark_whole, read_whole, refresh_whole, undo_whole, unnotice_whole, want_whole, write_in_want_whole, write_whole}
 use Rattle.oak_port.specs.declared.task.StepOut.{StepOut}
 use Rattle.oak_port.specs.declared.task.StepOut.TheVariants as answers
 use Rattle.oak_port.specs.declared.task.Task.TheVariants as task
 use Rattle.oak_port.specs.declared.task.TaskEnd.{TaskEnd}
 use Rattle.oak_port.specs.declared.task.TaskEnd.TheVariants as ends
-use Rattle.oak_port.specs.Ports.{AreOfStep, Awaiting, HoldsBack, Idle, IsFinish, Makes as Tells, Starting, Work as Shows, Writing, is_by_due, is_due, tree_of}
+use Rattle.oak_port.specs.Ports.{AreOfStep, Awaiting, HoldsBack, Idle, IsFinish, Makes as Tells, Starting, Undoing, Work as Shows, Writing, is_by_due, is_due, tree_of}
 use Rattle.oak_step.specs.declared.work.Work.{Work}
 use Rattle.oak_step.specs.declared.work.Work.TheVariants as work
-use Rattle.oak_world.specs.Kept.{IsAtWork, May}
-use Rattle.oak_step.specs.Parts.{EndsSo, changes_on, committed, end_of_reading, mark_made, read_on}
+use Rattle.oak_world.specs.Kept.{IsAtWork, IsLooking, May}
+use Rattle.oak_step.specs.Parts.{EndsSo, changes_on, committed, end_of_reading, fed_previous, mark_made, read_on}
 use Rattle.oak_world.specs.Seen.{shown_by, shown_work, task_of}
 use Rattle.oak_step.specs.Works.{kind_due, kind_of_stage}
-use Rattle.oak_world.specs.Steps.{IsPresent, MakesState, MakesCommit, MakesUpdate}
-use Rattle.oak_world.specs.Worlds.{observing_of, reading_of, running_as, running_of}
+use Rattle.oak_world.specs.Steps.{IsPresent, MakesState, MakesCommit, MakesUpdate, MayUpdate}
+use Rattle.oak_world.specs.Worlds.{observing_of, once_looked, reading_of, running_as, running_of}
+use Rattle.oak_world.proofs.Looking.{SamePrevious, ended_found, ended_written, last_previous, looks_found, looks_written, mark_previous, once_alone, once_found, once_outcome, once_written, outcome_found, outcome_written, revision_found, revision_written, undo_previous, update_previous, want_same, whole_rooted}
 use Rattle.oak_step.proofs.Feeding.{stage_last, stage_mark, stage_write}
 use Rattle.oak_step.proofs.Stages.{finish_stage}
 use Rattle.oak_world.proofs.Pinning.{pin_base}
@@ -228,7 +231,7 @@ module _ (starts : Starts) (says : Says) (proper : StartsProper starts) (writes 
     apart = apart_one w.past s (event.Login s (memory_of w s).head) (λ q k. flipped q s k);
     attached = chosen s false (is_attached w.past s);
     unstopped = λ q k. k;
-    same = refl;
+    same = λ i q. refl;
     tells = (ap (λ (p : Pin). event.Login s p.base ∷ []) (sym is), refl);
     of_step = kind_told kind.Login (s == s) (number_itself s);
     as_due = refl;
@@ -243,7 +246,7 @@ module _ (starts : Starts) (says : Says) (proper : StartsProper starts) (writes 
     apart = apart_one w.past s (event.Went s kind.End) (λ q k. flipped q s k);
     attached = refl;
     unstopped = λ q k. k;
-    same = refl;
+    same = λ i q. refl;
     tells = (refl, refl);
     of_step = kind_told kind.End (s == s && true) (with_true (s == s) (number_itself s));
     as_due = refl;
@@ -258,7 +261,7 @@ module _ (starts : Starts) (says : Says) (proper : StartsProper starts) (writes 
     apart = apart_one w.past s (event.Refresh s (memory_of w s).head) (λ q k. flipped q s k);
     attached = chosen s false (is_attached w.past s);
     unstopped = λ q k. k;
-    same = refl;
+    same = λ i q. refl;
     tells = (ap (λ (p : Pin). event.Refresh s p.base ∷ []) (sym is), refl);
     of_step = kind_told kind.Pin (s == s) (number_itself s);
     as_due = refl;
@@ -287,7 +290,7 @@ module _ (starts : Starts) (says : Says) (proper : StartsProper starts) (writes 
     apart = λ q k. refl;
     attached = refl;
     unstopped = λ q k. k;
-    same = refl;
+    same = λ i q. refl;
     tells = (refl, refl, ap (λ (v : RevVec). sees v r) (sym (head_is r on)) ∙ awaits.unseen, held_back r q awaits on);
     of_step = refl;
     as_due = refl;
@@ -302,7 +305,7 @@ module _ (starts : Starts) (says : Says) (proper : StartsProper starts) (writes 
     apart = apart_one w.past s (event.Refresh s (memory_of w s).head) (λ q k. flipped q s k);
     attached = chosen s false (is_attached w.past s);
     unstopped = λ q k. k;
-    same = refl;
+    same = λ i q. refl;
     tells = (ap end.Committed is, ap (λ (v : RevVec). sees v r) (sym (head_is r on)) ∙ seen, (memory_of w s).head, seen, refl, refl);
     of_step = kind_told kind.Pin (s == s) (number_itself s);
     as_due = refl;
@@ -336,7 +339,7 @@ module _ (starts : Starts) (says : Says) (proper : StartsProper starts) (writes 
       apart = λ q k. refl;
       attached = refl;
       unstopped = λ q k. k;
-      same = refl;
+      same = λ i q. refl;
       tells = goes_on r.parent (path_read r) (shown_work (work.Read next)) same_task;
       of_step = refl;
       as_due = refl;
@@ -355,7 +358,7 @@ module _ (starts : Starts) (says : Says) (proper : StartsProper starts) (writes 
       apart = λ q k. refl;
       attached = refl;
       unstopped = λ q k. k;
-      same = refl;
+      same = λ i q. refl;
       tells = gone_tells r.parent (path_read r);
       of_step = refl;
       as_due = refl;
@@ -403,7 +406,7 @@ module _ (starts : Starts) (says : Says) (proper : StartsProper starts) (writes 
         apart = λ q k. refl;
         attached = refl;
         unstopped = λ q k. k;
-        same = refl;
+        same = λ i q. refl;
         tells = given r.parent for_same.same_kind next.step refl gives;
         of_step = last_read r.parent (path_read r);
         as_due = refl;
@@ -431,7 +434,7 @@ module _ (starts : Starts) (says : Says) (proper : StartsProper starts) (writes 
       apart = λ q k. refl;
       attached = refl;
       unstopped = λ q k. k;
-      same = refl;
+      same = λ i q. refl;
       tells = (refl, refl, ap (λ (v : RevVec). Starting (task.Changes v)) then_same.0);
       of_step = refl;
       as_due = refl;
@@ -446,7 +449,7 @@ module _ (starts : Starts) (says : Says) (proper : StartsProper starts) (writes 
       apart = λ q k. refl;
       attached = refl;
       unstopped = λ q k. k;
-      same = refl;
+      same = λ i q. refl;
       tells = (refl, refl);
       of_step = refl;
       as_due = refl;
@@ -475,11 +478,23 @@ module _ (starts : Starts) (says : Says) (proper : StartsProper starts) (writes 
         apart = λ q k. refl;
         attached = refl;
         unstopped = λ q k. k;
-        same = refl;
+        same = λ i q. refl;
         tells = (r.pin.base, own_base, told_is, refl, refl);
         of_step = refl;
         as_due = refl;
       }
+
+  -- a committer that looks at no previous document is at work
+  at_rest : (t : Table) (g : History) (d : Committing) → IsPresent g s → d.ended ≡ false → d.looking ≡ None → d.roots ≡ map (λ (f : Met). root_of g.past f.other) d.writer.due → IsAtWork t g s d
+  at_rest t g d come unended none roots = record {
+    come = come;
+    unended = unended;
+    roots = subst (λ (e : Committing). e.roots ≡ map (λ (f : Met). root_of g.past f.other) e.writer.due) (sym (once_alone t d none)) roots;
+    looks = λ k is. absurd (never d.looking k none is);
+  }
+    where
+      never : (o : Option Look) (k : Look) → o ≡ None → o ≡ Some k → ⊥
+      never o k a b = let e : None ≡ Some k = sym a ∙ b in cc
 
   -- ---- the draw of a commit
 
@@ -489,11 +504,11 @@ module _ (starts : Starts) (says : Says) (proper : StartsProper starts) (writes 
     own = event.Draw (draw_in w s edit marks) ∷ [];
     grown = refl;
     kept = draw_whole starts says proper w kept s edit marks (marked_paths marks) on_now come.login come.stays apart_now idle lawful;
-    may = record { come = record { login = come.login; stays = come.stays }; unended = refl; roots = refl; looked = refl };
+    may = at_rest _ _ (begun (next_draw (memory_of w s)) (base_in w s) edit marks) (record { login = come.login; stays = come.stays }) refl refl refl;
     apart = apart_one w.past s (event.Draw (draw_in w s edit marks)) (λ q k. flipped q s k);
     attached = refl;
     unstopped = λ q k. k;
-    same = refl;
+    same = λ i q. refl;
     tells = (draw_in w s edit marks, record { session = refl; edit_is = refl; marks_are = refl }, refl, refl, refl);
     of_step = kind_told kind.Draw (s == s) (number_itself s);
     as_due = refl;
@@ -501,7 +516,79 @@ module _ (starts : Starts) (says : Says) (proper : StartsProper starts) (writes 
 
   -- ---- a commit
 
-  module _ (c : Committing) (here : w.running s ≡ Some (running_as s c)) (at : IsAtWork h s c) where
+  -- a commit turns to undoing for want of memory, whatever it looks at
+  module _ (c : Committing) (here : w.running s ≡ Some (running_as s (once_looked w.table c))) (at : IsAtWork w.table h s c) (going : c.outcome ≡ None) where
+    -- what is told of one that writes
+    told_writing : (o : StepOut) (own : Past) (y : Shows) → Tells h s (Writing c.revision) o own y → Tells h s (shown_work (work.Commit c)) o own y
+    told_writing o own y t = subst (λ (z : Shows). Tells h s z o own y) (ap (shown_by c.revision) (sym going)) t
+
+    want_kept : IsKept starts says (after_want w s (running_as s c))
+    want_kept = subst (λ (u : State). IsKept starts says u) (want_same w s w.table c)
+        (want_whole starts says proper w kept s (running_as s (once_looked w.table c)) here (ap is_past (once_outcome w.table c ∙ going)) (ap undoes (once_outcome w.table c ∙ going)))
+
+    -- the commit gives up
+    want_step : StepOf (work.Commit c) (after_want w s (running_as s c)) (work.Commit (wanting c)) answers.Memory
+    want_step = record {
+      own = [];
+      grown = refl;
+      kept = want_kept;
+      may = at_rest _ _ (wanting c) at.come at.unended refl refl;
+      apart = λ q k. refl;
+      attached = refl;
+      unstopped = λ q k. k;
+      same = λ i q. refl;
+      tells = told_writing answers.Memory [] (shown_work (work.Commit (wanting c))) (refl, refl);
+      of_step = refl;
+      as_due = refl;
+    }
+
+    -- a previous document is looked at
+    module _ (k : Look) (is : c.looking ≡ Some k) where
+      abbrev found_on : Committing
+      found_on = fed_previous w.table c
+
+      looks : IsLooking c k
+      looks = at.looks k is
+
+      look_step : StepOf (work.Commit c) w (work.Commit found_on) (answers.Went kind.Read)
+      look_step = record {
+        own = [];
+        grown = refl;
+        kept = kept;
+        may = record {
+          come = at.come;
+          unended = ended_found w.table c k is looks ∙ at.unended;
+          roots = subst (λ (e : Committing). e.roots ≡ map (λ (f : Met). root_of w.past f.other) e.writer.due) (sym (once_found w.table c k is looks)) at.roots;
+          looks = looks_found w.table c k is looks;
+        };
+        apart = λ q k. refl;
+        attached = refl;
+        unstopped = λ q k. k;
+        same = λ i q. refl;
+        tells = told_writing (answers.Went kind.Read) [] (shown_work (work.Commit found_on)) (inr (inl (refl, refl, inl (ap (λ (r : Revision). shown_by r found_on.outcome) (revision_found w.table c k is looks) ∙ ap (shown_by c.revision) (outcome_found w.table c k is looks ∙ going)))));
+        of_step = refl;
+        as_due = refl;
+      }
+
+      look_in_want_step : StepOf (work.Commit c) (after_want w s (running_as s c)) (work.Commit (wanting found_on)) (answers.Went kind.Read)
+      look_in_want_step = record {
+        own = [];
+        grown = refl;
+        kept = want_kept;
+        may = at_rest _ _ (wanting found_on) at.come (ended_found w.table c k is looks ∙ at.unended) refl refl;
+        apart = λ q k. refl;
+        attached = refl;
+        unstopped = λ q k. k;
+        same = λ i q. refl;
+        tells = told_writing (answers.Went kind.Read) [] (shown_work (work.Commit (wanting found_on))) (inr (inl (refl, refl, inr (ap (λ (r : Revision). Undoing r end.Memory) (revision_found w.table c k is looks)))));
+        of_step = refl;
+        as_due = refl;
+      }
+
+  module _ (c : Committing) (here : w.running s ≡ Some (running_as s c)) (at : IsAtWork w.table h s c) (looked : c.looking ≡ None) where
+    roots_here : c.roots ≡ map (λ (f : Met). root_of w.past f.other) c.writer.due
+    roots_here = subst (λ (e : Committing). e.roots ≡ map (λ (f : Met). root_of w.past f.other) e.writer.due) (once_alone w.table c looked) at.roots
+
     abbrev x : Running
     x = running_as s c
 
@@ -537,24 +624,8 @@ module _ (starts : Starts) (says : Says) (proper : StartsProper starts) (writes 
       still_writing : (d : Committing) → d.revision ≡ c.revision → d.outcome ≡ c.outcome → shown_work (work.Commit d) ≡ Writing c.revision
       still_writing d same out = ap (λ (r : Revision). shown_by r d.outcome) same ∙ ap (shown_by c.revision) (out ∙ going)
 
-      refusal_tells : (k : StepKind) (item : Item) (o : Revision) (d : Committing) → d ≡ refused c item o → Tells h s (shown_work (work.Commit c)) (answers.Went k) (event.Refuse c.revision item o ∷ []) (shown_work (work.Commit d))
-      refusal_tells k item o d is = writing (answers.Went k) (event.Refuse c.revision item o ∷ []) (shown_work (work.Commit d)) (inr (inr (inr (item, o, refl, ap (λ (y : Committing). shown_work (work.Commit y)) is))))
-
-      -- the commit gives up for want of memory
-      want_step : StepOf (work.Commit c) (after_want w s x) (work.Commit (wanting c)) answers.Memory
-      want_step = record {
-        own = [];
-        grown = refl;
-        kept = want_whole starts says proper w kept s x here uncommitted unundone;
-        may = record { come = at.come; unended = at.unended; roots = refl; looked = refl };
-        apart = λ q k. refl;
-        attached = refl;
-        unstopped = λ q k. k;
-        same = refl;
-        tells = writing answers.Memory [] (shown_work (work.Commit (wanting c))) (refl, refl);
-        of_step = refl;
-        as_due = refl;
-      }
+      refusal_tells : (k : StepKind) → (k ≡ kind.Mark) ⊎ (k ≡ kind.Last) → (item : Item) (o : Revision) (d : Committing) → d ≡ refused c item o → Tells h s (shown_work (work.Commit c)) (answers.Went k) (event.Refuse c.revision item o ∷ []) (shown_work (work.Commit d))
+      refusal_tells k mark item o d is = writing (answers.Went k) (event.Refuse c.revision item o ∷ []) (shown_work (work.Commit d)) (inr (inr (inr (inr (item, o, mark, refl, ap (λ (y : Committing). shown_work (work.Commit y)) is)))))
 
       -- a mark
       module _ (f : Met) (rest : List Met) (due_is : c.writer.due ≡ f ∷ rest) where
@@ -573,14 +644,14 @@ module _ (starts : Starts) (says : Says) (proper : StartsProper starts) (writes 
           own = event.Went s kind.Mark ∷ [];
           grown = mark_grown (event.Went s kind.Mark ∷ []) past;
           kept = mark_kept;
-          may = record { come = record { login = at.come.login; stays = at.come.stays }; unended = at.unended; roots = ap (drop 1) at.roots ∙ ap (λ (fs : List Met). drop 1 (map (λ m. root_of w.past m.other) fs)) due_is; looked = at.looked };
+          may = at_rest _ _ (mark_made c rest) (record { login = at.come.login; stays = at.come.stays }) at.unended looked (ap (drop 1) roots_here ∙ ap (λ (fs : List Met). drop 1 (map (λ m. root_of w.past m.other) fs)) due_is);
           apart = apart_went kind.Mark;
           attached = refl;
           unstopped = λ q k. k;
-          same = mark_lists w s x f rest;
-          tells = writing (answers.Went kind.Mark) (event.Went s kind.Mark ∷ []) (shown_work (work.Commit (mark_made c rest))) (inr (inl (refl, refl, still_writing (mark_made c rest) refl refl)));
+          same = mark_previous w s x f rest;
+          tells = writing (answers.Went kind.Mark) (event.Went s kind.Mark ∷ []) (shown_work (work.Commit (mark_made c rest))) (inr (inr (inl (refl, refl, still_writing (mark_made c rest) refl refl))));
           of_step = kind_told kind.Mark (s == s && true) (with_true (s == s) (number_itself s));
-          as_due = ap (λ (y : Stage). is_due kind.Mark (kind_of_stage y)) (stage_mark c going at.looked f rest due_is);
+          as_due = ap (λ (y : Stage). is_due kind.Mark (kind_of_stage y)) (stage_mark c going looked f rest due_is);
         })
 
         pub mark_refused_step : (d : Committing) → (after_mark w s x f rest).past ≡ event.Refuse c.revision f.mine f.other ∷ w.past → d ≡ refused c f.mine f.other → StepOf (work.Commit c) (after_mark w s x f rest) (work.Commit d) (answers.Went kind.Mark)
@@ -588,49 +659,65 @@ module _ (starts : Starts) (says : Says) (proper : StartsProper starts) (writes 
           own = event.Refuse c.revision f.mine f.other ∷ [];
           grown = mark_grown (event.Refuse c.revision f.mine f.other ∷ []) past;
           kept = mark_kept;
-          may = record { come = record { login = at.come.login; stays = at.come.stays }; unended = at.unended; roots = refl; looked = at.looked };
+          may = at_rest _ _ (refused c f.mine f.other) (record { login = at.come.login; stays = at.come.stays }) at.unended looked refl;
           apart = apart_refusal f.mine f.other;
           attached = refl;
           unstopped = λ q k. k;
-          same = mark_lists w s x f rest;
-          tells = refusal_tells kind.Mark f.mine f.other (refused c f.mine f.other) refl;
+          same = mark_previous w s x f rest;
+          tells = refusal_tells kind.Mark (inl refl) f.mine f.other (refused c f.mine f.other) refl;
           of_step = ap (λ t. list_any (is_kind kind.Mark) (where_test t (kind.Mark ∷ kind.Last ∷ []))) revision_mine;
           as_due = refl;
         })
 
       -- a document
       module _ (p : Path) (rest : List Path) (unmet : c.writer.due ≡ []) (left : c.writer.left ≡ p ∷ rest) where
-        abbrev met : List Met
-        met = found c.base c.revision p c.marks (nodes_in w.table p)
+        -- what was in the document, with what moved put back
+        abbrev stood : Option Document
+        stood = whole p (nodes_in w.table p) (moved_in w.table p)
 
-        pub wrote_step : StepOf (work.Commit c) (after_write w s x p rest) (work.Commit (written_alone c p rest (nodes_in w.table p))) (answers.Went kind.Write)
+        -- the committer behind the write
+        abbrev behind : Committing
+        behind = written c p rest (nodes_in w.table p)
+
+        roots_stood : roots_in stood (found c.base c.revision p c.marks stood) ≡ map (λ (f : Met). root_of w.past f.other) (found c.base c.revision p c.marks stood)
+        roots_stood = roots_met c.base c.revision p c.marks (root_of w.past) stood (λ f i. whole_rooted p (moved_in w.table p) (nodes_in w.table p) f.other (root_of w.past f.other) (met_rooted starts says proper w kept.sessions s x here p f i))
+
+        documents : SamePrevious w.table (after_write w s x p rest).table
+        documents = update_previous w.table (write_op c.revision c.edit.writes c.marks p) refl
+
+        pub wrote_step : StepOf (work.Commit c) (after_write w s x p rest) (work.Commit behind) (answers.Went kind.Write)
         wrote_step = record {
           own = event.Went s kind.Write ∷ [];
           grown = refl;
           kept = write_whole starts says proper w kept s x p rest here uncommitted unundone unmet left;
-          may = record { come = record { login = at.come.login; stays = at.come.stays }; unended = at.unended; roots = roots_met c.base c.revision p c.marks (root_of w.past) (nodes_in w.table p) (λ f i. met_here starts says proper w kept.sessions s x here p f i); looked = refl };
+          may = record {
+            come = record { login = at.come.login; stays = at.come.stays };
+            unended = ended_written c p rest (nodes_in w.table p) ∙ at.unended;
+            roots = subst (λ (e : Committing). e.roots ≡ map (λ (f : Met). root_of w.past f.other) e.writer.due) (sym (once_written c p rest w.table (after_write w s x p rest).table documents)) roots_stood;
+            looks = looks_written c p rest going (nodes_in w.table p);
+          };
           apart = apart_went kind.Write;
           attached = refl;
           unstopped = λ q k. k;
-          same = write_lists w s x p rest;
-          tells = writing (answers.Went kind.Write) (event.Went s kind.Write ∷ []) (shown_work (work.Commit (written_alone c p rest (nodes_in w.table p)))) (inl (refl, refl, inl (still_writing (written_alone c p rest (nodes_in w.table p)) refl refl)));
+          same = documents;
+          tells = writing (answers.Went kind.Write) (event.Went s kind.Write ∷ []) (shown_work (work.Commit behind)) (inl (refl, refl, inl (still_writing behind (revision_written c p rest (nodes_in w.table p)) (outcome_written c p rest (nodes_in w.table p)))));
           of_step = kind_told kind.Write (s == s && true) (with_true (s == s) (number_itself s));
-          as_due = ap (λ (y : Stage). is_due kind.Write (kind_of_stage y)) (stage_write c going at.looked p rest unmet left);
+          as_due = ap (λ (y : Stage). is_due kind.Write (kind_of_stage y)) (stage_write c going looked p rest unmet left);
         }
 
-        pub wrote_in_want_step : StepOf (work.Commit c) (after_write_in_want w s x p rest) (work.Commit (wanting (written_alone c p rest (nodes_in w.table p)))) (answers.Went kind.Write)
+        pub wrote_in_want_step : StepOf (work.Commit c) (after_write_in_want w s x p rest) (work.Commit (wanting behind)) (answers.Went kind.Write)
         wrote_in_want_step = record {
           own = event.Went s kind.Write ∷ [];
           grown = refl;
           kept = write_in_want_whole starts says proper w kept s x p rest here uncommitted unundone unmet left;
-          may = record { come = record { login = at.come.login; stays = at.come.stays }; unended = at.unended; roots = refl; looked = refl };
+          may = at_rest _ _ (wanting behind) (record { login = at.come.login; stays = at.come.stays }) (ended_written c p rest (nodes_in w.table p) ∙ at.unended) refl refl;
           apart = apart_went kind.Write;
           attached = refl;
           unstopped = λ q k. k;
-          same = want_lists w s x p rest;
-          tells = writing (answers.Went kind.Write) (event.Went s kind.Write ∷ []) (shown_work (work.Commit (wanting (written_alone c p rest (nodes_in w.table p))))) (inl (refl, refl, inr refl));
+          same = documents;
+          tells = writing (answers.Went kind.Write) (event.Went s kind.Write ∷ []) (shown_work (work.Commit (wanting behind))) (inl (refl, refl, inr (ap (λ (r : Revision). Undoing r end.Memory) (revision_written c p rest (nodes_in w.table p)))));
           of_step = kind_told kind.Write (s == s && true) (with_true (s == s) (number_itself s));
-          as_due = ap (λ (y : Stage). is_due kind.Write (kind_of_stage y)) (stage_write c going at.looked p rest unmet left);
+          as_due = ap (λ (y : Stage). is_due kind.Write (kind_of_stage y)) (stage_write c going looked p rest unmet left);
         }
 
       -- the last write
@@ -654,14 +741,14 @@ module _ (starts : Starts) (says : Says) (proper : StartsProper starts) (writes 
           own = event.Commit c.revision ∷ [];
           grown = last_grown (event.Commit c.revision ∷ []) past;
           kept = last_kept;
-          may = record { come = record { login = at.come.login; stays = at.come.stays }; unended = at.unended; roots = at.roots; looked = at.looked };
+          may = at_rest _ _ (committed c) (record { login = at.come.login; stays = at.come.stays }) at.unended looked roots_here;
           apart = apart_one w.past s (event.Commit c.revision) (λ q k. its_session q false (flipped q s k));
           attached = refl;
           unstopped = λ q k. k;
-          same = last_lists w s x;
-          tells = writing (answers.Went kind.Last) (event.Commit c.revision ∷ []) (shown_work (work.Commit (committed c))) (inr (inr (inl (refl, refl, refl))));
+          same = last_previous w s x;
+          tells = writing (answers.Went kind.Last) (event.Commit c.revision ∷ []) (shown_work (work.Commit (committed c))) (inr (inr (inr (inl (refl, refl, refl)))));
           of_step = kind_told kind.Last (is_revision_of w.past s c.revision) revision_mine;
-          as_due = ap (λ (y : Stage). is_due kind.Last (kind_of_stage y)) (stage_last c going at.looked unmet none_left);
+          as_due = ap (λ (y : Stage). is_due kind.Last (kind_of_stage y)) (stage_last c going looked unmet none_left);
         })
 
         pub last_refused_step : (d : Committing) (item : Item) (o : Revision) → (after_last w s x).past ≡ event.Refuse c.revision item o ∷ w.past → d ≡ refused c item o → StepOf (work.Commit c) (after_last w s x) (work.Commit d) (answers.Went kind.Last)
@@ -669,12 +756,12 @@ module _ (starts : Starts) (says : Says) (proper : StartsProper starts) (writes 
           own = event.Refuse c.revision item o ∷ [];
           grown = last_grown (event.Refuse c.revision item o ∷ []) past;
           kept = last_kept;
-          may = record { come = record { login = at.come.login; stays = at.come.stays }; unended = at.unended; roots = refl; looked = at.looked };
+          may = at_rest _ _ (refused c item o) (record { login = at.come.login; stays = at.come.stays }) at.unended looked refl;
           apart = apart_refusal item o;
           attached = refl;
           unstopped = λ q k. k;
-          same = last_lists w s x;
-          tells = refusal_tells kind.Last item o (refused c item o) refl;
+          same = last_previous w s x;
+          tells = refusal_tells kind.Last (inr refl) item o (refused c item o) refl;
           of_step = ap (λ t. list_any (is_kind kind.Last) (where_test t (kind.Mark ∷ kind.Last ∷ []))) revision_mine;
           as_due = refl;
         })
@@ -686,11 +773,11 @@ module _ (starts : Starts) (says : Says) (proper : StartsProper starts) (writes 
       own = event.Went s kind.Undo ∷ [];
       grown = refl;
       kept = undo_whole starts says proper w kept s x p rest here (not_past c.outcome undoing) undoing next;
-      may = record { come = record { login = at.come.login; stays = at.come.stays }; unended = at.unended; roots = at.roots; looked = at.looked };
+      may = at_rest _ _ (with_undone c) (record { login = at.come.login; stays = at.come.stays }) at.unended looked roots_here;
       apart = apart_went kind.Undo;
       attached = refl;
       unstopped = λ q k. k;
-      same = undoing_lists w s x p rest;
+      same = undo_previous w.table p c.revision;
       tells = undoing_tells h s c.revision c.outcome undoing;
       of_step = kind_told kind.Undo (s == s && true) (with_true (s == s) (number_itself s));
       as_due = refl;
@@ -781,7 +868,7 @@ module _ (starts : Starts) (says : Says) (proper : StartsProper starts) (writes 
         apart = λ q k. ends_apart moved (node_of w s) done.head c.revision w.past q;
         attached = ends_attached moved (node_of w s) done.head c.revision w.past s;
         unstopped = ends_unstopped moved (node_of w s) done.head c.revision w.past;
-        same = refl;
+        same = λ i q. refl;
         tells = deciding_tells h s c.revision c.outcome own_ends ends_so.0 (is_finish moved (node_of w s) done.head c.revision);
         of_step = finish_told;
         as_due = ends_by_due moved (node_of w s) done.head c.revision (kind_due (work.Commit c));
@@ -796,7 +883,7 @@ module _ (starts : Starts) (says : Says) (proper : StartsProper starts) (writes 
             apart = λ q k. ends_apart moved (node_of w s) done.head c.revision w.past q;
             attached = ends_attached moved (node_of w s) done.head c.revision w.past s;
             unstopped = ends_unstopped moved (node_of w s) done.head c.revision w.past;
-            same = refl;
+            same = λ i q. refl;
             tells = subst (λ (y : Option CommitEnd). Tells h s (shown_by c.revision y) (answers.Ready (ends.Commit e)) own_ends Idle) (sym ends_so.0) (undone_tells h s c.revision e own_ends past (is_finish moved (node_of w s) done.head c.revision));
             of_step = subst (λ (y : Option CommitEnd). AreOfStep h s (shown_by c.revision y) (answers.Ready (ends.Commit e)) own_ends) (sym ends_so.0) (undone_of_step h s c.revision e own_ends past finish_told);
             as_due = ends_by_due moved (node_of w s) done.head c.revision (kind_due (work.Commit c));
@@ -809,41 +896,94 @@ module _ (starts : Starts) (says : Says) (proper : StartsProper starts) (writes 
   at_both : (v : Work) (o : StepOut) (t : State) (d : Committing) (u : State) (e : Committing) → u ≡ t → e ≡ d → StepOf v t (work.Commit d) o → StepOf v u (work.Commit e) o
   at_both v o t d u e same is f = subst (λ (y : State). StepOf v y (work.Commit e) o) (sym same) (subst (λ (y : Committing). StepOf v t (work.Commit y) o) (sym is) f)
 
-  module _ (c : Committing) (here : w.running s ≡ Some (running_as s c)) (at : IsAtWork h s c) (u : State) (d : Committing) where
+  module _ (c : Committing) (here : w.running s ≡ Some (running_as s c)) (at : IsAtWork w.table h s c) (looked : c.looking ≡ None) (u : State) (d : Committing) where
     mark_any : MakesUpdate s w c u d kind.Mark → StepOf (work.Commit c) u (work.Commit d) (answers.Went kind.Mark)
     mark_any g = subst (λ (y : State). StepOf (work.Commit c) y (work.Commit d) (answers.Went kind.Mark)) (sym g.4) (by g.5)
       where
         by : ((u.past ≡ event.Went s kind.Mark ∷ w.past) × (d ≡ mark_made c g.1)) ⊎ ((u.past ≡ event.Refuse c.revision g.0.mine g.0.other ∷ w.past) × (d ≡ refused c g.0.mine g.0.other)) → StepOf (work.Commit c) (after_mark w s (running_as s c) g.0 g.1) (work.Commit d) (answers.Went kind.Mark)
-        by (inl e) = marked_step c here at g.2 g.0 g.1 g.3 d (ap (λ (y : State). y.past) (sym g.4) ∙ e.0) e.1
-        by (inr e) = mark_refused_step c here at g.2 g.0 g.1 g.3 d (ap (λ (y : State). y.past) (sym g.4) ∙ e.0) e.1
+        by (inl e) = marked_step c here at looked g.2.going g.0 g.1 g.3 d (ap (λ (y : State). y.past) (sym g.4) ∙ e.0) e.1
+        by (inr e) = mark_refused_step c here at looked g.2.going g.0 g.1 g.3 d (ap (λ (y : State). y.past) (sym g.4) ∙ e.0) e.1
 
     write_any : MakesUpdate s w c u d kind.Write → StepOf (work.Commit c) u (work.Commit d) (answers.Went kind.Write)
     write_any g = by g.5
       where
-        by : ((u ≡ after_write w s (running_as s c) g.0 g.1) × (d ≡ written_alone c g.0 g.1 (nodes_in w.table g.0))) ⊎ ((u ≡ after_write_in_want w s (running_as s c) g.0 g.1) × (d ≡ wanting (written_alone c g.0 g.1 (nodes_in w.table g.0)))) → StepOf (work.Commit c) u (work.Commit d) (answers.Went kind.Write)
-        by (inl e) = at_both (work.Commit c) (answers.Went kind.Write) (after_write w s (running_as s c) g.0 g.1) (written_alone c g.0 g.1 (nodes_in w.table g.0)) u d e.0 e.1 (wrote_step c here at g.2 g.0 g.1 g.3 g.4)
-        by (inr e) = at_both (work.Commit c) (answers.Went kind.Write) (after_write_in_want w s (running_as s c) g.0 g.1) (wanting (written_alone c g.0 g.1 (nodes_in w.table g.0))) u d e.0 e.1 (wrote_in_want_step c here at g.2 g.0 g.1 g.3 g.4)
+        by : ((u ≡ after_write w s (running_as s c) g.0 g.1) × (d ≡ written c g.0 g.1 (nodes_in w.table g.0))) ⊎ ((u ≡ after_write_in_want w s (running_as s c) g.0 g.1) × (d ≡ wanting (written c g.0 g.1 (nodes_in w.table g.0)))) → StepOf (work.Commit c) u (work.Commit d) (answers.Went kind.Write)
+        by (inl e) = at_both (work.Commit c) (answers.Went kind.Write) (after_write w s (running_as s c) g.0 g.1) (written c g.0 g.1 (nodes_in w.table g.0)) u d e.0 e.1 (wrote_step c here at looked g.2.going g.0 g.1 g.3 g.4)
+        by (inr e) = at_both (work.Commit c) (answers.Went kind.Write) (after_write_in_want w s (running_as s c) g.0 g.1) (wanting (written c g.0 g.1 (nodes_in w.table g.0))) u d e.0 e.1 (wrote_in_want_step c here at looked g.2.going g.0 g.1 g.3 g.4)
 
     last_any : MakesUpdate s w c u d kind.Last → StepOf (work.Commit c) u (work.Commit d) (answers.Went kind.Last)
     last_any g = subst (λ (y : State). StepOf (work.Commit c) y (work.Commit d) (answers.Went kind.Last)) (sym g.3) (by g.4)
       where
         by : ((u.past ≡ event.Commit c.revision ∷ w.past) × (d ≡ committed c)) ⊎ ((item : Item) × (o : Revision) × (u.past ≡ event.Refuse c.revision item o ∷ w.past) × (d ≡ refused c item o)) → StepOf (work.Commit c) (after_last w s (running_as s c)) (work.Commit d) (answers.Went kind.Last)
-        by (inl e) = committed_step c here at g.0 g.1 g.2 d (ap (λ (y : State). y.past) (sym g.3) ∙ e.0) e.1
-        by (inr e) = last_refused_step c here at g.0 g.1 g.2 d e.0 e.1 (ap (λ (y : State). y.past) (sym g.3) ∙ e.2) e.3
+        by (inl e) = committed_step c here at looked g.0.going g.1 g.2 d (ap (λ (y : State). y.past) (sym g.3) ∙ e.0) e.1
+        by (inr e) = last_refused_step c here at looked g.0.going g.1 g.2 d e.0 e.1 (ap (λ (y : State). y.past) (sym g.3) ∙ e.2) e.3
 
     update_any : (k : StepKind) → MakesUpdate s w c u d k → StepOf (work.Commit c) u (work.Commit d) (answers.Went k)
     update_any kind.Mark g = mark_any g
     update_any kind.Write g = write_any g
     update_any kind.Last g = last_any g
-    update_any kind.Undo g = at_both (work.Commit c) (answers.Went kind.Undo) (after_undoing w s (running_as s c) g.0 g.1) (with_undone c) u d g.4 g.5 (undone_step c here at g.0 g.1 g.2 g.3)
+    update_any kind.Undo g = at_both (work.Commit c) (answers.Went kind.Undo) (after_undoing w s (running_as s c) g.0 g.1) (with_undone c) u d g.4 g.5 (undone_step c here at looked g.0 g.1 g.2 g.3)
+    update_any kind.Read g = absurd (never g.0 (sym looked ∙ g.2))
+      where
+        never : (k : Look) → None ≡ Some k → ⊥
+        never k e = cc
     update_any _ g = absurd g
 
-  commit_step : (c : Committing) → w.running s ≡ Some (running_as s c) → IsAtWork h s c → (u : State) (v : Work) (o : StepOut) → MakesCommit s w c u v o → StepOf (work.Commit c) u v o
-  commit_step c here at u v o (inl m) = subst (λ (y : Work). StepOf (work.Commit c) u y o) (sym m.3) (subst (λ (y : StepOut). StepOf (work.Commit c) u (work.Commit m.2) y) (sym m.1) (update_any c here at u m.2 m.0 m.4))
-  commit_step c here at u v o (inr (inl m)) = subst (λ (y : State). StepOf (work.Commit c) y v o) (sym m.1) (finished_step c here at m.0 v o m.2)
-  commit_step c here at u v o (inr (inr m)) =
-      subst (λ (y : Work). StepOf (work.Commit c) u y o) (sym m.3) (subst (λ (y : StepOut). StepOf (work.Commit c) u (work.Commit (wanting c)) y) (sym m.0)
-      (subst (λ (y : State). StepOf (work.Commit c) y (work.Commit (wanting c)) answers.Memory) (sym m.2) (want_step c here at m.1)))
+  -- the commit gives up for want of memory
+  wants_step : (c : Committing) → w.running s ≡ Some (running_as s (once_looked w.table c)) → IsAtWork w.table h s c → c.outcome ≡ None → (u : State) (v : Work) (o : StepOut) → o ≡ answers.Memory → u ≡ after_want w s (running_as s c) → v ≡ work.Commit (wanting c) → StepOf (work.Commit c) u v o
+  wants_step c runs at going u v o answer same is =
+      subst (λ (y : Work). StepOf (work.Commit c) u y o) (sym is) (subst (λ (y : StepOut). StepOf (work.Commit c) u (work.Commit (wanting c)) y) (sym answer)
+      (subst (λ (y : State). StepOf (work.Commit c) y (work.Commit (wanting c)) answers.Memory) (sym same) (want_step c runs at going)))
+
+  -- a committer that looks at no previous document
+  alone_step : (c : Committing) → w.running s ≡ Some (running_as s (once_looked w.table c)) → IsAtWork w.table h s c → c.looking ≡ None → (u : State) (v : Work) (o : StepOut) → MakesCommit s w c u v o → StepOf (work.Commit c) u v o
+  alone_step c runs at looked u v o m = by m
+    where
+      here : w.running s ≡ Some (running_as s c)
+      here = runs ∙ ap (λ (e : Committing). Some (running_as s e)) (once_alone w.table c looked)
+
+      by : MakesCommit s w c u v o → StepOf (work.Commit c) u v o
+      by (inl m) = subst (λ (y : Work). StepOf (work.Commit c) u y o) (sym m.3) (subst (λ (y : StepOut). StepOf (work.Commit c) u (work.Commit m.2) y) (sym m.1) (update_any c here at looked u m.2 m.0 m.4))
+      by (inr (inl m)) = subst (λ (y : State). StepOf (work.Commit c) y v o) (sym m.1) (finished_step c here at looked m.0 v o m.2)
+      by (inr (inr m)) = wants_step c runs at m.1 u v o m.0 m.2 m.3
+
+  -- one that looks at a previous document
+  module _ (c : Committing) (runs : w.running s ≡ Some (running_as s (once_looked w.table c))) (at : IsAtWork w.table h s c) (k : Look) (is : c.looking ≡ Some k) (u : State) where
+    going_on : c.outcome ≡ None
+    going_on = (at.looks k is).going
+
+    unlooked : {A : Type 0} → MayUpdate c → A
+    unlooked may = absurd (never (sym may.looked ∙ is))
+      where
+        never : None ≡ Some k → ⊥
+        never e = cc
+
+    look_any : (d : Committing) → MakesUpdate s w c u d kind.Read → StepOf (work.Commit c) u (work.Commit d) (answers.Went kind.Read)
+    look_any d g = by g.3
+      where
+        by : ((u ≡ w) × (d ≡ fed_previous w.table c)) ⊎ ((u ≡ after_want w s (running_as s c)) × (d ≡ wanting (fed_previous w.table c))) → StepOf (work.Commit c) u (work.Commit d) (answers.Went kind.Read)
+        by (inl e) = at_both (work.Commit c) (answers.Went kind.Read) w (fed_previous w.table c) u d e.0 e.1 (look_step c runs at going_on k is)
+        by (inr e) = at_both (work.Commit c) (answers.Went kind.Read) (after_want w s (running_as s c)) (wanting (fed_previous w.table c)) u d e.0 e.1 (look_in_want_step c runs at going_on k is)
+
+    looking_update : (d : Committing) (x : StepKind) → MakesUpdate s w c u d x → StepOf (work.Commit c) u (work.Commit d) (answers.Went x)
+    looking_update d kind.Mark g = unlooked g.2
+    looking_update d kind.Write g = unlooked g.2
+    looking_update d kind.Read g = look_any d g
+    looking_update d kind.Last g = unlooked g.0
+    looking_update d kind.Undo g = absurd (false≢true (sym (ap undoes going_on) ∙ g.2))
+    looking_update d _ g = absurd g
+
+    looking_step : (v : Work) (o : StepOut) → MakesCommit s w c u v o → StepOf (work.Commit c) u v o
+    looking_step v o (inl m) = subst (λ (y : Work). StepOf (work.Commit c) u y o) (sym m.3) (subst (λ (y : StepOut). StepOf (work.Commit c) u (work.Commit m.2) y) (sym m.1) (looking_update m.2 m.0 m.4))
+    looking_step v o (inr (inl m)) = absurd (false≢true (sym (ap is_some going_on) ∙ (finish_stage c m.0).settled))
+    looking_step v o (inr (inr m)) = wants_step c runs at going_on u v o m.0 m.2 m.3
+
+  commit_step : (c : Committing) → w.running s ≡ Some (running_as s (once_looked w.table c)) → IsAtWork w.table h s c → (u : State) (v : Work) (o : StepOut) → MakesCommit s w c u v o → StepOf (work.Commit c) u v o
+  commit_step c runs at u v o m = by c.looking refl
+    where
+      by : (l : Option Look) → c.looking ≡ l → StepOf (work.Commit c) u v o
+      by None none = alone_step c runs at none u v o m
+      by (Some k) is = looking_step c runs at k is u v o m
 
   -- a step to a state and a work that are equal to those of a step
   at_those : (v : Work) (o : StepOut) (t : State) (y : Work) (u : State) (x : Work) → u ≡ t → x ≡ y → StepOf v t y o → StepOf v u x o
@@ -851,10 +991,10 @@ module _ (starts : Starts) (says : Says) (proper : StartsProper starts) (writes 
 
   -- nothing is done
   still_step : (v : Work) → Tells h s (shown_work v) answers.Memory [] Idle → is_by_due (kind_due v) [] ≡ true → (u : State) (x : Work) → u ≡ w → x ≡ work.Rest → StepOf v u x answers.Memory
-  still_step v tells due u x same is = at_those v answers.Memory w work.Rest u x same is (record { own = []; grown = refl; kept = kept; may = tt; apart = λ q k. refl; attached = refused_stays v (is_attached w.past s); unstopped = λ q k. k; same = refl; tells = tells; of_step = refl; as_due = due })
+  still_step v tells due u x same is = at_those v answers.Memory w work.Rest u x same is (record { own = []; grown = refl; kept = kept; may = tt; apart = λ q k. refl; attached = refused_stays v (is_attached w.past s); unstopped = λ q k. k; same = λ i q. refl; tells = tells; of_step = refl; as_due = due })
 
   -- a step of a session that may do what it does
-  pub any_step : IsTable w.table.documents → (v : Work) → w.running s ≡ running_of s v → w.reading s ≡ reading_of v → w.observing s ≡ observing_of v → May starts h s v → (u : State) (x : Work) (o : StepOut) → MakesState s w v u x o → StepOf v u x o
+  pub any_step : IsTable w.table.documents → (v : Work) → w.running s ≡ running_of w.table s v → w.reading s ≡ reading_of v → w.observing s ≡ observing_of v → May starts w.table h s v → (u : State) (x : Work) (o : StepOut) → MakesState s w v u x o → StepOf v u x o
   any_step table work.Login runs reads observes may u x (answers.Ready (ends.Pinned pin)) m = at_those work.Login (answers.Ready (ends.Pinned pin)) (after_login w s) work.Rest u x m.0 m.1 (login_step pin m.2 may)
   any_step table work.Login runs reads observes may u x answers.Memory m = still_step work.Login (refl, refl) refl u x m.0 m.1
   any_step table work.Login runs reads observes may u x _ m = absurd m

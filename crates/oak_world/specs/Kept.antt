@@ -1,6 +1,9 @@
 -- What each world keeps.
+use Rattle.jr_path.specs.declared.path.DocId.TheVariants as id
 use Rattle.jr_path.specs.declared.path.Path.{Path}
-use Rattle.core_world.specs.States.{listed_at}
+use Rattle.oak_commit.specs.declared.look.Look.{Look}
+use Rattle.oak_doc.specs.declared.document.PrevEntry.{PrevEntry}
+use Rattle.oak_store.specs.Tables.{Table}
 use Rattle.std.specs.Prelude.{◌≡◌, ◌≤◌, ◌+◌, ℕ, false, cond, [], ◌∷◌, ◌++◌, List, length, map, sum_by, slice_get, None, Some, is_some, IsTrue, IsFalse}
 use Rattle.oak_commit.specs.Committing.{Committing}
 use Rattle.oak_machine.specs.History.{History}
@@ -11,6 +14,7 @@ use Rattle.oak_machine.specs.Laws.{Asks, Says, Starts}
 use Rattle.oak_machine.specs.Sessions.{has_login, has_reader, is_attached, is_stopped, next_index}
 use Rattle.oak_read.specs.Reading.{IsTable}
 use Rattle.core_clash.specs.Core.{root_of}
+use Rattle.core_keep.specs.Formers.{Formers}
 use Rattle.core_world.specs.Kept.{IsKept, WereOnRoot}
 use Rattle.jr_rev.specs.declared.revision.Revision.{Revision}
 use Rattle.jr_rev.specs.Revisions.{is_at_most}
@@ -27,17 +31,28 @@ use Rattle.oak_world.specs.declared.actor.Actor.{Actor}
 use Rattle.oak_step.specs.declared.work.Work.{Work}
 use Rattle.oak_step.specs.declared.work.Work.TheVariants as work
 use Rattle.oak_step.specs.Parts.{needed}
-use Rattle.oak_world.specs.Worlds.{WorldOf, actor_in, live, state_of, work_in}
+use Rattle.oak_world.specs.Worlds.{WorldOf, actor_in, live, once_looked, state_of, with_formers, work_in}
 use Rattle.oak_world.specs.Seen.{shown_work}
 use Rattle.oak_world.specs.Steps.{IsPresent}
 
+-- a committer that looks is before its commit point, and asks for previous documents of one node,
+-- by the entries that list them
+pub record IsLooking (c : Committing) (k : Look) : Type 0 where
+  pub going : c.outcome ≡ None
+  pub path : Path
+  pub entry : PrevEntry
+  pub asks : k.first ≡ id.Prev entry.number path
+  pub entries : List PrevEntry
+  pub rest : k.rest ≡ map (λ e. id.Prev e.number path) entries
+
 -- the session has come, and the commit hasn't ended; the commit goes to the commit roots of those
--- that it is to mark, and looks at no previous document
-pub record IsAtWork (h : History) (s : ℕ) (c : Committing) : Type 0 where
+-- that it is to mark, also of those whom it will meet in its look
+pub record IsAtWork (t : Table) (h : History) (s : ℕ) (c : Committing) : Type 0 where
   pub come : IsPresent h s
   pub unended : c.ended ≡ false
-  pub roots : c.roots ≡ map (λ f. root_of h.past f.other) c.writer.due
-  pub looked : c.looking ≡ None
+  pub roots : (once_looked t c).roots
+      ≡ map (λ f. root_of h.past f.other) (once_looked t c).writer.due
+  pub looks : (k : Look) → c.looking ≡ Some k → IsLooking c k
 
 -- the revision is one of the session's cluster node, at most its local one
 abbrev pub IsOwn : History → ℕ → Revision → Type 0
@@ -73,32 +88,32 @@ MayKeepUp h s upkeep.Observe = IsFalse (is_attached h.past s)
 MayKeepUp h s _ = Unit {0}
 
 -- what a session does, it may do
-abbrev pub May : Starts → History → ℕ → Work → Type 0
-May starts h s work.Rest = Unit {0}
-May starts h s work.Login = IsFalse (has_login h.past s)
-May starts h s work.End = IsPresent h s
-May starts h s work.Refresh = IsPresent h s × IsFalse (is_attached h.past s)
-May starts h s (work.Read r) = IsPresent h s
-May starts h s (work.Changes r) = IsPresent h s × IsFalse (is_attached h.past s)
-May starts h s (work.Plan edit marks) =
+abbrev pub May : Starts → Table → History → ℕ → Work → Type 0
+May starts t h s work.Rest = Unit {0}
+May starts t h s work.Login = IsFalse (has_login h.past s)
+May starts t h s work.End = IsPresent h s
+May starts t h s work.Refresh = IsPresent h s × IsFalse (is_attached h.past s)
+May starts t h s (work.Read r) = IsPresent h s
+May starts t h s (work.Changes r) = IsPresent h s × IsFalse (is_attached h.past s)
+May starts t h s (work.Plan edit marks) =
     IsPresent h s × IsFalse (is_attached h.past s) × starts h s edit marks
-May starts h s (work.Commit c) = IsAtWork h s c
-May starts h s (work.Upkeep u) = IsPresent h s × MayKeepUp h s u
-May starts h s (work.Move r) =
+May starts t h s (work.Commit c) = IsAtWork t h s c
+May starts t h s (work.Upkeep u) = IsPresent h s × MayKeepUp h s u
+May starts t h s (work.Move r) =
     IsPresent h s × IsTrue (is_ended h.past r) × (slice_get h.sessions s ≡ Some r.cluster)
 
--- the state is kept by its law, the documents are in store order, there are at most 64 sessions, of
--- each it is known whether it is attached to a checkpoint, no cluster node is stopped, no document
--- lists a previous one, and each may do what it does
+-- the state is kept by its law, with the former documents of those that list previous ones; the
+-- documents are in store order, there are at most 64 sessions, of each it is known whether it is attached to a checkpoint, no cluster node is stopped, and each may
+-- do what it does
 pub record IsWorld (starts : Starts) (says : Says) {L : Type 0} (w : WorldOf L) : Type 0 where
-  pub kept : IsKept starts says (state_of w)
+  pub formers : Formers
+  pub kept : IsKept starts says (with_formers (state_of w) formers)
   pub table : IsTable w.table.documents
   pub few : length w.history.sessions ≤ 64
   pub attached : (s : ℕ) → (actor_in w.actors s).attached ≡ is_attached w.history.past s
   pub unstopped : (k : ℕ) → IsFalse (is_stopped w.history.past k)
-  pub unsplit : (p : Path) → listed_at w.table p ≡ []
   pub seats : length w.actors ≡ length w.history.sessions
-  pub may : (s : ℕ) → May starts (live w.history) s (work_in w.actors s)
+  pub may : (s : ℕ) → May starts w.table (live w.history) s (work_in w.actors s)
 
 -- each event was made for a command that asks for it, and the next command of each session asks for
 -- each event that what is being done for it may still append

@@ -17,7 +17,10 @@ use Rattle.oak_changes.specs.declared.changes.Step.TheVariants as told
 use Rattle.oak_clash.specs.declared.mark.MarkAt.{MarkAt}
 use Rattle.oak_commit.specs.Clashing.{Met, found, mark_op}
 use Rattle.oak_commit.specs.Committing.{Committing, begun, first_path, roots_in}
+use Rattle.oak_commit.specs.Looking.{whole}
 use Rattle.oak_commit.specs.Writing.{write_op}
+use Rattle.oak_commit.specs.declared.look.Look.{Look}
+use Rattle.oak_doc.specs.declared.document.Document.{Document}
 use Rattle.oak_commit.specs.declared.outcome.CommitEnd.{CommitEnd}
 use Rattle.oak_node.specs.Heads.{next_draw}
 use Rattle.oak_node.specs.Memory.{NodeState}
@@ -26,7 +29,7 @@ use Rattle.oak_read.specs.declared.reader.Reader.{Reader}
 use Rattle.oak_read.specs.declared.reader.Step.{Step}
 use Rattle.oak_read.specs.declared.reader.Step.TheVariants as step
 use Rattle.oak_store.specs.Tables.{Table}
-use Rattle.core_world.specs.States.{memory_of, nodes_in}
+use Rattle.core_world.specs.States.{listed_at, memory_of, moved_in, nodes_in}
 use Rattle.core_world.specs.Steps.{after_update}
 use Rattle.oak_sync.specs.Learning.{stage_of}
 use Rattle.oak_sync.specs.declared.stage.Stage.{Stage as Syncing}
@@ -36,7 +39,7 @@ use Rattle.oak_step.specs.declared.upkeep.Upkeep.TheVariants as upkeep
 use Rattle.oak_step.specs.declared.work.Work.{Work}
 use Rattle.oak_step.specs.declared.work.Work.TheVariants as work
 use Rattle.oak_step.specs.Parts.{pinned_base, changes_on, read_on}
-use Rattle.oak_world.specs.Worlds.{WorldOf, state_of, work_in}
+use Rattle.oak_world.specs.Worlds.{WorldOf, once_looked, state_of, work_in}
 
 -- ---- a reader
 
@@ -132,6 +135,10 @@ changes_left t r = asks_left (changes_on t) phase_told (documents_ahead t r) r
 
 -- ---- a commit
 
+-- the document of a path, with all that moved to the previous ones that it lists put back
+abbrev pub looked_in : Table → Path → Option Document
+looked_in t p = whole p (nodes_in t p) (moved_in t p)
+
 module _ (r : Revision) where
   -- marks on the commit roots of a list, and what is left behind them
   abbrev pub marks_left : (Table → ℕ) → List Met → List Path → Table → ℕ
@@ -141,11 +148,13 @@ module _ (r : Revision) where
       (after_update t (mark_op (first_path roots) f.other r f.theirs)))
 
 module _ (r : Revision) (base : RevVec) (writes : List Write) (marks : List MarkAt) where
-  -- the document of a path, with the marks of what it met there, and what is left behind them
+  -- the document of a path, with a look at each previous one that it lists, with the marks of what
+  -- it met there, and what is left behind them
   abbrev pub write_left : (Table → ℕ) → Path → Table → ℕ
   write_left behind p t =
-      suc (marks_left r behind (found base r p marks (nodes_in t p))
-      (roots_in (nodes_in t p) (found base r p marks (nodes_in t p)))
+      suc (length (listed_at t p)
+      + marks_left r behind (found base r p marks (looked_in t p))
+      (roots_in (looked_in t p) (found base r p marks (looked_in t p)))
       (after_update t (write_op r writes marks p)))
 
   -- documents, with the marks of what it met in each
@@ -153,13 +162,23 @@ module _ (r : Revision) (base : RevVec) (writes : List Write) (marks : List Mark
   writes_left [] t = 0
   writes_left (p ∷ ps) t = write_left (λ u. writes_left ps u) p t
 
--- a commit has left, before its commit point, updates and at most as many undoings as documents;
--- behind that its end, and the move of the base
-abbrev pub commit_left : Table → Committing → Option CommitEnd → ℕ
-commit_left t c None =
+-- the previous documents for which a look has still to ask
+abbrev pub looks_left : Option Look → ℕ
+looks_left None = 0
+looks_left (Some k) = suc (length k.rest)
+
+-- the updates of a committer that looks at no previous document now, and at most as many undoings
+-- as documents; behind them its end, and the move of the base
+abbrev pub updates_left : Table → Committing → ℕ
+updates_left t c =
     marks_left c.revision
     (writes_left c.revision c.base c.edit.writes c.marks c.writer.left) c.writer.due c.roots t
     + length c.writer.written + length c.writer.left + 4
+
+-- before its commit point its look, and then its updates with the marks that are to come; behind it
+-- its end, and the move of the base
+abbrev pub commit_left : Table → Committing → Option CommitEnd → ℕ
+commit_left t c None = looks_left c.looking + updates_left t (once_looked t c)
 commit_left t c (Some e) = suc (suc (length c.writer.written))
 
 -- ---- background work

@@ -12,9 +12,10 @@ use Rattle.oak_changes.specs.declared.changes.Step.TheVariants as observed
 use Rattle.oak_changes.specs.Reading as changes
 use Rattle.oak_clash.specs.Clashes.{marked_paths}
 use Rattle.oak_commit.specs.Clashing.{Met}
-use Rattle.oak_commit.specs.Committing.{Committing, begun, refused, wanting, with_undone, written_alone}
+use Rattle.oak_commit.specs.Committing.{Committing, begun, refused, wanting, with_undone, written}
 use Rattle.oak_commit.specs.Kept.{undoes}
 use Rattle.oak_commit.specs.Stages.{stage_of}
+use Rattle.oak_commit.specs.declared.look.Look.{Look}
 use Rattle.oak_commit.specs.declared.outcome.CommitEnd.TheVariants as end
 use Rattle.oak_commit.specs.declared.stage.Stage.TheVariants as stage
 use Rattle.oak_doc.specs.declared.asks.Ask.TheVariants as ask
@@ -47,7 +48,7 @@ use Rattle.oak_step.specs.Upkeeps.{set_checkpoint}
 use Rattle.oak_step.specs.declared.work.Work.{Work}
 use Rattle.oak_step.specs.declared.work.Work.TheVariants as work
 use Rattle.oak_step.specs.Works.{kind_due}
-use Rattle.oak_step.specs.Parts.{EndsSo, changes_on, committed, end_of_reading, mark_made, read_on}
+use Rattle.oak_step.specs.Parts.{EndsSo, changes_on, committed, end_of_reading, fed_previous, mark_made, read_on}
 use Rattle.oak_world.specs.Worlds.{WorldOf, actor_in, running_as, state_of, work_in}
 
 -- ---- who may be told what
@@ -71,23 +72,33 @@ pub record HasReplyPlace (says : Says) (h : History) (reply : Option ℕ) (s i :
 
 -- ---- a step
 
+-- a committer is before its commit point, and looks at no previous document
+pub record MayUpdate (c : Committing) : Type 0 where
+  pub going : c.outcome ≡ None
+  pub looked : c.looking ≡ None
+
 module _ (s : ℕ) (w : State) (c : Committing) (u : State) (d : Committing) where
   -- a committer makes the next mark, or is refused by that; or writes the next document, and turns
-  -- to undoing where memory is refused for what it met there; or makes the last write, or is
-  -- refused by that; or undoes the first document that is written and not undone
+  -- to undoing where memory is refused for what it met there; or looks at a previous document of
+  -- that, by which the state stays, since it has the marks that are to come, or turns to undoing
+  -- then; or makes the last write, or is refused by that; or undoes the first document that is
+  -- written and not undone
   abbrev pub MakesUpdate : StepKind → Type 0
-  MakesUpdate kind.Mark = (f : Met) × (rest : List Met) × (c.outcome ≡ None)
+  MakesUpdate kind.Mark = (f : Met) × (rest : List Met) × MayUpdate c
       × (c.writer.due ≡ f ∷ rest) × (u ≡ after_mark w s (running_as s c) f rest)
       × (((u.past ≡ event.Went s kind.Mark ∷ w.past) × (d ≡ mark_made c rest))
       ⊎ ((u.past ≡ event.Refuse c.revision f.mine f.other ∷ w.past)
       × (d ≡ refused c f.mine f.other)))
-  MakesUpdate kind.Write = (p : Path) × (rest : List Path) × (c.outcome ≡ None)
+  MakesUpdate kind.Write = (p : Path) × (rest : List Path) × MayUpdate c
       × (c.writer.due ≡ []) × (c.writer.left ≡ p ∷ rest)
       × (((u ≡ after_write w s (running_as s c) p rest)
-      × (d ≡ written_alone c p rest (nodes_in w.table p)))
+      × (d ≡ written c p rest (nodes_in w.table p)))
       ⊎ ((u ≡ after_write_in_want w s (running_as s c) p rest)
-      × (d ≡ wanting (written_alone c p rest (nodes_in w.table p)))))
-  MakesUpdate kind.Last = (c.outcome ≡ None) × (c.writer.due ≡ []) × (c.writer.left ≡ [])
+      × (d ≡ wanting (written c p rest (nodes_in w.table p)))))
+  MakesUpdate kind.Read = (k : Look) × (c.outcome ≡ None) × (c.looking ≡ Some k)
+      × (((u ≡ w) × (d ≡ fed_previous w.table c))
+      ⊎ ((u ≡ after_want w s (running_as s c)) × (d ≡ wanting (fed_previous w.table c))))
+  MakesUpdate kind.Last = MayUpdate c × (c.writer.due ≡ []) × (c.writer.left ≡ [])
       × (u ≡ after_last w s (running_as s c))
       × (((u.past ≡ event.Commit c.revision ∷ w.past) × (d ≡ committed c))
       ⊎ ((item : Item) × (o : Revision) × (u.past ≡ event.Refuse c.revision item o ∷ w.past)

@@ -1,20 +1,27 @@
 -- What contracts see of a world.
 use Rattle.std.specs.Prelude.{ℕ, Bool, false, List, [], ◌∷◌, length, map, reverse, slice_get, slice_set, Option, Some, None}
 use Rattle.std.specs.Option.{unwrap_or}
-use Rattle.std.specs.List.{range_with_len}
+use Rattle.std.specs.List.{fold, range_with_len}
+use Rattle.jr_path.specs.Ids.{names_of}
 use Rattle.jr_path.specs.Lists.{Text}
+use Rattle.jr_path.specs.declared.path.DocId.{DocId}
 use Rattle.jr_rev.specs.Vectors.{start}
 use Rattle.oak_changes.specs.declared.changes.ChangesReader.{ChangesReader}
-use Rattle.oak_commit.specs.Committing.{Committing, is_past}
+use Rattle.oak_commit.specs.Committing.{Committing, is_past, meeting}
 use Rattle.oak_commit.specs.Kept.{undoes, wants}
+use Rattle.oak_commit.specs.Looking.{with_found}
+use Rattle.oak_commit.specs.declared.look.Look.{Look}
+use Rattle.oak_doc.specs.declared.document.Document.{Document}
 use Rattle.oak_machine.specs.declared.event.Event.{Event}
 use Rattle.oak_machine.specs.declared.event.Event.TheVariants as event
 use Rattle.oak_machine.specs.declared.event.Journal.{Journal}
 use Rattle.oak_machine.specs.History.{History, Past}
 use Rattle.oak_node.specs.Memory.{NodeState, begun as begun_memory}
+use Rattle.oak_read.specs.Meaning.{documents_in}
 use Rattle.oak_read.specs.declared.reader.Reader.{Reader}
 use Rattle.oak_store.specs.Tables.{Table}
 use Rattle.core_clash.specs.Sessions.{Running}
+use Rattle.core_keep.specs.Formers.{Formers}
 use Rattle.core_world.specs.Start.{start_table}
 use Rattle.core_world.specs.States.{State, memory_at, with_memory}
 use Rattle.oak_world.specs.declared.actor.Actor.{Actor}
@@ -99,6 +106,23 @@ start_world law clusters sessions = record {
   actors = map (λ k. idle) sessions;
 }
 
+-- ---- a look
+
+-- a document with what moved to these previous ones put back, where they are there
+abbrev pub filled_by : Table → Document → List DocId → Document
+filled_by t d ids = fold (λ x i. with_found x (documents_in t.documents i)) d ids
+
+-- what a committer is to be once its look is through, where it looks
+abbrev pub look_through : Table → Committing → Option Look → Committing
+look_through t c None = c
+look_through t c (Some k) =
+    meeting c (names_of k.first) (Some (filled_by t k.document (k.first ∷ k.rest)))
+
+-- a committer as it stands once it has found the previous documents for which it has still to ask:
+-- the marks that it is to make are to come
+abbrev pub once_looked : Table → Committing → Committing
+once_looked t c = look_through t c c.looking
+
 -- ---- its state
 
 -- a committer at work, with its draw
@@ -115,10 +139,10 @@ running_as s c = record {
   committed = is_past c.outcome;
 }
 
--- a session's committer, where it commits
-abbrev pub running_of : ℕ → Work → Option Running
-running_of s (work.Commit c) = Some (running_as s c)
-running_of s _ = None
+-- a session's committer, where it commits: one that looks has the marks that are to come
+abbrev pub running_of : Table → ℕ → Work → Option Running
+running_of t s (work.Commit c) = Some (running_as s (once_looked t c))
+running_of t s _ = None
 
 -- a session's reader, where it loads
 abbrev pub reading_of : Work → Option Reader
@@ -139,13 +163,17 @@ state_with h t ms actors = record {
   past = h.past;
   table = t;
   memories = ms;
-  running = λ s. running_of s (work_in actors s);
+  running = λ s. running_of t s (work_in actors s);
   reading = λ s. reading_of (work_in actors s);
   observing = λ s. observing_of (work_in actors s);
   formers = λ p k. None;
 }
 
--- all but the law and what is kept for replies
+-- a state in which these former documents are told of
+abbrev pub with_formers : State → Formers → State
+with_formers x formers = record x { formers = formers }
+
+-- all but the law, what is kept for replies, and what is told of former documents
 abbrev pub state_of : {L : Type 0} → WorldOf L → State
 state_of w = state_with w.history w.table w.memories w.actors
 

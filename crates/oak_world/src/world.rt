@@ -21,6 +21,7 @@ ghost use Rattle.oak_port.specs.Ports.{IsAskedOf, IsWait, MayBegin, Steps};
 ghost use Rattle.oak_read.specs.Meaning.{documents_in, found_node};
 ghost use Rattle.core_clash.specs.Sound.{Cause};
 ghost use Rattle.core_nodes.specs.Nodes.{base_of_pin, kept_base};
+ghost use Rattle.core_keep.specs.Formers.{Formers};
 ghost use Rattle.core_world.specs.Kept.{IsFreeOf, IsKept, reader_at};
 ghost use Rattle.core_world.specs.States.{actor_pin, memory_at, nodes_in, reader_pin};
 ghost use Rattle.core_clash.specs.Unclashing.{IsUnclashing};
@@ -33,7 +34,7 @@ ghost use Rattle.oak_world.specs.Seen.{shown_at};
 ghost use Rattle.oak_step.specs.Upkeeps.{set_checkpoint};
 ghost use Rattle.oak_step.specs.Works.{Begins, kind_due};
 ghost use Rattle.oak_world.specs.Steps.{HasReplyPlace, IsIdle, Plays, StepsIn, Turns};
-ghost use Rattle.oak_world.specs.Worlds.{actor_in, live, said_in, start_world, state_of, with_reply, with_work, work_in};
+ghost use Rattle.oak_world.specs.Worlds.{actor_in, live, said_in, start_world, state_of, with_formers, with_reply, with_work, work_in};
 
 use crate::actor::{Actor, Room, step_actor};
 use crate::start::start_documents;
@@ -192,8 +193,8 @@ impl<L: Law + Drop> World<L> {
     /// a commit no document of a node has an entry but collisions.
     pub fn documents(&self) -> &DocTable
         ensures table { result.now ≡ self.now.table }
-        ensures kept { IsKept (L.may_start self.now.law)
-            (L.may_say self.now.law) (state_of self.now) }
+        ensures kept { (formers : Formers) × IsKept (L.may_start self.now.law)
+            (L.may_say self.now.law) (with_formers (state_of self.now) formers) }
         ensures undone { (r : Revision) (p : Path) (d : Document)
             → IsTrue (is_ended self.now.history.past r)
             → IsFalse (is_committed self.now.history.past r)

@@ -23,7 +23,7 @@ returns-clause-due g c =
 pub returns-clause-busy : goal.returns-clause-busy
 returns-clause-busy g c =
     subst (λ (o : Option StepKind). (is_some o ≡ true) ↔ (work_in c.args.self.now.actors c.args.actor ≢ work.Rest)) (sym (returns-clause-due g c))
-    (busy_due (g.L.Law.may_start c.args.self.now.law) (live c.args.self.now.history) c.args.actor (work_in c.args.self.now.actors c.args.actor)
+    (busy_due (g.L.Law.may_start c.args.self.now.law) c.args.self.now.table (live c.args.self.now.history) c.args.actor (work_in c.args.self.now.actors c.args.actor)
     ((world_is g.L.Law.may_start g.L.Law.may_say _ c.args.self.now c.self.view_is c.self.invariant.0.0).may c.args.actor))
 
 pub returns-clause-over : goal.returns-clause-over

@@ -1,0 +1,114 @@
+-- A commit that writes reads a previous document where that is due, and nowhere else; no event is added then.
+use mathlib.Core.Bool.{false≢true}
+use Rattle.std.proofs.Common.{◌≡◌, ◌⊎◌, inl, inr, ℕ, suc, ◌+◌, Bool, true, false, Option, Some, None, List, [], ◌∷◌, ◌++◌, length, is_some, refl, sym, ap, subst, ◌∙◌, arith, length-append}
+use Rattle.jr_rev.specs.declared.revision.Revision.{Revision}
+use Rattle.oak_commit.specs.Committing.{Committing}
+use Rattle.oak_commit.specs.Kept.{undoes}
+use Rattle.oak_commit.specs.Stages.{stage_of}
+use Rattle.oak_commit.specs.declared.look.Look.{Look}
+use Rattle.oak_commit.specs.declared.outcome.CommitEnd.{CommitEnd}
+use Rattle.oak_commit.specs.declared.outcome.CommitEnd.TheVariants as end
+use Rattle.oak_commit.specs.declared.stage.Stage.{Stage}
+use Rattle.oak_commit.specs.declared.stage.Stage.TheVariants as stage
+use Rattle.oak_machine.specs.History.{Past}
+use Rattle.oak_machine.specs.declared.event.StepKind.{StepKind}
+use Rattle.oak_machine.specs.declared.event.StepKind.TheVariants as kind
+use Rattle.oak_port.specs.declared.task.StepOut.{StepOut}
+use Rattle.oak_port.specs.declared.task.StepOut.TheVariants as answers
+use Rattle.oak_port.specs.declared.task.Task.{Task}
+use Rattle.oak_port.specs.Ports.{Deciding, Detaching, Idle, Learning, Publishing, ReadsAsDue, Starting, Undoing, Awaiting, Work as Shows, Writing, is_due}
+use Rattle.oak_step.proofs.Feeding.{stage_last, stage_mark, stage_write}
+use Rattle.oak_step.proofs.Stages.{finish_stage}
+use Rattle.oak_step.specs.declared.upkeep.Upkeep.{Upkeep}
+use Rattle.oak_step.specs.declared.upkeep.Upkeep.TheVariants as upkeep
+use Rattle.oak_step.specs.declared.work.Work.{Work}
+use Rattle.oak_step.specs.declared.work.Work.TheVariants as work
+use Rattle.oak_step.specs.Works.{kind_due, kind_of_stage}
+use Rattle.oak_sync.specs.Learning.{stage_of as stage_of_read}
+use Rattle.oak_sync.specs.declared.back_read.BackRead.{BackRead}
+use Rattle.oak_sync.specs.declared.stage.Stage.{Stage as Syncing}
+use Rattle.oak_sync.specs.declared.stage.Stage.TheVariants as syncing
+use Rattle.core_world.specs.States.{State}
+use Rattle.oak_world.specs.Seen.{shown_by, shown_read, shown_upkeep, shown_work}
+use Rattle.oak_world.specs.Steps.{MakesCommit, MakesState, MakesUpdate}
+
+-- where as many events are there as before, none was added
+none_added : (own past : Past) → own ++ past ≡ past → own ≡ []
+none_added [] past same = refl
+none_added (e ∷ own) past same =
+    let l : length ((e ∷ own) ++ past) ≡ suc (length own) + length past = length-append (e ∷ own) past in
+    let k : length ((e ∷ own) ++ past) ≡ length past = ap length same in
+    absurd (omega (arith, l, k))
+
+-- a committer that looks
+stage_look : (c : Committing) (k : Look) → c.outcome ≡ None → c.looking ≡ Some k → stage_of c ≡ stage.Look
+stage_look c k going looking = subst (λ (d : Committing). stage_of d ≡ stage.Look) (sym at) refl
+  where
+    at : c ≡ record c { outcome = None; looking = Some k }
+    at = ap (λ (o : Option CommitEnd). record c { outcome = o }) going ∙ ap (λ (l : Option Look). record c { outcome = None; looking = l }) looking
+
+module _ (s : ℕ) (w u : State) (own : Past) (grown : u.past ≡ own ++ w.past) where
+  nothing : u.past ≡ w.past → own ≡ []
+  nothing same = none_added own w.past (sym grown ∙ same)
+
+  module _ (c : Committing) (going : c.outcome ≡ None) where
+    at_stage : (y : Stage) (o : StepOut) → stage_of c ≡ y → ReadsAsDue (is_due kind.Read (kind_of_stage y)) o own → ReadsAsDue (is_due kind.Read (kind_of_stage (stage_of c))) o own
+    at_stage y o is h = subst (λ (x : Stage). ReadsAsDue (is_due kind.Read (kind_of_stage x)) o own) (sym is) h
+
+    update : (d : Committing) (k : StepKind) → MakesUpdate s w c u d k → ReadsAsDue (is_due kind.Read (kind_of_stage (stage_of c))) (answers.Went k) own
+    update d kind.Mark g = at_stage stage.Mark (answers.Went kind.Mark) (stage_mark c going g.2.looked g.0 g.1 g.3) tt
+    update d kind.Write g = at_stage stage.Write (answers.Went kind.Write) (stage_write c going g.2.looked g.0 g.1 g.3 g.4) tt
+    update d kind.Read g = at_stage stage.Look (answers.Went kind.Read) (stage_look c g.0 going g.2) (elim g.3 [ inl e ↦ nothing (ap (λ (x : State). x.past) e.0) | inr e ↦ nothing (ap (λ (x : State). x.past) e.0) ])
+    update d kind.Last g = at_stage stage.Last (answers.Went kind.Last) (stage_last c going g.0.looked g.1 g.2) tt
+    update d kind.Undo g = absurd (false≢true (sym (ap undoes going) ∙ g.2))
+    update d _ g = absurd g
+
+    memory : (b : Bool) → u.past ≡ w.past → ReadsAsDue b answers.Memory own
+    memory true same = nothing same
+    memory false same = tt
+
+    commit : (v : Work) (o : StepOut) → MakesCommit s w c u v o → ReadsAsDue (is_due kind.Read (kind_of_stage (stage_of c))) o own
+    commit v o (inl m) = subst (λ (x : StepOut). ReadsAsDue (is_due kind.Read (kind_of_stage (stage_of c))) x own) (sym m.1) (update m.2 m.0 m.4)
+    commit v o (inr (inl m)) = absurd (false≢true (sym (ap is_some going) ∙ (finish_stage c m.0).settled))
+    commit v o (inr (inr m)) = subst (λ (x : StepOut). ReadsAsDue (is_due kind.Read (kind_of_stage (stage_of c))) x own) (sym m.0) (memory (is_due kind.Read (kind_of_stage (stage_of c))) (ap (λ (x : State). x.past) m.2))
+
+  -- a commit that is shown to write is before its commit point
+  still_open : (q r : Revision) (o : Option CommitEnd) → shown_by q o ≡ Writing r → o ≡ None
+  still_open q r None h = refl
+  still_open q r (Some (end.Committed x)) h = let never : Deciding q ≡ Writing r = h in cc
+  still_open q r (Some (end.Clash item x)) h = let never : Undoing q (end.Clash item x) ≡ Writing r = h in cc
+  still_open q r (Some end.Memory) h = let never : Undoing q end.Memory ≡ Writing r = h in cc
+
+  never_task : {A : Type 0} (t : Task) (r : Revision) → Starting t ≡ Writing r → A
+  never_task t r h = absurd (let never : Starting t ≡ Writing r = h in cc)
+
+  read_shown : {A : Type 0} (b : BackRead) (at : Syncing) (r : Revision) → shown_read b at ≡ Writing r → A
+  read_shown b syncing.Learn r h = absurd (let never : Learning b.last ≡ Writing r = h in cc)
+  read_shown b syncing.Write r h = never_task _ r h
+  read_shown b syncing.Publish r h = never_task _ r h
+  read_shown b syncing.Read r h = never_task _ r h
+  read_shown b syncing.Done r h = never_task _ r h
+
+  upkeep_shown : {A : Type 0} (k : Upkeep) (r : Revision) → shown_upkeep k ≡ Writing r → A
+  upkeep_shown upkeep.Write r h = never_task _ r h
+  upkeep_shown (upkeep.Noted n) r h = absurd (let never : Publishing n.upto ≡ Writing r = h in cc)
+  upkeep_shown (upkeep.Publish b) r h = absurd (let never : Publishing b.upto ≡ Writing r = h in cc)
+  upkeep_shown (upkeep.Read b) r h = read_shown b (stage_of_read b) r h
+  upkeep_shown (upkeep.Checkpoint i) r h = never_task _ r h
+  upkeep_shown (upkeep.Release i) r h = never_task _ r h
+  upkeep_shown (upkeep.Attach i) r h = never_task _ r h
+  upkeep_shown upkeep.Detach r h = never_task _ r h
+  upkeep_shown (upkeep.Detaching pin) r h = absurd (let never : Detaching pin.base ≡ Writing r = h in cc)
+  upkeep_shown upkeep.Observe r h = never_task _ r h
+
+  pub reads_as_due : (v x : Work) (o : StepOut) → MakesState s w v u x o → (r : Revision) → shown_work v ≡ Writing r → ReadsAsDue (is_due kind.Read (kind_due v)) o own
+  reads_as_due (work.Commit c) x o m r h = commit c (still_open c.revision r c.outcome h) x o m
+  reads_as_due work.Rest x o m r h = absurd m
+  reads_as_due work.Login x o m r h = never_task _ r h
+  reads_as_due work.End x o m r h = never_task _ r h
+  reads_as_due work.Refresh x o m r h = never_task _ r h
+  reads_as_due (work.Read y) x o m r h = never_task _ r h
+  reads_as_due (work.Changes y) x o m r h = never_task _ r h
+  reads_as_due (work.Plan edit marks) x o m r h = never_task _ r h
+  reads_as_due (work.Move y) x o m r h = absurd (let never : Awaiting y ≡ Writing r = h in cc)
+  reads_as_due (work.Upkeep k) x o m r h = upkeep_shown k r h
