@@ -1,10 +1,10 @@
 -- Each step lowers the number of steps that are left.
 use Rattle.std.proofs.Common.{◌≡◌, ◌≢◌, ◌+◌, ◌-◌, ◌<◌, ◌≤◌, ℕ, Bool, true, false, cond, length, List, [], ◌∷◌, Option, Some, None, Ok, Err, map, refl, sym, ap, subst, ◌∙◌, arith}
 use Rattle.std.specs.Prelude.{nat_lt, slice_get}
-use Rattle.std.specs.List.{AllByRecursion, filter, fold}
+use Rattle.std.specs.List.{filter}
 use Rattle.std.specs.Option.{IfSome, option_map, option_map_or}
 use Rattle.std.specs.Ordering.{match_ordering, nat_cmp}
-use Rattle.std.specs.Map.{keys_of, values_of}
+use Rattle.std.specs.Map.{values_of}
 use Rattle.std.specs.BTreeMap.{insert_entry}
 use Rattle.std.specs.declared.cmp.Ordering.{Ordering}
 use Rattle.std.specs.declared.cmp.Ordering.TheVariants.{Less, Equal, Greater}
@@ -25,14 +25,14 @@ use Rattle.oak_doc.specs.declared.document.PrevEntry.{PrevEntry}
 use Rattle.oak_doc.specs.declared.update.Cond.TheVariants.{Unchanged}
 use Rattle.oak_doc.specs.Updates.{after_changes, is_met, update_refusal, updated}
 use Rattle.oak_gc.specs.Bounding.{node_reply}
-use Rattle.oak_gc.specs.Bounds.{Told, kept_pairs, root_pair}
+use Rattle.oak_gc.specs.Bounds.{Told, root_pair}
 use Rattle.oak_gc.specs.Collecting as collecting
 use Rattle.oak_gc.specs.Collecting.{Previous, decided, found_document, garbage_previous, going_on, has_garbage_in, last_of, node_reading, on_next, removing, with_document, with_entries, with_previous_read, with_skip}
 use Rattle.oak_gc.specs.Garbage.{garbage_in, is_garbage_document, is_garbage_previous}
 use Rattle.oak_gc.specs.declared.collector.Collector.{Collector}
 use Rattle.oak_gc.specs.declared.reading.Step.{Step as CollectStep}
 use Rattle.oak_gc.specs.declared.reading.Step.TheVariants as collect_step
-use Rattle.oak_gc.proofs.Behind.{IsNext, behind, comes, is_node, left, left_put, left_removed, next_is, none_next, not_itself, of_first}
+use Rattle.oak_gc.proofs.Behind.{behind, comes, is_node, left, left_put, left_removed, next_is, none_next, not_itself, of_first}
 use Rattle.oak_prev.specs.Splitting as splitting
 use Rattle.oak_prev.specs.Splitting.{on_next_root, split_ended, statuses_known}
 use Rattle.oak_prev.specs.declared.splitter.Splitter.{Splitter}
@@ -58,7 +58,7 @@ use Rattle.core_world.specs.Steps.{with_result}
 use Rattle.oak_acts.specs.Acts.{replied}
 use Rattle.oak_tidy.specs.declared.tidying.Tidying.{Tidying}
 use Rattle.oak_tidy.specs.declared.tidying.Tidying.TheVariants as tidying
-use Rattle.oak_tidy.specs.Left.{StepsLower, all_steps, collect_left, document_steps, nodes_behind, split_left, sweep_left, tidying_left}
+use Rattle.oak_tidy.specs.Left.{StepsLower, all_steps, collect_left, nodes_behind, split_left, sweep_left, tidying_left}
 use Rattle.oak_tidy.specs.Replies.{AllParts, table_after, told_to}
 use Rattle.oak_tidy.specs.Tidyings.{AsksNodesOf, CanTidy, GoesOrEnds, parts_on, tidied_on}
 

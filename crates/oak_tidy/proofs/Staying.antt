@@ -1,21 +1,19 @@
 -- Whatever it is fed, a collector asks none but the cluster nodes that there are.
-use Rattle.std.proofs.Common.{◌≡◌, ◌+◌, ◌<◌, ◌≤◌, ℕ, Bool, true, false, cond, length, List, [], ◌∷◌, Option, Some, None, map, refl, sym, ap, subst, ◌∙◌, arith}
+use Rattle.std.proofs.Common.{◌≡◌, ◌+◌, ◌≤◌, ℕ, Bool, true, false, cond, length, List, [], ◌∷◌, Option, Some, None, map, refl, sym, ap, subst, ◌∙◌, arith}
 use Rattle.std.specs.Prelude.{nat_lt}
 use Rattle.std.specs.Option.{IfSome, option_map_or}
 use Rattle.std.proofs.lemmas.Bool.Decides.{nat_tests}
 use Rattle.jr_path.specs.declared.path.DocId.{DocId}
 use Rattle.jr_path.specs.declared.path.DocId.TheVariants as id
-use Rattle.jr_rev.specs.declared.vector.Pin.{Pin}
 use Rattle.oak_doc.specs.declared.asks.RemoveOut.TheVariants as removal
 use Rattle.oak_doc.specs.declared.asks.Reply.{Reply}
 use Rattle.oak_doc.specs.declared.asks.Reply.TheVariants as reply
 use Rattle.oak_doc.specs.declared.document.Document.{Document}
 use Rattle.oak_doc.specs.declared.update.Kept.TheVariants as kept
 use Rattle.oak_gc.specs.Bounds.{kept_pairs, root_pair}
-use Rattle.oak_gc.specs.Collecting.{Previous, begun, fed, found_document, garbage_previous, going_on, has_garbage_in, last_of, lowered, no_pair, node_reading, removing, with_document, with_entries, with_previous_read, with_skip}
+use Rattle.oak_gc.specs.Collecting.{Previous, fed, found_document, garbage_previous, going_on, has_garbage_in, last_of, lowered, no_pair, node_reading, removing, with_document, with_entries, with_previous_read, with_skip}
 use Rattle.oak_gc.specs.Garbage.{garbage_in, is_garbage_document}
 use Rattle.oak_gc.specs.declared.collector.Collector.{Collector}
-use Rattle.oak_gc.specs.declared.reading.Reading.{Reading}
 use Rattle.oak_gc.specs.declared.reading.Step.{Step}
 use Rattle.oak_gc.specs.declared.reading.Step.TheVariants as step
 use Rattle.oak_machine.specs.declared.event.StepKind.{StepKind}

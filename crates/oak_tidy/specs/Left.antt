@@ -1,5 +1,5 @@
 -- How many steps are left at most of what tidies documents, where it alone takes steps.
-use Rattle.std.specs.Prelude.{◌≡◌, ℕ, ◌+◌, ◌-◌, ◌<◌, Bool, true, false, ◌&&◌, List, [], ◌∷◌, length, Option, None, Some}
+use Rattle.std.specs.Prelude.{ℕ, ◌+◌, ◌-◌, ◌<◌, Bool, true, false, ◌&&◌, List, [], ◌∷◌, length, Option, None, Some}
 use Rattle.std.specs.List.{filter}
 use Rattle.std.specs.Option.{option_map_or}
 use Rattle.std.specs.BTreeMap.Range.{range_contains}
@@ -7,7 +7,6 @@ use Rattle.std.specs.declared.ops.Bound.TheVariants.{Excluded, Unbounded}
 use Rattle.jr_path.specs.Ids.{id_cmp}
 use Rattle.jr_path.specs.declared.path.DocId.{DocId}
 use Rattle.jr_path.specs.declared.path.DocId.TheVariants as id
-use Rattle.jr_path.specs.declared.path.Path.{Path}
 use Rattle.oak_doc.specs.declared.document.Document.{Document}
 use Rattle.oak_gc.specs.declared.collector.Collector.{Collector}
 use Rattle.oak_gc.specs.declared.reading.Step.{Step as CollectStep}
