@@ -40,8 +40,8 @@ stands_behind (Some x) y = is_nodes y && range_contains id_cmp (Excluded x) Unbo
 abbrev pub nodes_behind : Option DocId → List (DocId × Document) → List (DocId × Document)
 nodes_behind x es = filter (λ e. stands_behind x e.0) es
 
--- a splitter asks for the document, for commit roots, for two updates, and for the previous document
--- again, to remove it
+-- a splitter asks for the document, for commit roots, for two updates, and for the previous
+-- document again, to remove it
 abbrev pub split_left : List (DocId × Document) → Splitter → ℕ
 split_left es s = by s.step
   where
@@ -55,8 +55,8 @@ split_left es s = by s.step
     by (split_step.Remove k found o) = 1
     by (split_step.Done o) = 0
 
--- a sweeper asks for the root, for each node's document behind the one that it passed, for the root's
--- update, and that the memory learns
+-- a sweeper asks for the root, for each node's document behind the one that was passed last, for
+-- the root's update, and that the memory learns
 abbrev pub sweep_left : List (DocId × Document) → Sweeper → ℕ
 sweep_left es s = by s.step
   where
@@ -68,8 +68,8 @@ sweep_left es s = by s.step
     by sweep_step.Learn = 1
     by sweep_step.Done = 0
 
--- of a document: its reading, that of each previous one that it lists, its change, and the removal of
--- each of these
+-- for one document: its reading, that of each previous one that is listed, its change, and the
+-- removal of each previous one
 abbrev pub document_steps : Document → ℕ
 document_steps d = length d.prev + length d.prev + 3
 

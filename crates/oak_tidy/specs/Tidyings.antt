@@ -123,7 +123,7 @@ parts_on s k p x =
     all_parts (table_after p.table (tidying_ask x)) (memories_after k p.memories (tidying_ask x))
     (p.list ++ tidy_events s k x (tidied_on p x))
 
--- what comes of a step of this kind that leaves x: it goes on, or where nothing more is due the task
+-- what comes of a step of this kind that leaves x: the task goes on, or where nothing more is due
 -- ends with what there is to tell
 abbrev pub GoesOrEnds : StepKind → Tidying → Option Tidying → StepOut → Type 0
 GoesOrEnds y x v (answers.Went z) = (z ≡ y) × (v ≡ Some x) × (tidying_ask x ≢ ask.Done)

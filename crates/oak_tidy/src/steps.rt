@@ -14,8 +14,8 @@ use oak_port::StepOut;
 use oak_store::DocTable;
 use std::alloc::{AllocError, Global};
 
-/// One step of what tidies documents, for session `s` of cluster node `node`: what goes on then, and
-/// the answer. The memories are those of all cluster nodes. The reply is taken before documents
+/// One step of what tidies documents, for session `s` of cluster node `node`: what goes on then,
+/// and the answer. The memories are those of all cluster nodes. The reply is taken before documents
 /// or memories change, and where memory is refused nothing changes.
 pub fn tidy(
     alloc: Global,
@@ -46,8 +46,8 @@ pub fn tidy(
     }
 }
 
-// What is due is done, answered and told, with the kind of the step. Where memory is refused nothing
-// changes but what tidies.
+// What is due is done, answered and told, with the kind of the step. Where memory is refused
+// nothing changes but what tidies.
 fn step(
     alloc: Global,
     table: &mut DocTable,
