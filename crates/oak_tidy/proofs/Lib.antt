@@ -3,3 +3,4 @@ pub mod Staying
 pub mod Ordered
 pub mod Moving
 pub mod Reading
+pub mod Lowering

@@ -1,34 +1,19 @@
 -- What is looked for has its event.
-use Rattle.std.proofs.Common.{◌≡◌, ◌+◌, ◌<◌, ◌≤◌, ℕ, Bool, true, false, cond, List, [], ◌∷◌, Option, Some, None, refl, sym, ap, subst, ◌∙◌}
+use Rattle.std.proofs.Common.{◌≡◌, ℕ, Bool, true, false, cond, List, [], ◌∷◌, Some, None, refl, ap, ◌∙◌}
 use Rattle.std.specs.Option.{option_map_or}
-use Rattle.jr_path.specs.declared.path.DocId.{DocId}
-use Rattle.jr_path.specs.declared.path.DocId.TheVariants as id
-use Rattle.jr_rev.specs.declared.revision.Revision.{Revision}
 use Rattle.oak_doc.specs.declared.asks.Ask.{Ask}
 use Rattle.oak_doc.specs.declared.asks.Ask.TheVariants as ask
-use Rattle.oak_doc.specs.declared.asks.MemoryAsk.{MemoryAsk}
-use Rattle.oak_doc.specs.declared.asks.MemoryAsk.TheVariants as memory
-use Rattle.oak_doc.specs.declared.update.UpdateOp.{UpdateOp}
-use Rattle.oak_gc.specs.Collecting as collecting
-use Rattle.oak_gc.specs.declared.collector.Collector.{Collector}
 use Rattle.oak_gc.specs.declared.reading.Step.{Step as CollectStep}
 use Rattle.oak_gc.specs.declared.reading.Step.TheVariants as collect_step
 use Rattle.oak_machine.specs.declared.event.Event.{Event}
 use Rattle.oak_machine.specs.declared.event.Event.TheVariants as event
 use Rattle.oak_machine.specs.declared.event.StepKind.{StepKind}
 use Rattle.oak_machine.specs.declared.event.StepKind.TheVariants as kind
-use Rattle.oak_machine.specs.Runs.{IsNode}
-use Rattle.oak_prev.specs.Splitting as splitting
-use Rattle.oak_prev.specs.declared.splitter.Splitter.{Splitter}
-use Rattle.oak_prev.specs.declared.splitter.Step.{Step as SplitStep}
-use Rattle.oak_prev.specs.declared.splitter.Step.TheVariants as split_step
-use Rattle.oak_sweep.specs.Sweeping as sweeping
-use Rattle.oak_sweep.specs.declared.sweeper.Sweeper.{Sweeper}
 use Rattle.oak_sweep.specs.declared.sweeper.Step.{Step as SweepStep}
 use Rattle.oak_sweep.specs.declared.sweeper.Step.TheVariants as sweep_step
 use Rattle.oak_tidy.specs.declared.tidying.Tidying.{Tidying}
 use Rattle.oak_tidy.specs.declared.tidying.Tidying.TheVariants as tidying
-use Rattle.oak_tidy.specs.Tidyings.{AsksNodesOf, AsksWithin, IsLooking, bound_told, kind_tidied, own_event, takes_bound, tidy_events, tidying_ask, went}
+use Rattle.oak_tidy.specs.Tidyings.{IsLooking, bound_told, kind_tidied, own_event, takes_bound, tidy_events, tidying_ask, went}
 
 -- a counted step has an event
 pub went_counted : (s : ℕ) (z : StepKind) → (z ≡ kind.Read → ⊥) → went s z ≡ event.Went s z ∷ []

@@ -1,17 +1,12 @@
 -- Each step as one of a world.
-use Rattle.std.proofs.Common.{◌≡◌, ℕ, List, ◌∷◌, ◌++◌, Bool, true, false, cond, not, ◌&&◌, Option, Some, None, Result, Ok, Err, is_none, refl, sym, ap, subst, ◌∙◌}
+use Rattle.std.proofs.Common.{◌≡◌, ℕ, List, ◌∷◌, Bool, true, false, cond, not, ◌&&◌, Option, Some, Result, Ok, Err, is_none, refl, ap, ◌∙◌}
 use Rattle.jr_path.specs.declared.path.DocId.{DocId}
 use Rattle.jr_path.specs.declared.path.DocId.TheVariants as id
 use Rattle.jr_path.specs.declared.path.Path.{Path}
 use Rattle.jr_rev.specs.declared.revision.Revision.{Revision}
-use Rattle.jr_rev.specs.declared.vector.Pin.{Pin}
-use Rattle.jr_rev.specs.Vectors.{greatest, no_entries, raised}
-use Rattle.oak_doc.specs.declared.asks.Ask.{Ask}
 use Rattle.oak_doc.specs.declared.asks.Ask.TheVariants as ask
 use Rattle.oak_doc.specs.declared.asks.RemoveOut.{RemoveOut}
-use Rattle.oak_doc.specs.declared.asks.RemoveOut.TheVariants as removal
 use Rattle.oak_doc.specs.declared.document.Document.{Document}
-use Rattle.oak_doc.specs.declared.document.PrevEntry.{PrevEntry}
 use Rattle.oak_doc.specs.declared.update.OpFault.{OpFault}
 use Rattle.oak_doc.specs.declared.update.OpFault.TheVariants as fault
 use Rattle.oak_doc.specs.declared.update.UpdateOp.{UpdateOp}
@@ -21,12 +16,12 @@ use Rattle.oak_machine.specs.declared.event.StepKind.{StepKind}
 use Rattle.oak_machine.specs.declared.event.StepKind.TheVariants as kind
 use Rattle.oak_node.specs.Memory.{NodeState}
 use Rattle.oak_prev.specs.Splits.{main_write}
-use Rattle.oak_read.specs.Meaning.{Documents, documents_in}
+use Rattle.oak_read.specs.Meaning.{documents_in}
 use Rattle.oak_store.specs.Tables.{Table, after_removal, found, next_number, with_document}
 use Rattle.oak_sweep.proofs.Teaching.{teaches_one}
 use Rattle.core_world.specs.Collecting.{after_split}
 use Rattle.core_world.specs.States.{State, memory_of, node_of, with_memory}
-use Rattle.core_world.specs.Steps.{swept_to, with_result}
+use Rattle.core_world.specs.Steps.{with_result}
 use Rattle.oak_acts.specs.Acts.{result_of}
 use Rattle.oak_tidy.specs.Moves.{AbsentStay, BoundsGo, ChangedStay, DocumentsGo, GarbageGoes, LooksGo, NodesTell, ReadsStay, RefusalsGo, SplitsCopy, SplitsList, SplitsUndo, SweepsLearn, SweepsTell}
 

@@ -1,5 +1,5 @@
 -- A removal leaves the documents in store order, each under its id, with names by the grammar.
-use Rattle.std.proofs.Common.{◌≡◌, ℕ, Bool, true, false, cond, All, List, [], ◌∷◌, refl}
+use Rattle.std.proofs.Common.{◌≡◌, Bool, true, false, cond, All, List, [], ◌∷◌}
 use Rattle.std.specs.List.{AllByRecursion}
 use Rattle.std.specs.List.Sorted.{IsStrictlySortedBy}
 use Rattle.std.specs.Map.{keys_of, remove_entry}
@@ -14,7 +14,7 @@ use Rattle.oak_doc.specs.declared.asks.RemoveOut.TheVariants as removal
 use Rattle.oak_doc.specs.declared.document.Document.{Document}
 use Rattle.oak_read.specs.Meaning.{path_of}
 use Rattle.oak_read.specs.Reading.{IsTable}
-use Rattle.oak_store.specs.Tables.{Table, after_removal, removal_of}
+use Rattle.oak_store.specs.Tables.{Table, after_removal}
 
 module _ (test : DocId → Bool) where
   -- what holds of each entry holds of each that is left

@@ -1,21 +1,17 @@
 -- What is read of a world, and told in its journal.
-use Rattle.std.proofs.Common.{◌≡◌, ◌≢◌, ℕ, Bool, true, false, cond, List, [], ◌∷◌, Option, Some, None, IsTrue, refl, sym, ap, subst, ◌∙◌, arith}
+use Rattle.std.proofs.Common.{◌≡◌, ◌≢◌, ℕ, Bool, true, cond, [], ◌∷◌, Option, Some, None, refl, sym, ap, ◌∙◌, arith}
 use Rattle.std.specs.Prelude.{◌==◌, ◌&&◌}
 use Rattle.std.specs.List.{fold, list_any}
 use Rattle.std.specs.Map.{values_of}
 use Rattle.std.specs.Option.{option_map_or}
 use Rattle.std.proofs.lemmas.Bool.Decides.{nat_tests}
-use Rattle.std.specs.declared.alloc.Global.{Global}
 use Rattle.jr_path.specs.declared.path.DocId.TheVariants as id
-use Rattle.jr_rev.specs.declared.vector.Pin.{Pin}
-use Rattle.oak_doc.specs.declared.asks.Ask.{Ask}
 use Rattle.oak_doc.specs.declared.asks.Ask.TheVariants as ask
 use Rattle.oak_doc.specs.declared.asks.MemoryAsk.TheVariants as memory
-use Rattle.oak_doc.specs.declared.asks.Reply.{Reply}
 use Rattle.oak_doc.specs.declared.asks.Reply.TheVariants as reply
 use Rattle.oak_doc.specs.declared.document.Document.{Document}
 use Rattle.oak_gc.specs.Bounding.{node_reply}
-use Rattle.oak_gc.specs.Bounds.{Told, lesser_pair, root_pair}
+use Rattle.oak_gc.specs.Bounds.{lesser_pair, root_pair}
 use Rattle.oak_gc.specs.Collecting as collecting
 use Rattle.oak_gc.specs.declared.collector.Collector.{Collector}
 use Rattle.oak_gc.specs.declared.reading.Step.{Step as CollectStep}
@@ -25,7 +21,6 @@ use Rattle.oak_machine.specs.declared.event.StepKind.TheVariants as kind
 use Rattle.oak_machine.specs.History.{History}
 use Rattle.oak_machine.specs.Steps.{is_appended_by, is_kind, is_on, where_test}
 use Rattle.oak_node.specs.Pins.{pin_now}
-use Rattle.oak_prev.specs.Splitting as splitting
 use Rattle.oak_prev.specs.declared.splitter.Splitter.{Splitter}
 use Rattle.oak_prev.specs.declared.splitter.Step.{Step as SplitStep}
 use Rattle.oak_prev.specs.declared.splitter.Step.TheVariants as split_step
@@ -34,14 +29,12 @@ use Rattle.oak_sweep.specs.Sweeping as sweeping
 use Rattle.oak_sweep.specs.declared.sweeper.Sweeper.{Sweeper}
 use Rattle.oak_sweep.specs.declared.sweeper.Step.{Step as SweepStep}
 use Rattle.oak_sweep.specs.declared.sweeper.Step.TheVariants as sweep_step
-use Rattle.core_world.specs.Bounding.{fed_node, fed_settings}
-use Rattle.core_world.specs.Held.{is_node_in, no_pin}
-use Rattle.core_world.specs.States.{State, memory_at, nodes_in}
-use Rattle.core_world.specs.Sweeping.{swept_target}
+use Rattle.core_world.specs.Held.{no_pin}
+use Rattle.core_world.specs.States.{memory_at, nodes_in}
 use Rattle.oak_tidy.specs.declared.tidying.Tidying.{Tidying}
 use Rattle.oak_tidy.specs.declared.tidying.Tidying.TheVariants as tidying
 use Rattle.oak_tidy.specs.Moves.{AppendsItsEvents, BoundsBegin, CollectionsBegin, GonePass, NodesBound, SettingsBound, SplitsBegin, SweepsBegin, SweepsRead}
-use Rattle.oak_tidy.specs.Replies.{node_tells, told_by_memories}
+use Rattle.oak_tidy.specs.Replies.{told_by_memories}
 use Rattle.oak_tidy.specs.Tidyings.{kind_tidied, tidy_events}
 use Rattle.oak_tidy.proofs.Staying.{begun_asks}
 

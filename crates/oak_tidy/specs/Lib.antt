@@ -1,3 +1,4 @@
 pub mod Replies
 pub mod Tidyings
 pub mod Moves
+pub mod Left

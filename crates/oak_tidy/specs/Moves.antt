@@ -1,5 +1,5 @@
 -- The steps of what tidies documents as steps of a world.
-use Rattle.std.specs.Prelude.{◌≡◌, ℕ, Bool, true, false, [], ◌∷◌, ◌++◌, Option, Some, Ok, Err, IsTrue}
+use Rattle.std.specs.Prelude.{◌≡◌, ℕ, true, false, [], ◌∷◌, ◌++◌, Some, Ok, Err, IsTrue}
 use Rattle.std.specs.declared.alloc.Global.{Global}
 use Rattle.jr_path.specs.declared.path.DocId.{DocId}
 use Rattle.jr_path.specs.declared.path.DocId.TheVariants as id
@@ -101,7 +101,8 @@ SplitsList = (w : State) (s : ℕ) (read : Documents) (pin : Pin) (p : Path) (ol
     (e : PrevEntry) → old.id ≡ id.Node p
     → documents_in w.table.documents (id.Node p) ≡ Some old
     → result_of w.table (main_write read pin old e) ≡ Ok d
-    → record (after_asking w s (ask.Update (main_write read pin old e)) (event.Went s kind.Split ∷ [])) {
+    → let asked = ask.Update (main_write read pin old e) in
+    record (after_asking w s asked (event.Went s kind.Split ∷ [])) {
       formers = (after_split w s read pin p old e).formers;
     } ≡ after_split w s read pin p old e
 
@@ -116,7 +117,8 @@ SplitsUndo = (w : State) (s : ℕ) (i : DocId) (n : ℕ) → removal_of w.table 
 -- the root is told
 abbrev pub SweepsTell : Type 0
 SweepsTell = (w : State) (s : ℕ) (r : Revision)
-    → after_asking w s (ask.Update (sweep_op r)) (event.Sweep (node_of w s) r ∷ []) ≡ after_sweep w s r
+    → after_asking w s (ask.Update (sweep_op r)) (event.Sweep (node_of w s) r ∷ [])
+    ≡ after_sweep w s r
 
 -- the memory learns, where a learning of a sweep alone leaves its head
 abbrev pub SweepsLearn : Type 0

@@ -9,6 +9,8 @@ use Rattle.oak_doc.specs.declared.asks.Reply.{Reply}
 use Rattle.oak_gc.specs.Collecting as collecting
 use Rattle.oak_gc.specs.Stages as collect_stages
 use Rattle.oak_gc.specs.declared.collector.Collector.{Collector}
+use Rattle.oak_gc.specs.declared.reading.Reading.{Reading}
+use Rattle.oak_gc.specs.declared.reading.Step.{Step as CollectStep}
 use Rattle.oak_gc.specs.declared.reading.Step.TheVariants as collect_step
 use Rattle.oak_gc.specs.declared.stage.Stage.{Stage as Collected}
 use Rattle.oak_gc.specs.declared.stage.Stage.TheVariants as collect_stage
@@ -121,7 +123,7 @@ parts_on s k p x =
     all_parts (table_after p.table (tidying_ask x)) (memories_after k p.memories (tidying_ask x))
     (p.list ++ tidy_events s k x (tidied_on p x))
 
--- what comes of a step of this kind that leaves x: it goes on, or where nothing more is due the task
+-- what comes of a step of this kind that leaves x: the task goes on, or where nothing more is due
 -- ends with what there is to tell
 abbrev pub GoesOrEnds : StepKind → Tidying → Option Tidying → StepOut → Type 0
 GoesOrEnds y x v (answers.Went z) = (z ≡ y) × (v ≡ Some x) × (tidying_ask x ≢ ask.Done)
@@ -142,10 +144,18 @@ IsLooking (ask.Find i) = Unit {0}
 IsLooking (ask.NextAfter i) = Unit {0}
 IsLooking _ = ⊥
 
+-- what a collector has read stands in the document of the node at which it is, until it goes on
+abbrev pub CollectsAt : CollectStep → Reading → Type 0
+CollectsAt (collect_step.Listed n) r = r.document.id ≡ id.Node r.at
+CollectsAt collect_step.Prune r = r.document.id ≡ id.Node r.at
+CollectsAt collect_step.Remove r = r.document.id ≡ id.Node r.at
+CollectsAt _ r = Unit {0}
+
 -- a collector goes over so many cluster nodes, and asks these alone for what they hold
 pub record AsksNodesOf (clusters : ℕ) (x : Collector) : Type 0 where
   pub all : x.clusters ≡ clusters
   pub asked : (k : ℕ) → x.step ≡ collect_step.Node k → IsNode clusters k
+  pub at : CollectsAt x.step x.reading
 
 -- what cluster nodes it asks, if any, are among so many
 abbrev pub AsksWithin : ℕ → Tidying → Type 0

@@ -118,7 +118,7 @@ fn look_counted(
     }
 }
 
-// It is fed what the documents answer.
+// What the documents answer is fed.
 fn feed_found(table: &DocTable, tidying: &mut Tidying, asking: Ask) -> Result<(), AllocError>
     ensures { OnOk result
         (tidying.new ≡ tidying_fed tidying.old (answer table.now.documents asking)) }
@@ -127,7 +127,7 @@ fn feed_found(table: &DocTable, tidying: &mut Tidying, asking: Ask) -> Result<()
     tidying.feed(reply)
 }
 
-// Whether a collection has read all that its bound is taken of once this is answered.
+// Whether a collection takes its bound once the ask is answered.
 fn takes_bound(tidying: &Tidying, asking: &Ask) -> bool
     ensures { result ≡ takes_bound tidying.now asking.now }
 {
@@ -186,7 +186,7 @@ fn update(
     }
 }
 
-// It is fed what the documents will answer to an update.
+// What the documents will answer to an update is fed.
 fn feed_update(
     alloc: Global,
     table: &DocTable,
@@ -255,7 +255,7 @@ fn remove(
     Ok(())
 }
 
-// It is fed a reply, and the event of its step is told.
+// A reply is fed, and the event of its step is told.
 fn feed_counted(
     events: &mut Events,
     s: u32,
@@ -281,8 +281,8 @@ fn feed_counted(
     }
 }
 
-// What is asked of a memory is done: that of the session's cluster node learns, or one tells what it
-// holds.
+// What is asked of a memory is done: that of the session's cluster node learns, or one tells what
+// is held there.
 fn remember(
     alloc: Global,
     memories: &mut [NodeMem],
@@ -318,7 +318,7 @@ fn remember(
     }
 }
 
-// The memory of the cluster node learns what is asked: how far the node's own sweep went.
+// The memory of the cluster node learns how far the node's own sweep went.
 fn learn(
     memory: &mut NodeMem,
     events: &mut Events,

@@ -9,8 +9,8 @@ pub fn steps_have_their_events()
     ensures collections { CollectionsBegin }
 {}
 
-/// A reading step leaves the world. A look for a document, what a cluster node tells, an update that
-/// is refused and a removal that isn't made change no document and no memory.
+/// A reading step leaves the world. A look for a document, what a cluster node tells, an update
+/// that is refused and a removal that isn't made change no document and no memory.
 pub fn looks_are_steps()
     ensures reads { ReadsStay }
     ensures looks { LooksGo }
@@ -20,24 +20,24 @@ pub fn looks_are_steps()
     ensures absent { AbsentStay }
 {}
 
-/// A split writes its previous document; it takes what moved from the document, which lists that one
-/// then; or it removes that one again.
+/// A split writes its previous document; takes what moved from the document, which lists the
+/// previous one then; or removes the previous one again.
 pub fn splits_are_steps()
     ensures copied { SplitsCopy }
     ensures listed { SplitsList }
     ensures undone { SplitsUndo }
 {}
 
-/// A sweep reads in the root how far its cluster node has published, tells the root that it has swept
-/// up to there, and the memory learns that alone.
+/// A sweep reads in the root how far its cluster node has published, tells the root that all is
+/// swept up to there, and the memory learns that alone.
 pub fn sweeps_are_steps()
     ensures read { SweepsRead }
     ensures told { SweepsTell }
     ensures learned { SweepsLearn }
 {}
 
-/// A collection begins its bound with the root, lowers it to what each cluster node holds that isn't
-/// recovered, and with the settings takes it; then garbage of documents goes, and documents go.
+/// A collection begins its bound with the root, lowers it to what each cluster node holds that
+/// isn't recovered, and with the settings takes it; then garbage goes, and documents go.
 pub fn collections_are_steps()
     ensures begins { BoundsBegin }
     ensures nodes { NodesBound }

@@ -1,5 +1,5 @@
-//! One step of what tidies documents: a split, a sweep or a collection, over documents, the memories
-//! of all cluster nodes, and the events.
+//! One step of what tidies documents: a split, a sweep or a collection, over documents, the
+//! memories of all cluster nodes, and the events.
 #![tactic(auto)]
 
 mod answers;

@@ -1,7 +1,8 @@
 // One step of what tidies documents.
-ghost use Rattle.std.specs.Prelude.{◌≡◌, ◌++◌, ℕ, IfOk, OnErr, OnOk, length};
+ghost use Rattle.std.specs.Prelude.{◌≡◌, ◌<◌, IfOk, OnErr, OnOk, length};
 ghost use Rattle.std.specs.Option.{IfSome};
 ghost use Rattle.oak_read.specs.Reading.{IsTable};
+ghost use Rattle.oak_tidy.specs.Left.{tidying_left};
 ghost use Rattle.oak_tidy.specs.Replies.{all_parts};
 ghost use Rattle.oak_tidy.specs.Tidyings.{CanTidy, GoesOrEnds, Tidies, kind_tidied, parts_on, tidied_on};
 
@@ -13,8 +14,8 @@ use oak_port::StepOut;
 use oak_store::DocTable;
 use std::alloc::{AllocError, Global};
 
-/// One step of what tidies documents, for session `s` of cluster node `node`: what goes on then, and
-/// the answer. The memories are those of all cluster nodes. The reply is taken before documents
+/// One step of what tidies documents, for session `s` of cluster node `node`: what goes on then,
+/// and the answer. The memories are those of all cluster nodes. The reply is taken before documents
 /// or memories change, and where memory is refused nothing changes.
 pub fn tidy(
     alloc: Global,
@@ -30,6 +31,8 @@ pub fn tidy(
     ensures made { Tidies s node (all_parts table.old memories.old events.old.list) tidying
         (all_parts table.new memories.new events.new.list) result.0 result.1 }
     ensures can { IfSome result.0 (λ next. CanTidy (length memories.old) node next) }
+    ensures lowers { IfSome result.0
+        (λ next. tidying_left table.new next < tidying_left table.old tidying) }
     ensures places { events.new.places ≡ events.old.places }
     ensures order { IsTable table.new.documents }
 {
@@ -43,8 +46,8 @@ pub fn tidy(
     }
 }
 
-// What is due is done, answered and told, with the kind of the step. Where memory is refused nothing
-// changes but what tidies.
+// What is due is done, answered and told, with the kind of the step. Where memory is refused
+// nothing changes but what tidies.
 fn step(
     alloc: Global,
     table: &mut DocTable,
