@@ -312,7 +312,7 @@ module _ (p : AllParts) (is : IsTable p.table.documents) where
 pub steps_lower : StepsLower
 steps_lower p n k (tidying.Split x) is can = split_lowers p x x.step can.busy
 steps_lower p n k (tidying.Sweep x) is can = sweep_lowers p is x x.step can.busy
-steps_lower p n k (tidying.Collect x) is can = collect_lowers p is n x x.step can.asks can.busy
+steps_lower p n k (tidying.Collect x) is can = collect_lowers p is n x x.step can.asks.0 can.busy
 
 -- what goes on has fewer steps left
 pub goes_lower_on : (p q : AllParts) (n s k : ℕ) (x z : Tidying) (y : StepKind) (v : Option Tidying) (o : StepOut) → IsTable p.table.documents → CanTidy n k x → q ≡ parts_on s k p x → z ≡ tidied_on p x → GoesOrEnds y z v o → IfSome v (λ next. tidying_left q.table next < tidying_left p.table x)

@@ -1,5 +1,5 @@
 -- What is read of a world, and told in its journal.
-use Rattle.std.proofs.Common.{◌≡◌, ◌≢◌, ℕ, Bool, true, cond, [], ◌∷◌, Option, Some, None, refl, sym, ap, ◌∙◌, arith}
+use Rattle.std.proofs.Common.{◌≡◌, ◌≢◌, ℕ, Bool, true, cond, [], ◌∷◌, Option, Some, None, refl, sym, ap, subst, ◌∙◌, arith}
 use Rattle.std.specs.Prelude.{◌==◌, ◌&&◌}
 use Rattle.std.specs.List.{fold, list_any}
 use Rattle.std.specs.Map.{values_of}
@@ -33,9 +33,11 @@ use Rattle.core_world.specs.Held.{no_pin}
 use Rattle.core_world.specs.States.{memory_at, nodes_in}
 use Rattle.oak_tidy.specs.declared.tidying.Tidying.{Tidying}
 use Rattle.oak_tidy.specs.declared.tidying.Tidying.TheVariants as tidying
-use Rattle.oak_tidy.specs.Moves.{AppendsItsEvents, BoundsBegin, CollectionsBegin, GonePass, NodesBound, SettingsBound, SplitsBegin, SweepsBegin, SweepsRead}
+use Rattle.oak_tidy.specs.Moves.{AppendsItsEvents, BoundsBegin, CollectsGarbage, CollectionsBegin, GonePass, NodesBound, SettingsBound, SplitsBegin, SweepsBegin, SweepsRead}
 use Rattle.oak_tidy.specs.Replies.{told_by_memories}
 use Rattle.oak_tidy.specs.Tidyings.{kind_tidied, tidy_events}
+use Rattle.oak_gc.specs.Asking.{AsksForGarbage}
+use Rattle.oak_gc.proofs.Asking.{ask_for_garbage}
 use Rattle.oak_tidy.proofs.Staying.{begun_asks}
 
 -- ---- what is read
@@ -117,7 +119,12 @@ pub splits_begin : SplitsBegin
 splits_begin n k a pin p node = record { node = node; busy = found_due (id.Node p); asks = tt }
 
 pub sweeps_begin : SweepsBegin
-sweeps_begin n k a node = record { node = node; busy = found_due (id.Node []); asks = tt }
+sweeps_begin n k a node = record { node = node; busy = found_due (id.Node []); asks = refl }
 
 pub collections_begin : CollectionsBegin
-collections_begin n k a node = record { node = node; busy = found_due (id.Node []); asks = begun_asks n (collecting.begun a n) refl refl }
+collections_begin n k a node = record { node = node; busy = found_due (id.Node []); asks = (begun_asks n (collecting.begun a n) refl refl, record { alloc = a; replies = []; reached = refl }) }
+
+-- ---- what is asked of documents
+
+pub collects_garbage : CollectsGarbage
+collects_garbage n k x can = let of = can.asks.1 in subst AsksForGarbage (sym of.reached) (ask_for_garbage of.alloc n of.replies)

@@ -1,5 +1,5 @@
 -- Whatever it is fed, a collector asks none but the cluster nodes that there are.
-use Rattle.std.proofs.Common.{◌≡◌, ◌+◌, ◌≤◌, ℕ, Bool, true, false, cond, length, List, [], ◌∷◌, Option, Some, None, map, refl, sym, ap, subst, ◌∙◌, arith}
+use Rattle.std.proofs.Common.{◌≡◌, ◌+◌, ◌≤◌, ℕ, Bool, true, false, cond, length, List, [], ◌∷◌, ◌++◌, Option, Some, None, map, refl, sym, ap, subst, ◌∙◌, arith}
 use Rattle.std.specs.Prelude.{nat_lt}
 use Rattle.std.specs.Option.{IfSome, option_map_or}
 use Rattle.std.proofs.lemmas.Bool.Decides.{nat_tests}
@@ -11,7 +11,8 @@ use Rattle.oak_doc.specs.declared.asks.Reply.TheVariants as reply
 use Rattle.oak_doc.specs.declared.document.Document.{Document}
 use Rattle.oak_doc.specs.declared.update.Kept.TheVariants as kept
 use Rattle.oak_gc.specs.Bounds.{kept_pairs, root_pair}
-use Rattle.oak_gc.specs.Collecting.{Previous, fed, found_document, garbage_previous, going_on, has_garbage_in, last_of, lowered, no_pair, node_reading, removing, with_document, with_entries, with_previous_read, with_skip}
+use Rattle.oak_gc.specs.Bounding.{collector_after}
+use Rattle.oak_gc.specs.Collecting.{Previous, begun, fed, found_document, garbage_previous, going_on, has_garbage_in, last_of, lowered, no_pair, node_reading, removing, with_document, with_entries, with_previous_read, with_skip}
 use Rattle.oak_gc.specs.Garbage.{garbage_in, is_garbage_document}
 use Rattle.oak_gc.specs.declared.collector.Collector.{Collector}
 use Rattle.oak_gc.specs.declared.reading.Step.{Step}
@@ -20,9 +21,13 @@ use Rattle.oak_machine.specs.declared.event.StepKind.{StepKind}
 use Rattle.oak_machine.specs.Runs.{IsNode}
 use Rattle.oak_port.specs.declared.task.StepOut.{StepOut}
 use Rattle.oak_port.specs.declared.task.StepOut.TheVariants as answers
+use Rattle.oak_sweep.specs.Sweeping as sweeping
+use Rattle.oak_sweep.specs.declared.sweeper.Sweeper.{Sweeper}
+use Rattle.oak_sweep.specs.declared.sweeper.Step.{Step as SweepStep}
+use Rattle.oak_sweep.specs.declared.sweeper.Step.TheVariants as sweep_step
 use Rattle.oak_tidy.specs.declared.tidying.Tidying.{Tidying}
 use Rattle.oak_tidy.specs.declared.tidying.Tidying.TheVariants as tidying
-use Rattle.oak_tidy.specs.Tidyings.{AsksNodesOf, CollectsAt, AsksWithin, CanTidy, GoesOrEnds, tidying_fed}
+use Rattle.oak_tidy.specs.Tidyings.{IsCollecting, AsksNodesOf, CollectsAt, AsksWithin, CanTidy, GoesOrEnds, tidying_fed}
 
 -- no cluster node is asked at this step
 abbrev IsElsewhere : Step → Type 0
@@ -107,13 +112,36 @@ module _ (n : ℕ) where
   stays c (step.RemovePrevious m read) r of = of
   stays c step.Done r of = of
 
-  pub asks_stay : (x : Tidying) (r : Reply) → AsksWithin n x → AsksWithin n (tidying_fed x r)
-  asks_stay (tidying.Split x) r of = tt
-  asks_stay (tidying.Sweep x) r of = tt
-  asks_stay (tidying.Collect x) r of = stays x x.step r of
+  one_more : (c : Collector) (rs : List Reply) (r : Reply) → collector_after c (rs ++ r ∷ []) ≡ fed (collector_after c rs) r
+  one_more c [] r = refl
+  one_more c (q ∷ qs) r = one_more (fed c q) qs r
+
+  fed_on : (x : Collector) (r : Reply) → IsCollecting n x → IsCollecting n (fed x r)
+  fed_on x r of = record { alloc = of.alloc; replies = of.replies ++ r ∷ []; reached = ap (λ (c : Collector). fed c r) of.reached ∙ sym (one_more (begun of.alloc n) of.replies r) }
+
+-- a sweeper stays that of its cluster node
+cluster_stays : (x : Sweeper) (st : SweepStep) (r : Reply) → (sweeping.fed (record x { step = st }) r).cluster ≡ x.cluster
+cluster_stays x sweep_step.Root (reply.Found found) = refl
+cluster_stays x sweep_step.First (reply.Found found) = refl
+cluster_stays x (sweep_step.Behind p) (reply.Found found) = refl
+cluster_stays x sweep_step.Publish (reply.Found found) = refl
+cluster_stays x sweep_step.Learn (reply.Found found) = refl
+cluster_stays x sweep_step.Done (reply.Found found) = refl
+cluster_stays x sweep_step.Publish (reply.Updated before) = refl
+cluster_stays x _ (reply.Updated before) = refl
+cluster_stays x sweep_step.Publish reply.Absent = refl
+cluster_stays x _ reply.Absent = refl
+cluster_stays x sweep_step.Learn reply.Learnt = refl
+cluster_stays x _ reply.Learnt = refl
+cluster_stays x st _ = refl
+
+pub asks_stay : (n k : ℕ) (x : Tidying) (r : Reply) → AsksWithin n k x → AsksWithin n k (tidying_fed x r)
+asks_stay n k (tidying.Split x) r of = tt
+asks_stay n k (tidying.Sweep x) r of = cluster_stays x x.step r ∙ of
+asks_stay n k (tidying.Collect x) r of = (stays n x x.step r of.0, fed_on n x r of.1)
 
 -- what goes on can go on
-pub goes_can : (n k : ℕ) (x : Tidying) (r : Reply) (y : StepKind) (v : Option Tidying) (o : StepOut) → IsNode n k → AsksWithin n x → GoesOrEnds y (tidying_fed x r) v o → IfSome v (λ z. CanTidy n k z)
-goes_can n k x r y v (answers.Went z) node asks h = subst (λ (o : Option Tidying). IfSome o (λ z. CanTidy n k z)) (sym h.1) (record { node = node; busy = h.2; asks = asks_stay n x r asks })
+pub goes_can : (n k : ℕ) (x : Tidying) (r : Reply) (y : StepKind) (v : Option Tidying) (o : StepOut) → IsNode n k → AsksWithin n k x → GoesOrEnds y (tidying_fed x r) v o → IfSome v (λ z. CanTidy n k z)
+goes_can n k x r y v (answers.Went z) node asks h = subst (λ (o : Option Tidying). IfSome o (λ z. CanTidy n k z)) (sym h.1) (record { node = node; busy = h.2; asks = asks_stay n k x r asks })
 goes_can n k x r y v (answers.Ready e) node asks h = subst (λ (o : Option Tidying). IfSome o (λ z. CanTidy n k z)) (sym h.0) tt
 goes_can n k x r y v _ node asks h = absurd h

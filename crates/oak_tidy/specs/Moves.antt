@@ -24,6 +24,7 @@ use Rattle.oak_machine.specs.History.{History, Past}
 use Rattle.oak_machine.specs.Steps.{is_appended_by, is_on}
 use Rattle.oak_node.specs.Heads.{learned}
 use Rattle.oak_gc.specs.Collecting as collecting
+use Rattle.oak_gc.specs.Asking.{AsksForGarbage}
 use Rattle.oak_gc.specs.Bounds.{root_pair}
 use Rattle.oak_gc.specs.declared.collector.Collector.{Collector}
 use Rattle.oak_gc.specs.declared.reading.Step.TheVariants as collect_step
@@ -134,6 +135,11 @@ SweepsLearn = (w : State) (s : ℕ) (r : Revision) → let m = memory_of w s in
 abbrev pub BoundsGo : Type 0
 BoundsGo = (w : State) (s : ℕ) (m t : RevVec)
     → after_asking w s (ask.Find id.Settings) (event.Bound m t ∷ []) ≡ after_bound w m t
+
+-- what is asked of a document is what the bound says of it
+abbrev pub CollectsGarbage : Type 0
+CollectsGarbage = (clusters k : ℕ) (x : Collector) → CanTidy clusters k (tidying.Collect x)
+    → AsksForGarbage x
 
 -- garbage of a document is dropped
 abbrev pub GarbageGoes : Type 0

@@ -1,11 +1,13 @@
 -- One step of what tidies documents: a split, a sweep or a collection asks, and is fed the answer.
 use Rattle.std.specs.Option.{option_map_or}
 use Rattle.std.specs.Prelude.{◌≡◌, ◌≢◌, ℕ, Bool, true, false, cond, List, [], ◌∷◌, ◌++◌, Option, None, Some}
+use Rattle.std.specs.declared.alloc.Global.{Global}
 use Rattle.jr_path.specs.declared.path.DocId.TheVariants as id
 use Rattle.jr_rev.specs.declared.vector.Pin.{Pin}
 use Rattle.oak_doc.specs.declared.asks.Ask.{Ask}
 use Rattle.oak_doc.specs.declared.asks.Ask.TheVariants as ask
 use Rattle.oak_doc.specs.declared.asks.Reply.{Reply}
+use Rattle.oak_gc.specs.Bounding.{collector_after}
 use Rattle.oak_gc.specs.Collecting as collecting
 use Rattle.oak_gc.specs.Stages as collect_stages
 use Rattle.oak_gc.specs.declared.collector.Collector.{Collector}
@@ -157,13 +159,20 @@ pub record AsksNodesOf (clusters : ℕ) (x : Collector) : Type 0 where
   pub asked : (k : ℕ) → x.step ≡ collect_step.Node k → IsNode clusters k
   pub at : CollectsAt x.step x.reading
 
--- what cluster nodes it asks, if any, are among so many
-abbrev pub AsksWithin : ℕ → Tidying → Type 0
-AsksWithin clusters (tidying.Collect x) = AsksNodesOf clusters x
-AsksWithin clusters _ = Unit {0}
+-- some replies have brought a collector to where it stands
+pub record IsCollecting (clusters : ℕ) (x : Collector) : Type 0 where
+  pub alloc : Global
+  pub replies : List Reply
+  pub reached : x ≡ collector_after (collecting.begun alloc clusters) replies
 
--- something is due, of one of so many cluster nodes
+-- a sweep is of cluster node k, and a collection of so many cluster nodes
+abbrev pub AsksWithin : ℕ → ℕ → Tidying → Type 0
+AsksWithin clusters k (tidying.Split x) = Unit {0}
+AsksWithin clusters k (tidying.Sweep x) = x.cluster ≡ k
+AsksWithin clusters k (tidying.Collect x) = AsksNodesOf clusters x × IsCollecting clusters x
+
+-- something is due, of cluster node k of so many
 pub record CanTidy (clusters k : ℕ) (x : Tidying) : Type 0 where
   pub node : IsNode clusters k
   pub busy : tidying_ask x ≢ ask.Done
-  pub asks : AsksWithin clusters x
+  pub asks : AsksWithin clusters k x

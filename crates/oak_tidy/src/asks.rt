@@ -293,7 +293,7 @@ fn remember(
     asking: &MemoryAsk,
 ) -> Result<(), AllocError>
     requires node { IsNode (length memories.old) node }
-    requires asks { AsksWithin (length memories.old) tidying.old }
+    requires asks { AsksWithin (length memories.old) node tidying.old }
     requires asked { tidying_ask tidying.old ≡ ask.Memory asking.now }
     ensures memories { OnOk result
         (memories.new ≡ memories_after node memories.old (ask.Memory asking.now)) }

@@ -1,5 +1,5 @@
 // Each step is one of a world.
-ghost use Rattle.oak_tidy.specs.Moves.{AbsentStay, AppendsItsEvents, BoundsBegin, BoundsGo, ChangedStay, CollectionsBegin, DocumentsGo, GarbageGoes, GonePass, LooksGo, NodesBound, NodesTell, ReadsStay, RefusalsGo, SettingsBound, SplitsBegin, SplitsCopy, SplitsList, SplitsUndo, SweepsBegin, SweepsLearn, SweepsRead, SweepsTell};
+ghost use Rattle.oak_tidy.specs.Moves.{AbsentStay, AppendsItsEvents, BoundsBegin, BoundsGo, ChangedStay, CollectionsBegin, CollectsGarbage, DocumentsGo, GarbageGoes, GonePass, LooksGo, NodesBound, NodesTell, ReadsStay, RefusalsGo, SettingsBound, SplitsBegin, SplitsCopy, SplitsList, SplitsUndo, SweepsBegin, SweepsLearn, SweepsRead, SweepsTell};
 
 /// What begins can make a step, and each step appends just the events of one step of its kind.
 pub fn steps_have_their_events()
@@ -37,13 +37,15 @@ pub fn sweeps_are_steps()
 {}
 
 /// A collection begins its bound with the root, lowers it to what each cluster node holds that
-/// isn't recovered, and with the settings takes it; then garbage goes, and documents go.
+/// isn't recovered, and with the settings takes it. What is asked of a document is what the bound
+/// says of it: garbage goes, and documents go.
 pub fn collections_are_steps()
     ensures begins { BoundsBegin }
     ensures nodes { NodesBound }
     ensures gone { GonePass }
     ensures settings { SettingsBound }
     ensures bound { BoundsGo }
+    ensures asks { CollectsGarbage }
     ensures pruned { GarbageGoes }
     ensures removed { DocumentsGo }
 {}

@@ -1,5 +1,5 @@
 use Rattle.oak_tidy.proofs.Moving.{bounds_go, documents_go, garbage_goes}
-use Rattle.oak_tidy.proofs.Reading.{bounds_begin, gone_pass, nodes_bound, settings_bound}
+use Rattle.oak_tidy.proofs.Reading.{bounds_begin, collects_garbage, gone_pass, nodes_bound, settings_bound}
 use Rattle.oak_tidy.proofs.laws.collections_are_steps.Goals as goal
 
 pub returns-clause-begins : goal.returns-clause-begins
@@ -22,3 +22,6 @@ returns-clause-pruned c = garbage_goes
 
 pub returns-clause-removed : goal.returns-clause-removed
 returns-clause-removed c = documents_go
+
+pub returns-clause-asks : goal.returns-clause-asks
+returns-clause-asks c = collects_garbage
