@@ -18,11 +18,7 @@ fn is_built(command: &Command) -> bool
 {
     !matches!(
         command,
-        Command::Split(_)
-            | Command::Sweep
-            | Command::Collect
-            | Command::Stop(_)
-            | Command::Recover(_)
+        Command::Split(_) | Command::Collect | Command::Stop(_) | Command::Recover(_)
     )
 }
 

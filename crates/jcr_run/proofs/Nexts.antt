@@ -59,6 +59,7 @@ not_barred (command.Unlabel p label) = refl
 not_barred (command.Restore p version) = refl
 not_barred command.BackWrite = refl
 not_barred command.BackRead = refl
+not_barred command.Sweep = refl
 not_barred command.Checkpoint = refl
 not_barred (command.Release id) = refl
 not_barred (command.Attach id) = refl
@@ -82,6 +83,7 @@ not_left (command.Unlabel p label) = refl
 not_left (command.Restore p version) = refl
 not_left command.BackWrite = refl
 not_left command.BackRead = refl
+not_left command.Sweep = refl
 not_left command.Checkpoint = refl
 not_left (command.Release id) = refl
 not_left (command.Attach id) = refl
@@ -121,6 +123,7 @@ only_head (command.Unlabel p label) h = apart due.Commit due.ShowBase refl h
 only_head (command.Restore p version) h = apart due.Commit due.ShowBase refl h
 only_head command.BackWrite h = apart due.Errand due.ShowBase refl h
 only_head command.BackRead h = apart due.Errand due.ShowBase refl h
+only_head command.Sweep h = apart due.Errand due.ShowBase refl h
 only_head command.Checkpoint h = apart due.Errand due.ShowBase refl h
 only_head (command.Release id) h = apart due.Errand due.ShowBase refl h
 only_head (command.Attach id) h = apart due.Attach due.ShowBase refl h
@@ -143,6 +146,7 @@ only_refresh (command.Unlabel p label) h = apart due.Commit due.Refresh refl h
 only_refresh (command.Restore p version) h = apart due.Commit due.Refresh refl h
 only_refresh command.BackWrite h = apart due.Errand due.Refresh refl h
 only_refresh command.BackRead h = apart due.Errand due.Refresh refl h
+only_refresh command.Sweep h = apart due.Errand due.Refresh refl h
 only_refresh command.Checkpoint h = apart due.Errand due.Refresh refl h
 only_refresh (command.Release id) h = apart due.Errand due.Refresh refl h
 only_refresh (command.Attach id) h = apart due.Attach due.Refresh refl h
@@ -165,6 +169,7 @@ only_query (command.Unlabel p label) h = apart due.Commit due.Query refl h
 only_query (command.Restore p version) h = apart due.Commit due.Query refl h
 only_query command.BackWrite h = apart due.Errand due.Query refl h
 only_query command.BackRead h = apart due.Errand due.Query refl h
+only_query command.Sweep h = apart due.Errand due.Query refl h
 only_query command.Checkpoint h = apart due.Errand due.Query refl h
 only_query (command.Release id) h = apart due.Errand due.Query refl h
 only_query (command.Attach id) h = apart due.Attach due.Query refl h
@@ -188,6 +193,7 @@ commits_due (command.Unlabel p label) h = refl
 commits_due (command.Restore p version) h = refl
 commits_due command.BackWrite h = apart due.Errand due.Commit refl h
 commits_due command.BackRead h = apart due.Errand due.Commit refl h
+commits_due command.Sweep h = apart due.Errand due.Commit refl h
 commits_due command.Checkpoint h = apart due.Errand due.Commit refl h
 commits_due (command.Release id) h = apart due.Errand due.Commit refl h
 commits_due (command.Attach id) h = apart due.Attach due.Commit refl h
@@ -211,8 +217,8 @@ seen_viewed b (command.Unlabel p label) a h = apart due.Commit due.See refl h
 seen_viewed b (command.Restore p version) a h = apart due.Commit due.See refl h
 seen_viewed b command.BackWrite a h = apart due.Errand due.See refl h
 seen_viewed b command.BackRead a h = apart due.Errand due.See refl h
+seen_viewed b command.Sweep a h = apart due.Errand due.See refl h
 seen_viewed b (command.Split p) a h = absurd (false≢true a)
-seen_viewed b command.Sweep a h = absurd (false≢true a)
 seen_viewed b command.Collect a h = absurd (false≢true a)
 seen_viewed b command.Checkpoint a h = apart due.Errand due.See refl h
 seen_viewed b (command.Attach id) a h = apart due.Attach due.See refl h
@@ -228,6 +234,7 @@ seen_viewed b m a h = refl
 pub data IsErrand : Command → Type 0 where
   errand_write : IsErrand command.BackWrite
   errand_read : IsErrand command.BackRead
+  errand_sweep : IsErrand command.Sweep
   errand_checkpoint : IsErrand command.Checkpoint
   errand_release : (id : Text) → IsErrand (command.Release id)
   errand_observe : (p : Path) (deep : Bool) (mask : ℕ) → IsErrand (command.Observe p deep mask)
@@ -236,6 +243,7 @@ pub data IsErrand : Command → Type 0 where
 pub only_errand : (m : Command) → is_errand (due_by m) ≡ true → IsErrand m
 only_errand command.BackWrite h = errand_write
 only_errand command.BackRead h = errand_read
+only_errand command.Sweep h = errand_sweep
 only_errand command.Checkpoint h = errand_checkpoint
 only_errand (command.Release id) h = errand_release id
 only_errand (command.Observe p deep mask) h = errand_observe p deep mask
@@ -259,6 +267,7 @@ only_errand m h = absurd (false≢true h)
 pub errand_viewed : (m : Command) → IsErrand m → is_viewed m ≡ false
 errand_viewed _ errand_write = refl
 errand_viewed _ errand_read = refl
+errand_viewed _ errand_sweep = refl
 errand_viewed _ errand_checkpoint = refl
 errand_viewed _ (errand_release id) = refl
 errand_viewed _ (errand_observe p deep mask) = refl
@@ -435,6 +444,7 @@ only_attach (command.Unlabel p label) h = apart due.Commit due.Attach refl h
 only_attach (command.Restore p version) h = apart due.Commit due.Attach refl h
 only_attach command.BackWrite h = apart due.Errand due.Attach refl h
 only_attach command.BackRead h = apart due.Errand due.Attach refl h
+only_attach command.Sweep h = apart due.Errand due.Attach refl h
 only_attach command.Checkpoint h = apart due.Errand due.Attach refl h
 only_attach (command.Release id) h = apart due.Errand due.Attach refl h
 only_attach m h = apart due.See due.Attach refl h
@@ -457,6 +467,7 @@ only_detach (command.Unlabel p label) h = apart due.Commit due.Detach refl h
 only_detach (command.Restore p version) h = apart due.Commit due.Detach refl h
 only_detach command.BackWrite h = apart due.Errand due.Detach refl h
 only_detach command.BackRead h = apart due.Errand due.Detach refl h
+only_detach command.Sweep h = apart due.Errand due.Detach refl h
 only_detach command.Checkpoint h = apart due.Errand due.Detach refl h
 only_detach (command.Release id) h = apart due.Errand due.Detach refl h
 only_detach m h = apart due.See due.Detach refl h

@@ -50,6 +50,7 @@ only_events (command.Unlabel p label) h = apart due.Commit due.Events refl h
 only_events (command.Restore p version) h = apart due.Commit due.Events refl h
 only_events command.BackWrite h = apart due.Errand due.Events refl h
 only_events command.BackRead h = apart due.Errand due.Events refl h
+only_events command.Sweep h = apart due.Errand due.Events refl h
 only_events command.Checkpoint h = apart due.Errand due.Events refl h
 only_events (command.Release id) h = apart due.Errand due.Events refl h
 only_events (command.Attach id) h = apart due.Attach due.Events refl h

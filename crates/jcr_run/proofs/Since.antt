@@ -42,6 +42,7 @@ module _ (law : JcrLaw) (h : History) (s : ℕ) (added : Past) (nodes : AreNodes
   pub kept_still : (m : Command) (e : Errand) → IsKeptFor h c m e → IsKeptFor (after added h) c m e
   kept_still command.BackWrite errand.Write kept = tt
   kept_still command.BackRead errand.Read kept = tt
+  kept_still command.Sweep errand.Sweep kept = tt
   kept_still command.Checkpoint (errand.Checkpoint reply) kept = kept
   kept_still (command.Release id) (errand.Release reply) kept = kept
   kept_still (command.Observe p deep mask) (errand.Observe filter) kept = kept

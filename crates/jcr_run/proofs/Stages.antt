@@ -73,6 +73,7 @@ stage_later phase.Detaching w v h = let le : 1 ≤ 1 = omega arith in le
 stage_later (phase.Committed e a) w v h = let le : 6 ≤ 6 = omega arith in le
 stage_later (phase.Working e) w v h = h
 stage_later (phase.Told (told.Learnt x)) w v h = let le : 2 ≤ 2 = omega arith in le
+stage_later (phase.Told (told.Swept r)) w v h = let le : 2 ≤ 2 = omega arith in le
 stage_later (phase.Told (told.Published r)) w v h = let le : 1 ≤ 1 = omega arith in le
 stage_later (phase.Told (told.Observed f)) w v h = let le : 1 ≤ 1 = omega arith in le
 stage_later (phase.Told told.Done) w v h = let le : 1 ≤ 1 = omega arith in le

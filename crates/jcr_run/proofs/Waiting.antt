@@ -10,13 +10,13 @@ use Rattle.oak_machine.specs.declared.event.Event.TheVariants as event
 use Rattle.oak_machine.specs.declared.event.StepKind.TheVariants as kind
 use Rattle.oak_machine.specs.History.{History, Past}
 use Rattle.oak_machine.specs.Commits.{is_commit_of, is_committed, is_end_of}
-use Rattle.oak_machine.specs.Heads.{local}
+use Rattle.oak_machine.specs.Heads.{local, published}
 use Rattle.oak_machine.specs.Laws.{AreOthers, after, is_event_of}
 use Rattle.oak_machine.specs.Runs.{AreNodes, IsRun}
 use Rattle.oak_machine.specs.Sessions.{has_left, has_login, is_attached, is_login_of, next_index, refreshed_since, since}
 use Rattle.oak_machine.proofs.Induction.{neither}
 use Rattle.oak_machine.proofs.Stays.{any_later}
-use Rattle.oak_port.specs.Ports.{Awaiting, Deciding, HasRoom, Idle, Shown, Starting, Undoing, OthersAlone, Work, Writing, Publishing, Learning}
+use Rattle.oak_port.specs.Ports.{Awaiting, Deciding, HasRoom, Idle, Shown, Starting, Undoing, OthersAlone, Work, Writing, Publishing, Learning, Passing, Sweeping}
 use Rattle.oak_port.specs.Ports.{Detaching}
 use Rattle.oak_commit.specs.declared.outcome.CommitEnd.{CommitEnd}
 use Rattle.oak_commit.specs.declared.outcome.CommitEnd.TheVariants as commit
@@ -33,11 +33,11 @@ use Rattle.jcr_trans.specs.declared.command.Command.{Command}
 use Rattle.jcr_run.specs.declared.run.SessionRun.{SessionRun}
 use Rattle.core_calls.proofs.Beginning.{attached_stays, cursor_stays}
 use Rattle.jcr_steps.specs.declared.limits.TheConstants.{VECTOR_REPLY_BYTES}
-use Rattle.jcr_run.specs.Standing.{HasCommitted, HasCursor, HasDrawn, IsAllLocal, IsAllPublished, IsBeside, IsCalled, IsClash}
+use Rattle.jcr_run.specs.Standing.{HasCommitted, HasCursor, HasDrawn, HasSwept, IsAllLocal, IsAllOut, IsAllPublished, IsBeside, IsCalled, IsClash}
 use Rattle.jcr_run.specs.Standing.{IsCommitting, IsFresh, IsHalfDetached, IsIn, IsOnCommand, IsToldEnd, IsUnmade, IsWorkFor}
 use Rattle.jcr_run.specs.Standing.{KeepsCursor}
 use Rattle.jcr_run.proofs.Cursors.{has_cursor_over}
-use Rattle.jcr_run.proofs.Works.{WorkCase, learning, publishing, to_keep, to_observe, to_read, to_release, to_show, to_write, work_case}
+use Rattle.jcr_run.proofs.Works.{WorkCase, learning, passing, publishing, sweeping, to_keep, to_observe, to_read, to_release, to_show, to_sweep, to_write, work_case}
 use Rattle.jcr_run.proofs.Others.{last_others, refusal_own, revision_stays, uncommitted_own}
 
 -- ---- whether it is in
@@ -98,6 +98,8 @@ module _ (law : JcrLaw) (h : History) (s : ℕ) (added : Past) (nodes : AreNodes
   committing_still (Starting t) h1 = h1
   committing_still (Publishing r) h1 = h1
   committing_still (Learning u) h1 = h1
+  committing_still (Passing r) h1 = h1
+  committing_still (Sweeping r) h1 = h1
   committing_still (Detaching v) h1 = h1
 
   -- what was local, and what was published, when the command began
@@ -107,6 +109,12 @@ module _ (law : JcrLaw) (h : History) (s : ℕ) (added : Past) (nodes : AreNodes
   published_still : (v : RevVec) → IsAllPublished h s v → IsAllPublished (after added h) s v
   published_still v all k on = subst (λ (p : Past). knows_published h.clusters h.begin p k v ≡ true) (sym all_same.before) (all k on)
 
+  out_still : (r : Revision) → IsAllOut h s r → IsAllOut (after added h) s r
+  out_still r all k on = subst (λ (p : Past). is_at_most (published h.begin p k) r ≡ true) (sym all_same.before) (all k on)
+
+  swept_still : (r : Revision) → HasSwept h s r → HasSwept (after added h) s r
+  swept_still r (k, on, has) = (k, on, all_same.sweeps k r has)
+
   pub work_still : (c : Call) (m : Command) (w : Work) → IsWorkFor h s c m w → IsWorkFor (after added h) s c m w
   work_still c m w is = by m w (work_case h s c m w is)
     where
@@ -115,6 +123,9 @@ module _ (law : JcrLaw) (h : History) (s : ℕ) (added : Past) (nodes : AreNodes
       by _ _ (publishing r all) = local_still r all
       by _ _ to_read = tt
       by _ _ (learning v all) = published_still v all
+      by _ _ to_sweep = tt
+      by _ _ (passing r all) = out_still r all
+      by _ _ (sweeping r all has) = (out_still r all, swept_still r has)
       by _ _ (to_keep id named counted) = (named, counted)
       by _ _ (to_release id i same) = same
       by _ _ (to_observe p deep mask within) = within

@@ -24,14 +24,14 @@ use Rattle.oak_machine.specs.declared.event.StepKind.TheVariants as kind
 use Rattle.oak_machine.specs.Changed.{changes_between}
 use Rattle.oak_machine.specs.History.{History, Past}
 use Rattle.oak_machine.specs.Commits.{is_committed, is_ended, refusal_of, tree_at}
-use Rattle.oak_machine.specs.Heads.{head_of, local}
+use Rattle.oak_machine.specs.Heads.{head_of, local, published}
 use Rattle.oak_machine.specs.Laws.{after, is_revision_of}
 use Rattle.oak_machine.specs.Runs.{AreNodes, IsRun}
 use Rattle.oak_machine.specs.Sessions.{base_of, cursor_at, drawn_since, has_left, has_login}
 use Rattle.oak_machine.specs.Sessions.{is_attached, is_drawing, next_index, refreshed_since, since}
 use Rattle.oak_machine.specs.Steps.{is_appended_by, is_kind}
 use Rattle.oak_port.specs.Ports.{Awaiting, Deciding, Detaching, Grows, HasRoom, HoldsBack, Idle}
-use Rattle.oak_port.specs.Ports.{IsSessionOn}
+use Rattle.oak_port.specs.Ports.{IsSessionOn, Passing, Sweeping}
 use Rattle.oak_port.specs.Ports.{Learning, Publishing, Shown, Starting, Undoing, Work, Writing}
 use Rattle.oak_port.specs.Ports.{is_by_due}
 use Rattle.oak_port.specs.declared.task.Task.TheVariants as task
@@ -53,9 +53,10 @@ use Rattle.jcr_law.specs.Lasting.{says_of, starts_of}
 use Rattle.jcr_law.specs.Law.{SaysBy, no_text}
 use Rattle.jcr_law.specs.Makes.{commits, steps_of}
 use Rattle.jcr_law.specs.Queries.{events_reply, events_since}
-use Rattle.jcr_law.specs.Since.{before_turn, detached_among, draw_since, is_unmoved, is_unpinned}
+use Rattle.jcr_law.specs.Since.{before_turn, came, detached_among, draw_since, is_unmoved}
+use Rattle.jcr_law.specs.Since.{is_unpinned}
 use Rattle.jcr_law.specs.State.{Call, call_of, command_at, is_ok_text, next_id}
-use Rattle.jcr_law.specs.Tasks.{knows_published}
+use Rattle.jcr_law.specs.Tasks.{is_sweep, knows_published}
 use Rattle.jcr_law.specs.Calls.{call_after, call_moved}
 use Rattle.jcr_call.specs.Comings.{IsAcceptedOf}
 use Rattle.jcr_call.specs.declared.coming.Accepted.{Accepted}
@@ -97,6 +98,7 @@ due_by (command.Refresh keep) = due.Refresh
 due_by (command.Query text vars) = due.Query
 due_by command.BackWrite = due.Errand
 due_by command.BackRead = due.Errand
+due_by command.Sweep = due.Errand
 due_by command.Checkpoint = due.Errand
 due_by (command.Release id) = due.Errand
 due_by (command.Attach id) = due.Attach
@@ -383,14 +385,28 @@ abbrev pub IsAllPublished : History → ℕ → RevVec → Type 0
 IsAllPublished h s v = (k : ℕ) → IsSessionOn h s k
     → IsTrue (knows_published h.clusters h.begin (before_turn h.past s) k v)
 
+-- the revision is at least what the session's cluster node had published then
+abbrev pub IsAllOut : History → ℕ → Revision → Type 0
+IsAllOut h s r = (k : ℕ) → IsSessionOn h s k
+    → IsTrue (is_at_most (published h.begin (before_turn h.past s) k) r)
+
+-- since the next command of the session began, its cluster node has swept up to the revision
+abbrev pub HasSwept : History → ℕ → Revision → Type 0
+HasSwept h s r = (k : ℕ) × IsSessionOn h s k
+    × IsTrue (came s (λ earlier e. is_sweep k r e) h.past)
+
 -- what is being done for the command, which is run with c: its task was begun, or a background
 -- write will publish all that was local when the command began, or a background read has read of
--- the root all that was published then
+-- the root all that was published then, or a sweep goes up to all that its cluster node had
+-- published then, and has told that or not
 abbrev pub IsWorkFor : History → ℕ → Call → Command → Work → Type 0
 IsWorkFor h s c command.BackWrite (Starting task.BackWrite) = ⊤
 IsWorkFor h s c command.BackWrite (Publishing r) = IsAllLocal h s r
 IsWorkFor h s c command.BackRead (Starting task.BackRead) = ⊤
 IsWorkFor h s c command.BackRead (Learning v) = IsAllPublished h s v
+IsWorkFor h s c command.Sweep (Starting task.Sweep) = ⊤
+IsWorkFor h s c command.Sweep (Passing r) = IsAllOut h s r
+IsWorkFor h s c command.Sweep (Sweeping r) = IsAllOut h s r × HasSwept h s r
 IsWorkFor h s c command.Checkpoint (Starting (task.Checkpoint id)) =
     (id ≡ next_id c.who) × (too_many_ids (c.who.ids + 1) ≡ None)
 IsWorkFor h s c (command.Release id) (Starting (task.Release i)) = i ≡ id
@@ -404,6 +420,7 @@ IsWorkFor h s c m work = ⊥
 abbrev pub IsKeptFor : History → Call → Command → Errand → Type 0
 IsKeptFor h c command.BackWrite errand.Write = ⊤
 IsKeptFor h c command.BackRead errand.Read = ⊤
+IsKeptFor h c command.Sweep errand.Sweep = ⊤
 IsKeptFor h c command.Checkpoint (errand.Checkpoint reply) =
     string_bytes reply ≡ answer_text (ShowsText (next_id c.who))
 IsKeptFor h c (command.Release id) (errand.Release reply) =
@@ -640,10 +657,11 @@ MovesBase law h s =
 
 -- ---- in which order
 
--- how many stages of a commit or of a background read are behind, by what is being done; of
--- anything else none is
+-- how many stages of a commit, of a background read or of a sweep are behind, by what is being
+-- done; of anything else none is
 abbrev pub stage_of : Work → ℕ
 stage_of (Learning v) = 1
+stage_of (Sweeping r) = 1
 stage_of (Writing r) = 1
 stage_of (Undoing r e) = 3
 stage_of (Deciding r) = 4
@@ -656,6 +674,7 @@ abbrev pub stage_at : Phase → Work → ℕ
 stage_at (phase.Moved v) work = 1
 stage_at phase.Detaching work = 1
 stage_at (phase.Told (told.Learnt v)) work = 2
+stage_at (phase.Told (told.Swept r)) work = 2
 stage_at (phase.Told t) work = 1
 stage_at (phase.Committed e pledge) work = 6
 stage_at f work = stage_of work
@@ -703,6 +722,7 @@ is_step_event (event.End r) = true
 is_step_event (event.Went t k) = true
 is_step_event (event.Out k r) = true
 is_step_event (event.In k v) = true
+is_step_event (event.Sweep k r) = true
 is_step_event (event.Checkpoint id v) = true
 is_step_event (event.Release id) = true
 is_step_event (event.Attach t id) = true

@@ -22,7 +22,7 @@ pub enum Due {
     Query,
     /// What is due for the command is committed.
     Commit,
-    /// Background work is done, or a checkpoint is made or released.
+    /// Background work or a sweep is done, or a checkpoint is made or released.
     Errand,
     /// The session attaches to a checkpoint: the base moves there.
     Attach,
@@ -78,6 +78,7 @@ fn due_by(command: &Command) -> Due
         Command::Query(_, _) => Due::Query,
         Command::BackWrite => Due::Errand,
         Command::BackRead => Due::Errand,
+        Command::Sweep => Due::Errand,
         Command::Checkpoint => Due::Errand,
         Command::Release(_) => Due::Errand,
         Command::Attach(_) => Due::Attach,

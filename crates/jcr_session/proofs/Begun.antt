@@ -67,7 +67,7 @@ use Rattle.jcr_run.proofs.Lawful.{asks_of}
 use Rattle.jcr_run.proofs.Cursors.{accepts_by}
 use Rattle.jcr_run.proofs.Lawful.{at_between, attached_still, between_asked, refusal_settles, refused_text, says_allowed}
 use Rattle.jcr_run.proofs.Nexts.{IsErrand, allowed_due, due_at, errand_checkpoint, errand_events, errand_observe, errand_read}
-use Rattle.jcr_run.proofs.Nexts.{errand_release, errand_some, errand_there, errand_viewed, errand_write, only_attach}
+use Rattle.jcr_run.proofs.Nexts.{errand_release, errand_some, errand_sweep, errand_there, errand_viewed, errand_write, only_attach}
 use Rattle.jcr_run.proofs.Nexts.{only_errand, same_next, unattached_runs}
 use Rattle.jcr_run.proofs.Since.{kept_beside}
 use Rattle.jcr_run.proofs.Saying.{asked_like, asked_waits, drawn_waits, get_within, room_less, turned_like}
@@ -98,6 +98,8 @@ told_accepts c x _ (ended.Observed f) errand_write holds by = absurd by
 told_accepts c x _ t errand_write holds by = λ ok. accepts_by c x command.BackWrite None refl holds holds.tokens
 told_accepts c x _ (ended.Observed f) errand_read holds by = absurd by
 told_accepts c x _ t errand_read holds by = λ ok. accepts_by c x command.BackRead None refl holds holds.tokens
+told_accepts c x _ (ended.Observed f) errand_sweep holds by = absurd by
+told_accepts c x _ t errand_sweep holds by = λ ok. accepts_by c x command.Sweep None refl holds holds.tokens
 told_accepts c x _ (ended.Observed f) errand_checkpoint holds by = absurd by
 told_accepts c x _ t errand_checkpoint holds by = λ ok. accepts_by c x command.Checkpoint None refl holds holds.tokens
 told_accepts c x _ (ended.Observed f) (errand_release id) holds by = absurd by
@@ -176,6 +178,7 @@ module _ (law : JcrLaw) (p : Shown) (run : SessionRun) (stands : Stands law p ru
   at_once _ text errand_events is (none, told) = shows_none text is none told
   at_once _ text errand_write is said = absurd said
   at_once _ text errand_read is said = absurd said
+  at_once _ text errand_sweep is said = absurd said
   at_once _ text (errand_release id) is said = absurd said
 
   pub said_settles : (text : String Global) → StartsNext run (start.Said text) → MaySettle law p run (string_bytes text)
@@ -210,6 +213,8 @@ begins_by law p c t _ errand_write is inside free = subst (λ (x : Task). MayBeg
     (inside.login, inside.stays)
 begins_by law p c t _ errand_read is inside free = subst (λ (x : Task). MayBegin (starts_of law) p.history p.session x) (sym is)
     (inside.login, inside.stays)
+begins_by law p c t _ errand_sweep is inside free = subst (λ (x : Task). MayBegin (starts_of law) p.history p.session x) (sym is)
+    (inside.login, inside.stays)
 begins_by law p c t _ errand_checkpoint is inside free = subst (λ (x : Task). MayBegin (starts_of law) p.history p.session x) (sym is.0)
     (inside.login, inside.stays, free refl)
 begins_by law p c t _ (errand_release id) is inside free = subst (λ (x : Task). MayBegin (starts_of law) p.history p.session x) (sym is)
@@ -232,6 +237,13 @@ asked_by_task law s i c t _ errand_read is at e appends = by e (subst (λ (x : T
     by : (e : Event) → Appends task.BackRead e → IsAskedAt law s i e
     by (event.Went x kind.Back) h = (command.BackRead, at, refl, tt)
     by (event.In k v) h = (command.BackRead, at, refl, tt)
+    by x h = absurd h
+asked_by_task law s i c t _ errand_sweep is at e appends = by e (subst (λ (x : Task). Appends x e) is appends)
+  where
+    by : (e : Event) → Appends task.Sweep e → IsAskedAt law s i e
+    by (event.Went x kind.Sweep) h = (command.Sweep, at, refl, tt)
+    by (event.Sweep k r) h = (command.Sweep, at, refl, tt)
+    by (event.Went x kind.Learn) h = (command.Sweep, at, refl, tt)
     by x h = absurd h
 asked_by_task law s i c t _ errand_checkpoint is at e appends = by e (subst (λ (x : Task). Appends x e) is.0 appends)
   where
@@ -258,6 +270,7 @@ asked_by_task law s i c t _ errand_events is at e appends = by e (subst (λ (x :
 works_by : (h : History) (s : ℕ) (c : Call) (t : Task) (m : Command) → IsErrand m → IsTaskFor c m t → IsWorkFor h s c m (Starting t)
 works_by h s c t _ errand_write is = subst (λ (x : Task). IsWorkFor h s c command.BackWrite (Starting x)) (sym is) tt
 works_by h s c t _ errand_read is = subst (λ (x : Task). IsWorkFor h s c command.BackRead (Starting x)) (sym is) tt
+works_by h s c t _ errand_sweep is = subst (λ (x : Task). IsWorkFor h s c command.Sweep (Starting x)) (sym is) tt
 works_by h s c t _ errand_checkpoint is = subst (λ (x : Task). IsWorkFor h s c command.Checkpoint (Starting x)) (sym is.0) (refl, is.1)
 works_by h s c t _ (errand_release id) is = subst (λ (x : Task). IsWorkFor h s c (command.Release id) (Starting x)) (sym is) refl
 works_by h s c t _ (errand_observe q deep mask) is = subst (λ (x : Task). IsWorkFor h s c (command.Observe q deep mask) (Starting x)) (sym is.0) is.1

@@ -159,6 +159,7 @@ moved_tokens c v t (command.Refresh keep) h = apart due.Refresh due.Commit refl 
 moved_tokens c v t (command.Query text vars) h = apart due.Query due.Commit refl h
 moved_tokens c v t command.BackWrite h = apart due.Errand due.Commit refl h
 moved_tokens c v t command.BackRead h = apart due.Errand due.Commit refl h
+moved_tokens c v t command.Sweep h = apart due.Errand due.Commit refl h
 moved_tokens c v t command.Checkpoint h = apart due.Errand due.Commit refl h
 moved_tokens c v t (command.Release id) h = apart due.Errand due.Commit refl h
 moved_tokens c v t (command.Attach id) h = apart due.Attach due.Commit refl h

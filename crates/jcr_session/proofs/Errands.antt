@@ -1,5 +1,5 @@
 -- Each step of a task of the cluster node, of the settings or of the cursor leaves its session where the history says.
-use Rattle.std.proofs.Common.{◌≡◌, ℕ, ◌≤◌, Bool, true, false, not, ◌||◌, ◌&&◌, None, Some, Option, List, [], ◌∷◌, ◌++◌, is_some}
+use Rattle.std.proofs.Common.{◌≡◌, inl, inr, ℕ, ◌≤◌, Bool, true, false, not, ◌||◌, ◌&&◌, None, Some, Option, List, [], ◌∷◌, ◌++◌, is_some}
 use Rattle.std.proofs.Common.{length, refl, sym, ap, ◌∙◌, subst, arith}
 use Rattle.std.specs.Prelude.{Contains, IfSome, cond, is_none, option_map, reverse, slice_get, string_bytes}
 use Rattle.std.specs.List.{list_any}
@@ -18,7 +18,7 @@ use Rattle.oak_machine.specs.declared.event.Event.TheVariants as event
 use Rattle.oak_machine.specs.declared.event.StepKind.{StepKind}
 use Rattle.oak_machine.specs.declared.event.StepKind.TheVariants as kind
 use Rattle.oak_machine.specs.History.{History, Past}
-use Rattle.oak_machine.specs.Heads.{last_in, local}
+use Rattle.oak_machine.specs.Heads.{last_in, local, published}
 use Rattle.oak_machine.specs.Laws.{after}
 use Rattle.oak_machine.specs.Runs.{IsRun}
 use Rattle.oak_machine.specs.Sessions.{cursor_at, has_left, is_attached, kept_checkpoint, next_index, pinned_at, session_base, since}
@@ -42,10 +42,10 @@ use Rattle.jcr_law.specs.Built.{Allowed, Asked, is_forbidden}
 use Rattle.jcr_law.specs.Calls.{call_after}
 use Rattle.jcr_law.specs.Queries.{events_reply, events_since}
 use Rattle.jcr_law.specs.Lasting.{says_of, starts_of}
-use Rattle.jcr_law.specs.Law.{MaySay, SaysBy, kept, learned, no_text, observed, observing, released, told, unreleased}
+use Rattle.jcr_law.specs.Law.{MaySay, SaysBy, kept, learned, no_text, observed, observing, released, swept, told, unreleased}
 use Rattle.jcr_law.specs.Makes.{steps_of}
 use Rattle.jcr_law.specs.Since.{before_turn, came, is_pinning, is_unmoved, is_unpinned}
-use Rattle.jcr_law.specs.Tasks.{is_out, knows_published, misses}
+use Rattle.jcr_law.specs.Tasks.{is_out, is_sweep, knows_published, misses}
 use Rattle.jcr_law.specs.Starting.{call_has_base}
 use Rattle.jcr_law.specs.State.{Call, call_of, command_at, is_ok_text, next_id}
 use Rattle.jcr_held.specs.Accepts.{IsFilterOf}
@@ -70,7 +70,7 @@ use Rattle.jcr_steps.specs.Answered.{IsErrandAnswer, MayCome, MayEnd, came_by, k
 use Rattle.jcr_session.specs.Phases.{phase_came, turn_came}
 use Rattle.jcr_run.specs.Standing.{HasCounted, HasCursor, IsOnErrand, IsBeside, IsFresh, IsIn, IsToldFor, due_for, is_errand, is_told_for}
 use Rattle.jcr_steps.specs.Kept.{HasPlace, IsEight}
-use Rattle.jcr_run.specs.Standing.{AreInStageOrder, IsKeptFor, IsOnCommand, IsWorkFor, Stands, StandsAt, is_revision_written}
+use Rattle.jcr_run.specs.Standing.{AreInStageOrder, IsAllOut, IsKeptFor, IsOnCommand, IsWorkFor, Stands, StandsAt, is_revision_written}
 use Rattle.jcr_steps.specs.Kept.{kept_for}
 use Rattle.jcr_steps.specs.Kept.{kept_of, reply_of}
 use Rattle.jcr_run.specs.Standing.{stage_at, stage_of}
@@ -80,16 +80,16 @@ use Rattle.jcr_run.proofs.Cursors.{cursor_settled, has_cursor_over}
 use Rattle.jcr_run.proofs.Lawful.{asked_allowed}
 use Rattle.jcr_run.proofs.Nexts.{errand_there, sets_cursor, unattached_runs}
 use Rattle.jcr_session.proofs.Pinned.{pinned_base}
-use Rattle.jcr_session.proofs.Plain.{IsPlain, plain_back, plain_checkpoint, plain_in, plain_out, plain_pin, plain_release, plain_setting}
+use Rattle.jcr_session.proofs.Plain.{IsPlain, plain_back, plain_checkpoint, plain_in, plain_learn, plain_out, plain_pass, plain_pin, plain_release, plain_setting, plain_sweep}
 use Rattle.jcr_run.proofs.Since.{kept_still}
-use Rattle.jcr_session.proofs.Rising.{knows_more, knows_public, local_before}
+use Rattle.jcr_session.proofs.Rising.{knows_more, knows_public, local_before, published_before}
 use Rattle.jcr_run.proofs.Saying.{replied_like, room_less}
 use Rattle.jcr_run.proofs.Stages.{inside_order, next_is}
 use Rattle.jcr_run.proofs.Starting.{some_is}
 use Rattle.jcr_session.proofs.Stepping.{inside_moment, inside_quiet, moved, run_moment, run_new, turned_quiet}
 use Rattle.jcr_run.proofs.Turning.{is_awaiting, replied_later, unawaited}
 use Rattle.jcr_run.proofs.Waiting.{all_same, call_still, command_beside, fresh_still, in_beside, next_beside, unmoved_beside, unpinned_beside, work_still}
-use Rattle.jcr_run.proofs.Works.{WorkCase, learning, publishing, to_keep, to_observe, to_read, to_release, to_show, to_write, work_case}
+use Rattle.jcr_run.proofs.Works.{WorkCase, learning, passing, publishing, sweeping, to_keep, to_observe, to_read, to_release, to_show, to_sweep, to_write, work_case}
 
 -- ---- what is kept
 
@@ -121,6 +121,10 @@ kept_read : (h g : History) (c : Call) (e : Errand) → IsKeptFor h c command.Ba
 kept_read h g c errand.Read is = tt
 kept_read h g c e is = absurd is
 
+kept_sweep : (h g : History) (c : Call) (e : Errand) → IsKeptFor h c command.Sweep e → IsKeptFor g c command.Sweep e
+kept_sweep h g c errand.Sweep is = tt
+kept_sweep h g c e is = absurd is
+
 -- what is kept of a task is kept of one that may end so
 may_write : (h : History) (c : Call) (e : Errand) → IsKeptFor h c command.BackWrite e → (r : Revision) → MayEnd (coming.Published r) e
 may_write h c errand.Write is r = tt
@@ -129,6 +133,10 @@ may_write h c e is r = absurd is
 may_read : (h : History) (c : Call) (e : Errand) → IsKeptFor h c command.BackRead e → (v : RevVec) → MayEnd (coming.Learnt v) e
 may_read h c errand.Read is v = tt
 may_read h c e is v = absurd is
+
+may_sweep : (h : History) (c : Call) (e : Errand) → IsKeptFor h c command.Sweep e → (r : Revision) → MayEnd (coming.Swept r) e
+may_sweep h c errand.Sweep is r = tt
+may_sweep h c e is r = absurd is
 
 may_keep : (h : History) (c : Call) (e : Errand) → IsKeptFor h c command.Checkpoint e → MayEnd coming.Set e
 may_keep h c (errand.Checkpoint reply) is = tt
@@ -163,6 +171,7 @@ pub ends_so : (x : Came) (e : Errand) → ((k : StepKind) → x ≡ coming.Going
 ends_so (coming.Going k) e never = absurd (never k refl)
 ends_so (coming.Published r) e never = (refl, refl)
 ends_so (coming.Learnt v) e never = (refl, refl)
+ends_so (coming.Swept r) e never = (refl, refl)
 ends_so coming.Set e never = (refl, refl)
 ends_so coming.Missed e never = (refl, refl)
 ends_so coming.Pinned e never = (refl, refl)
@@ -378,6 +387,17 @@ module _ (law : JcrLaw) (old new : Shown) (answer : StepOut) (run : SessionRun) 
   unpinning : (p : Past) → steps.own ≡ p → ((q : Past) → is_unpinned (p ++ q) s ≡ is_unpinned q s) → is_unpinned (steps.own ++ moment.past) s ≡ is_unpinned moment.past s
   unpinning p mine still = subst (λ (x : Past). is_unpinned (x ++ moment.past) s ≡ is_unpinned moment.past s) (sym mine) (still moment.past)
 
+  -- a step of a sweep that passes a document or tells the root is of its first stage
+  sweeps_first : (c : Call) → IsOnCommand law old at command.Sweep c → IsPlain s steps.own → (k : StepKind) → stage_of old.work ≤ 0 → k ≡ kind.Sweep
+      → AreInStageOrder law old new at at (turn.Stepped k)
+  sweeps_first c for plain k first is = ordered command.Sweep c for plain (phase.Working e) k 0 (kind.Sweep ∷ []) refl
+      (subst (λ (y : StepKind). list_any (is_kind y) (kind.Sweep ∷ []) ≡ true) (sym is) refl)
+      first (let le : 0 ≤ stage_of new.work = omega arith in le)
+
+  -- what was published when the command began stays
+  all_out : IsPlain s steps.own → (r : Revision) → IsAllOut moment s r → IsAllOut (after steps.own moment) s r
+  all_out plain r all i there = subst (λ (p : Past). is_at_most (published moment.begin p i) r ≡ true) (sym (plain.quiet.begins moment.past)) (all i there)
+
   step_by : (m : Command) (c : Call) (w : Work) (x : StepOut) → old.work ≡ w → WorkCase moment s c m w → IsKeptFor moment c m e → IsOnCommand law
       old at m c → Makes moment s w x steps.own new.work → AreOfStep moment s w x steps.own → (x ≡ out.Memory → ⊥) → Turned x
   step_by _ c _ (out.Went k) was to_write kept_is for (j, on, is, mine, work) appended never =
@@ -460,6 +480,61 @@ module _ (law : JcrLaw) (old new : Shown) (answer : StepOut) (run : SessionRun) 
       (subst (λ (p : Past). IsRun (starts_of law) (says_of law) (after p moment)) mine (run_new law old new answer at stands here.0 steps)))
   step_by _ c _ out.Memory was (learning u all) kept_is for made appended never = absurd (never refl)
   step_by _ c _ x was (learning u all) kept_is for made appended never = absurd made
+  step_by _ c _ (out.Went k) was to_sweep kept_is for (j, on, is, mine, work) appended never =
+      let plain = subst (λ (p : Past). IsPlain s p) (sym mine) (plain_pass s) in
+      goes_on command.Sweep c for plain k (ap is_awaiting was) appended
+      (sweeps_first c for plain k (subst (λ (y : Work). stage_of y ≤ 0) (sym was) (let le : 0 ≤ 0 = omega arith in le)) is)
+      (kept_sweep moment (after steps.own moment) c e kept_is) (unpinning (event.Went s kind.Sweep ∷ []) mine (λ q. refl))
+      (subst (λ (y : Work). IsWorkFor (after steps.own moment) s c command.Sweep y) (sym work)
+      (all_out plain (published moment.begin moment.past j) (λ i there.
+      subst (λ (n : ℕ). is_at_most (published moment.begin (before_turn moment.past s) i) (published moment.begin moment.past n) ≡ true)
+      (some_is (sym there ∙ on))
+      (published_before moment.clusters moment.sessions here.0.nodes moment.begin (starts_of law) (says_of law) moment.past run_then s i
+      (here.0.nodes.node s i there)))))
+  step_by _ c _ out.Memory was to_sweep kept_is for made appended never = absurd (never refl)
+  step_by _ c _ x was to_sweep kept_is for made appended never = absurd made
+  step_by _ c _ (out.Went k) was (passing r all) kept_is for (is, inl (mine, work)) appended never =
+      let plain = subst (λ (p : Past). IsPlain s p) (sym mine) (plain_pass s) in
+      goes_on command.Sweep c for plain k (ap is_awaiting was) appended
+      (sweeps_first c for plain k (subst (λ (y : Work). stage_of y ≤ 0) (sym was) (let le : 0 ≤ 0 = omega arith in le)) is)
+      (kept_sweep moment (after steps.own moment) c e kept_is) (unpinning (event.Went s kind.Sweep ∷ []) mine (λ q. refl))
+      (subst (λ (y : Work). IsWorkFor (after steps.own moment) s c command.Sweep y) (sym work) (all_out plain r all))
+  step_by _ c _ (out.Went k) was (passing r all) kept_is for (is, inr (j, on, mine, work)) appended never =
+      let plain = subst (λ (p : Past). IsPlain s p) (sym mine) (plain_sweep s j r) in
+      goes_on command.Sweep c for plain k (ap is_awaiting was) appended
+      (sweeps_first c for plain k (subst (λ (y : Work). stage_of y ≤ 0) (sym was) (let le : 0 ≤ 0 = omega arith in le)) is)
+      (kept_sweep moment (after steps.own moment) c e kept_is) (unpinning (event.Sweep j r ∷ []) mine (λ q. refl))
+      (subst (λ (y : Work). IsWorkFor (after steps.own moment) s c command.Sweep y) (sym work) (
+        all_out plain r all,
+        (
+          j,
+          on,
+          subst (λ (p : Past). came s (λ earlier x. is_sweep j r x) (p ++ moment.past) ≡ true) (sym mine) (swept_came j r),
+        ),
+      ))
+    where
+      swept_came : (j : ℕ) (r : Revision) → came s (λ earlier x. is_sweep j r x) (event.Sweep j r ∷ moment.past) ≡ true
+      swept_came j r =
+          ap (λ (b : Bool). (b && is_same r r) || came s (λ earlier x. is_sweep j r x) moment.past) (same_number j)
+          ∙ ap (λ (b : Bool). b || came s (λ earlier x. is_sweep j r x) moment.past) (same_itself r)
+  step_by _ c _ out.Memory was (passing r all) kept_is for made appended never = absurd (never refl)
+  step_by _ c _ x was (passing r all) kept_is for made appended never = absurd made
+  step_by _ c _ (out.Ready (end.Swept o)) was (sweeping r all (j, on, has)) kept_is for (same, mine, idle) appended never =
+      let plain = subst (λ (p : Past). IsPlain s p) (sym mine) (plain_learn s) in
+      ended_plain command.Sweep c for plain (ended.Swept o) kind.Learn (ap is_awaiting was) appended
+      (ordered command.Sweep c for plain (phase.Told (ended.Swept o)) kind.Learn 1 (kind.Learn ∷ []) refl refl
+      (subst (λ (y : Work). stage_of y ≤ 1) (sym was) (let le : 1 ≤ 1 = omega arith in le)) (let le : 1 ≤ 2 = omega arith in le))
+      idle
+      (swept j o on
+      (subst (λ (p : Past). came s (λ earlier x. is_sweep j o x) (p ++ moment.past) ≡ true) (sym mine)
+      (subst (λ (q : Revision). came s (λ earlier x. is_sweep j q x) moment.past ≡ true) (sym same) has))
+      (subst (λ (q : Revision). is_at_most (published moment.begin (before_turn (steps.own ++ moment.past) s) j) q ≡ true) (sym same)
+      (all_out plain r all j on))
+      (unmoved_then command.Sweep c for plain))
+      tt refl (unpinning (event.Went s kind.Learn ∷ []) mine (λ q. refl))
+      (empty_place old.room (kept_for e) here.1.place) tt
+  step_by _ c _ out.Memory was (sweeping r all has) kept_is for made appended never = absurd (never refl)
+  step_by _ c _ x was (sweeping r all has) kept_is for made appended never = absurd made
   step_by _ c _ (out.Ready (end.Set None)) was (to_keep id named counted) kept_is for (v, based, mine, idle) appended never =
       let plain = subst (λ (p : Past). IsPlain s p) (sym mine) (plain_checkpoint s id v) in
       let reply = kept_reply moment c e kept_is in
@@ -590,6 +665,15 @@ module _ (law : JcrLaw) (old new : Shown) (answer : StepOut) (run : SessionRun) 
       by _ c _ (out.Ready (end.Learnt v)) (learning u all) made = tt
       by _ c _ out.Memory (learning u all) made = tt
       by _ c _ x (learning u all) made = absurd made
+      by _ c _ (out.Went k) to_sweep made = tt
+      by _ c _ out.Memory to_sweep made = tt
+      by _ c _ x to_sweep made = absurd made
+      by _ c _ (out.Went k) (passing r all) made = tt
+      by _ c _ out.Memory (passing r all) made = tt
+      by _ c _ x (passing r all) made = absurd made
+      by _ c _ (out.Ready (end.Swept o)) (sweeping r all has) made = tt
+      by _ c _ out.Memory (sweeping r all has) made = tt
+      by _ c _ x (sweeping r all has) made = absurd made
       by _ c _ (out.Ready (end.Set None)) (to_keep id named counted) made = tt
       by _ c _ out.Memory (to_keep id named counted) made = tt
       by _ c _ x (to_keep id named counted) made = absurd made
@@ -618,6 +702,7 @@ module _ (law : JcrLaw) (old new : Shown) (answer : StepOut) (run : SessionRun) 
       by _ c _ out.Memory case keeps made never = absurd (never refl)
       by _ c _ (out.Ready (end.Published o)) (publishing r all) keeps made never = may_write old.history c e keeps o
       by _ c _ (out.Ready (end.Learnt v)) (learning u all) keeps made never = may_read old.history c e keeps v
+      by _ c _ (out.Ready (end.Swept o)) (sweeping r all has) keeps made never = may_sweep old.history c e keeps o
       by _ c _ (out.Ready (end.Set None)) (to_keep id named counted) keeps made never = may_keep old.history c e keeps
       by _ c _ (out.Ready (end.Set None)) (to_release id i same) keeps made never = (may_release old.history c id e keeps).0
       by _ c _ (out.Ready end.NoCheckpoint) (to_release id i same) keeps made never = (may_release old.history c id e keeps).1
@@ -627,6 +712,9 @@ module _ (law : JcrLaw) (old new : Shown) (answer : StepOut) (run : SessionRun) 
       by _ c _ x (publishing r all) keeps made never = absurd made
       by _ c _ x to_read keeps made never = absurd made
       by _ c _ x (learning u all) keeps made never = absurd made
+      by _ c _ x to_sweep keeps made never = absurd made
+      by _ c _ x (passing r all) keeps made never = absurd made
+      by _ c _ x (sweeping r all has) keeps made never = absurd made
       by _ c _ x (to_keep id named counted) keeps made never = absurd made
       by _ c _ x (to_release id i same) keeps made never = absurd made
       by _ c _ x (to_observe q deep mask within) keeps made never = absurd made
@@ -652,6 +740,9 @@ module _ (law : JcrLaw) (old new : Shown) (answer : StepOut) (run : SessionRun) 
       by _ c _ (publishing r all) made = made
       by _ c _ to_read made = made
       by _ c _ (learning u all) made = made
+      by _ c _ to_sweep made = made
+      by _ c _ (passing r all) made = made
+      by _ c _ (sweeping r all has) made = made
       by _ c _ (to_keep id named counted) made = made
       by _ c _ (to_release id i is) made = made
       by _ c _ (to_observe q deep mask within) made = made
@@ -676,6 +767,9 @@ module _ (law : JcrLaw) (old new : Shown) (answer : StepOut) (run : SessionRun) 
       by _ c _ (publishing r all) = refl
       by _ c _ to_read = refl
       by _ c _ (learning u all) = refl
+      by _ c _ to_sweep = refl
+      by _ c _ (passing r all) = refl
+      by _ c _ (sweeping r all has) = refl
       by _ c _ (to_keep id named counted) = refl
       by _ c _ (to_release id i is) = refl
       by _ c _ (to_observe q deep mask within) = refl
@@ -738,6 +832,9 @@ errand_busy law p run e stands idle = by stands.at.1.command stands.at.1.call p.
     by _ c _ (publishing r all) is = false≢true (ap is_idle is)
     by _ c _ to_read is = false≢true (ap is_idle is)
     by _ c _ (learning u all) is = false≢true (ap is_idle is)
+    by _ c _ to_sweep is = false≢true (ap is_idle is)
+    by _ c _ (passing r all) is = false≢true (ap is_idle is)
+    by _ c _ (sweeping r all has) is = false≢true (ap is_idle is)
     by _ c _ (to_keep id named counted) is = false≢true (ap is_idle is)
     by _ c _ (to_release id i same) is = false≢true (ap is_idle is)
     by _ c _ (to_observe q deep mask within) is = false≢true (ap is_idle is)
@@ -749,6 +846,7 @@ memory_is out.Memory is h = refl
 memory_is (out.Went k) is h = absurd (false≢true (ap is_refused h))
 memory_is (out.Ready (end.Published r)) is h = absurd (false≢true (ap is_refused h))
 memory_is (out.Ready (end.Learnt v)) is h = absurd (false≢true (ap is_refused h))
+memory_is (out.Ready (end.Swept r)) is h = absurd (false≢true (ap is_refused h))
 memory_is (out.Ready (end.Set pin)) is h = absurd (false≢true (ap is_refused h))
 memory_is (out.Ready end.NoCheckpoint) is h = absurd (false≢true (ap is_refused h))
 memory_is (out.Ready (end.Pinned pin)) is h = absurd (false≢true (ap is_refused h))

@@ -126,6 +126,7 @@ module _ (run : SessionRun) (e : Errand) where
   errand_nears sooner (came.Going k) soon = inr (refl, soon)
   errand_nears sooner (came.Published r) soon = inl (told_less (told.Published r))
   errand_nears sooner (came.Learnt v) soon = inl (told_less (told.Learnt v))
+  errand_nears sooner (came.Swept r) soon = inl (told_less (told.Swept r))
   errand_nears sooner came.Set soon = inl (told_less (told_by came.Set e))
   errand_nears sooner came.Missed soon = inl (told_less (told_by came.Missed e))
   errand_nears sooner came.Pinned soon = inl (told_less (told_by came.Pinned e))

@@ -47,6 +47,39 @@ plain_setting s = record {
   one = inl (event.Went s kind.Settings, refl, refl);
 }
 
+pub plain_pass : (s : ℕ) → IsPlain s (event.Went s kind.Sweep ∷ [])
+plain_pass s = record {
+  quiet = record { left = λ q. refl; next = λ q. refl; attached = λ q. refl; begins = λ q. refl; calls = refl; draws = λ q. refl; pins = λ q h. h; cursor = λ q h. refl };
+  drawn = λ q. refl;
+  idle = λ q h. among_same q (event.Went s kind.Sweep) (λ r. refl) q s ∙ h;
+  unmoved = λ q. refl;
+  due = refl;
+  awaited = λ q w. tt;
+  one = inl (event.Went s kind.Sweep, refl, refl);
+}
+
+pub plain_sweep : (s k : ℕ) (r : Revision) → IsPlain s (event.Sweep k r ∷ [])
+plain_sweep s k r = record {
+  quiet = record { left = λ q. refl; next = λ q. refl; attached = λ q. refl; begins = λ q. refl; calls = refl; draws = λ q. refl; pins = λ q h. h; cursor = λ q h. refl };
+  drawn = λ q. refl;
+  idle = λ q h. among_same q (event.Sweep k r) (λ x. refl) q s ∙ h;
+  unmoved = λ q. refl;
+  due = refl;
+  awaited = λ q w. tt;
+  one = inl (event.Sweep k r, refl, refl);
+}
+
+pub plain_learn : (s : ℕ) → IsPlain s (event.Went s kind.Learn ∷ [])
+plain_learn s = record {
+  quiet = record { left = λ q. refl; next = λ q. refl; attached = λ q. refl; begins = λ q. refl; calls = refl; draws = λ q. refl; pins = λ q h. h; cursor = λ q h. refl };
+  drawn = λ q. refl;
+  idle = λ q h. among_same q (event.Went s kind.Learn) (λ r. refl) q s ∙ h;
+  unmoved = λ q. refl;
+  due = refl;
+  awaited = λ q w. tt;
+  one = inl (event.Went s kind.Learn, refl, refl);
+}
+
 pub plain_out : (s k : ℕ) (r : Revision) → IsPlain s (event.Out k r ∷ [])
 plain_out s k r = record {
   quiet = record { left = λ q. refl; next = λ q. refl; attached = λ q. refl; begins = λ q. refl; calls = refl; draws = λ q. refl; pins = λ q h. h; cursor = λ q h. refl };

@@ -70,6 +70,11 @@ module _ (clusters : ℕ) (sessions : List ℕ) (nodes : AreNodes clusters sessi
               (at_most_itself (published begin before m)),
         ))
 
+    -- what is published now is at least what was so then
+    pub published_before : (m : ℕ) → IsNode clusters m → is_at_most (published begin (before_turn past s) m) (published begin past m) ≡ true
+    published_before m node = subst (λ (j : ℕ). is_at_most (published begin before m) (published begin past j) ≡ true) (published_of m)
+        (public_now m node).1
+
     -- a vector that sees what was published has an entry for it
     abbrev has : RevVec → ℕ → Bool
     has v m = option_map_or (is_at_most (published begin before m)) (entry v m) false

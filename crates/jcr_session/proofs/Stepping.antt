@@ -16,7 +16,7 @@ use Rattle.oak_machine.specs.Runs.{AreNodes, IsRun}
 use Rattle.oak_machine.specs.Sessions.{base_of, has_left, has_login, is_attached, is_login_of, next_index, refreshed_since}
 use Rattle.oak_machine.specs.Steps.{is_appended_by, is_kind}
 use Rattle.oak_machine.proofs.Stays.{any_later}
-use Rattle.oak_port.specs.Ports.{AreOfStep, Awaiting, Deciding, Detaching, Grows, Idle, IsFinish, Learning, Makes, Publishing, Shown}
+use Rattle.oak_port.specs.Ports.{AreOfStep, Awaiting, Deciding, Detaching, Grows, Idle, IsFinish, Learning, Makes, Passing, Publishing, Shown, Sweeping}
 use Rattle.oak_port.specs.Ports.{Starting, Steps, Undoing, Work, Writing, WritesOn, is_by_due}
 use Rattle.oak_commit.specs.declared.outcome.CommitEnd.{CommitEnd}
 use Rattle.oak_commit.specs.declared.outcome.CommitEnd.TheVariants as commit
@@ -344,6 +344,8 @@ module _ (law : JcrLaw) (old new : Shown) (answer : StepOut) (run : SessionRun) 
     step_by (Starting t) x at committing m told = absurd committing
     step_by (Publishing r) x at committing m told = absurd committing
     step_by (Learning u) x at committing m told = absurd committing
+    step_by (Passing r) x at committing m told = absurd committing
+    step_by (Sweeping r) x at committing m told = absurd committing
     step_by (Detaching v) x at committing m told = absurd committing
 
     -- a step of a commit is a turn
@@ -387,6 +389,8 @@ module _ (law : JcrLaw) (old new : Shown) (answer : StepOut) (run : SessionRun) 
     refused_by (Starting t) committing m = absurd committing
     refused_by (Publishing r) committing m = absurd committing
     refused_by (Learning u) committing m = absurd committing
+    refused_by (Passing r) committing m = absurd committing
+    refused_by (Sweeping r) committing m = absurd committing
     refused_by (Detaching v) committing m = absurd committing
 
     refused : answer ≡ out.Memory → IsRefusedStep old.work

@@ -14,7 +14,7 @@ use Rattle.oak_machine.specs.History.{History, Past}
 use Rattle.oak_machine.specs.Commits.{draw_of}
 use Rattle.oak_machine.specs.Laws.{AreOthers, Says, Starts, after, is_revision_of}
 use Rattle.oak_machine.proofs.Induction.{neither}
-use Rattle.oak_port.specs.Ports.{Awaiting, Deciding, Detaching, Idle, IsFinish, Learning, Makes, Publishing, Shown, Starting, Steps}
+use Rattle.oak_port.specs.Ports.{Awaiting, Deciding, Detaching, Idle, IsFinish, Learning, Makes, Passing, Publishing, Shown, Starting, Steps, Sweeping}
 use Rattle.oak_port.specs.Ports.{Undoing, Work, Writing, WritesOn}
 use Rattle.oak_port.specs.declared.task.StepOut.{StepOut}
 use Rattle.oak_port.specs.declared.task.StepOut.TheVariants as out
@@ -85,6 +85,8 @@ made_undrawn n past h s Idle x own v c m = absurd c
 made_undrawn n past h s (Starting t) x own v c m = absurd c
 made_undrawn n past h s (Publishing r) x own v c m = absurd c
 made_undrawn n past h s (Learning u) x own v c m = absurd c
+made_undrawn n past h s (Passing r) x own v c m = absurd c
+made_undrawn n past h s (Sweeping r) x own v c m = absurd c
 made_undrawn n past h s (Detaching u) x own v c m = absurd c
 
 pub step_undrawn : (law : JcrLaw) (old new : Shown) (run : SessionRun) (a : Pledge) → Stands law old run → run.phase ≡ phase.Committing a → (starts : Starts) (says : Says) (answer : StepOut) → Steps starts says old new answer → DrawsNoOther old new

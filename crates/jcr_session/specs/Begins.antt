@@ -149,6 +149,7 @@ MayTell law p run t = MaySettle law p run (reply_of t)
 abbrev pub IsTaskFor : Call → Command → Task → Type 0
 IsTaskFor c command.BackWrite t = t ≡ task.BackWrite
 IsTaskFor c command.BackRead t = t ≡ task.BackRead
+IsTaskFor c command.Sweep t = t ≡ task.Sweep
 IsTaskFor c command.Checkpoint t =
     (t ≡ task.Checkpoint (next_id c.who)) × (too_many_ids (c.who.ids + 1) ≡ None)
 IsTaskFor c (command.Release id) t = t ≡ task.Release id

@@ -1,5 +1,5 @@
 // How a session does what its next command asks of the cluster node, of the settings or of its
-// cursor: background work, checkpoints, and observing.
+// cursor: background work, sweeps, checkpoints, and observing.
 ghost use Rattle.std.specs.Prelude.{◌≡◌, ◌&&◌, IfOk, IsFalse, IsTrue, None, Some, is_none, is_some};
 ghost use Rattle.std.specs.Prelude.{length};
 ghost use Rattle.jr_items.specs.Refusals.{limit_refusal};
@@ -87,6 +87,7 @@ fn start_of(run: &SessionRun, command: &Command) -> Result<Start, AllocError>
     match command {
         Command::BackWrite => Ok(Start::Begun(Task::BackWrite, Errand::Write)),
         Command::BackRead => Ok(Start::Begun(Task::BackRead, Errand::Read)),
+        Command::Sweep => Ok(Start::Begun(Task::Sweep, Errand::Sweep)),
         Command::Checkpoint => checkpoint(run),
         Command::Release(id) => release(run.alloc, id),
         Command::Observe(path, deep, mask) => observe(run.alloc, path, *deep, *mask),
@@ -260,6 +261,7 @@ fn tell<P: Port<L = JcrLaw>>(run: &mut SessionRun, port: &mut P, told: Told) -> 
     match told {
         Told::Published(r) => tell_text(run, port, revision_reply(&r).as_str()),
         Told::Learnt(v) => tell_text(run, port, shown_vector(&v).as_str()),
+        Told::Swept(r) => tell_text(run, port, revision_reply(&r).as_str()),
         Told::Done => tell_text(run, port, "ok"),
         Told::Observed(filter) => tell_observed(run, port, filter),
         Told::Text(text) => tell_text(run, port, text.as_str()),

@@ -26,12 +26,12 @@ use std::alloc::AllocError;
 /// commit that is made is answered. Nor does it end so once the base has moved for a refresh,
 /// an attach or a detach: a command that is answered by want of memory has left the base where
 /// it stood, but that a detach that is refused memory for its second step has moved it to the
-/// head. Nor does it end so once background work has begun, or a checkpoint is being made or
-/// released (Oak, DocumentNodeStore: "Background operations", "Checkpoints"), or once the cursor
-/// has moved (JSR 283, 12 Observation): they need nothing of the tree, and what their replies
-/// need is made before their first step. The counted steps of a command are made in the order of
-/// its stages. A counted step and a reply bring the session nearer to its end, a reading step to
-/// what its next command asks for.
+/// head. Nor does it end so once background work or a sweep has begun, or a checkpoint is being
+/// made or released (Oak, DocumentNodeStore: "Background operations", "Sweep revision",
+/// "Checkpoints"), or once the cursor has moved (JSR 283, 12 Observation): they need nothing of
+/// the tree, and what their replies need is made before their first step. The counted steps of a
+/// command are made in the order of its stages. A counted step and a reply bring the session
+/// nearer to its end, a reading step to what its next command asks for.
 pub fn turn<P: Port<L = JcrLaw>>(run: &mut SessionRun, port: &mut P) -> Turn
     requires stands { Stands (P.law port.old) (P.shown port.old) run.old }
     ensures law { P.law port.new ≡ P.law port.old }

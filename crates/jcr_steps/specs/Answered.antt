@@ -138,6 +138,7 @@ abbrev pub IsErrandAnswer : StepOut → Type 0
 IsErrandAnswer (out.Went k) = ⊤
 IsErrandAnswer (out.Ready (end.Published r)) = ⊤
 IsErrandAnswer (out.Ready (end.Learnt v)) = ⊤
+IsErrandAnswer (out.Ready (end.Swept r)) = ⊤
 IsErrandAnswer (out.Ready (end.Set pin)) = ⊤
 IsErrandAnswer (out.Ready end.NoCheckpoint) = ⊤
 IsErrandAnswer (out.Ready (end.Pinned pin)) = ⊤
@@ -149,6 +150,7 @@ abbrev pub came_by : StepOut → Came
 came_by (out.Went k) = came.Going k
 came_by (out.Ready (end.Published r)) = came.Published r
 came_by (out.Ready (end.Learnt v)) = came.Learnt v
+came_by (out.Ready (end.Swept r)) = came.Swept r
 came_by (out.Ready (end.Set pin)) = came.Set
 came_by (out.Ready end.NoCheckpoint) = came.Missed
 came_by (out.Ready (end.Pinned pin)) = came.Pinned
@@ -158,6 +160,7 @@ came_by _ = came.Refused
 abbrev pub MayEnd : Came → Errand → Type 0
 MayEnd (came.Published r) errand.Write = ⊤
 MayEnd (came.Learnt v) errand.Read = ⊤
+MayEnd (came.Swept r) errand.Sweep = ⊤
 MayEnd came.Set (errand.Checkpoint reply) = ⊤
 MayEnd came.Set (errand.Release reply) = ⊤
 MayEnd came.Missed (errand.Release reply) = ⊤
@@ -174,6 +177,7 @@ MayCome x e = MayEnd x e
 abbrev pub told_by : Came → Errand → Told
 told_by (came.Published r) e = told.Published r
 told_by (came.Learnt v) e = told.Learnt v
+told_by (came.Swept r) e = told.Swept r
 told_by came.Missed (errand.Release reply) = told.Text reply
 told_by came.Missed e = told.Done
 told_by came.Pinned (errand.Observe filter) = told.Observed filter
@@ -185,5 +189,6 @@ told_by _ e = told.Done
 abbrev pub kind_told : Came → StepKind
 kind_told (came.Published r) = kind.Back
 kind_told (came.Learnt v) = kind.Learn
+kind_told (came.Swept r) = kind.Learn
 kind_told came.Pinned = kind.Pin
 kind_told _ = kind.Settings

@@ -26,6 +26,7 @@ kept_of _ = []
 abbrev pub reply_of : Told → Text
 reply_of (told.Published r) = answer_text (ShowsRevision r)
 reply_of (told.Learnt v) = answer_text (ShowsVector v)
+reply_of (told.Swept r) = answer_text (ShowsRevision r)
 reply_of told.Done = answer_text Done
 reply_of (told.Observed filter) = answer_text Done
 reply_of (told.Text reply) = string_bytes reply

@@ -19,6 +19,8 @@ pub enum Errand {
     Write,
     /// A background read.
     Read,
+    /// A sweep.
+    Sweep,
     /// A checkpoint, and its reply.
     Checkpoint(String),
     /// A release, and its reply where there is no such checkpoint.
@@ -36,6 +38,8 @@ pub enum Told {
     Published(Revision),
     /// The head, which has learned, is this.
     Learnt(RevVec),
+    /// The cluster node has swept, up to this revision.
+    Swept(Revision),
     /// The settings are changed.
     Done,
     /// The cursor is pinned at the base, and has this filter.
@@ -50,6 +54,7 @@ pub enum Came {
     Going(StepKind),
     Published(Revision),
     Learnt(RevVec),
+    Swept(Revision),
     Set,
     Missed,
     Pinned,
@@ -79,6 +84,7 @@ pub fn errand_came(answer: StepOut) -> Came
         StepOut::Went(kind) => Came::Going(*kind),
         StepOut::Ready(TaskEnd::Published(r)) => Came::Published(*r),
         StepOut::Ready(TaskEnd::Learnt(v)) => Came::Learnt(*v),
+        StepOut::Ready(TaskEnd::Swept(r)) => Came::Swept(*r),
         StepOut::Ready(TaskEnd::Set(_)) => Came::Set,
         StepOut::Ready(TaskEnd::NoCheckpoint) => Came::Missed,
         StepOut::Ready(TaskEnd::Pinned(_)) => Came::Pinned,
@@ -97,6 +103,7 @@ pub fn told_of(came: &Came, errand: Errand) -> Told
     match came {
         Came::Published(r) => Told::Published(*r),
         Came::Learnt(v) => Told::Learnt(*v),
+        Came::Swept(r) => Told::Swept(*r),
         Came::Set => set(errand),
         Came::Missed => missed(errand),
         Came::Pinned => pinned(errand),
@@ -145,7 +152,7 @@ pub fn kind_told(came: &Came) -> StepKind
 {
     match came {
         Came::Published(_) => StepKind::Back,
-        Came::Learnt(_) => StepKind::Learn,
+        Came::Learnt(_) | Came::Swept(_) => StepKind::Learn,
         Came::Pinned => StepKind::Pin,
         _ => StepKind::Settings,
     }

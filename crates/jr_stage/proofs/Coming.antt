@@ -23,7 +23,7 @@ use Rattle.oak_machine.specs.Sessions.{has_left, is_drawing, is_end_of_session, 
 use Rattle.oak_machine.specs.Steps.{is_appended_by, is_kind, moves_head, is_on, is_one_step, step_number, kinds_for, leaves_went}
 use Rattle.oak_machine.proofs.Stays.{any_later}
 use Rattle.core_heads.proofs.Passing.{next_stays}
-use Rattle.oak_port.specs.Ports.{Awaiting, Beside, Deciding, Idle, Seat as PortSeat, Shown, Starting, Undoing, Work, Writing, is_by_due, Publishing, Learning, Detaching}
+use Rattle.oak_port.specs.Ports.{Awaiting, Beside, Deciding, Idle, Seat as PortSeat, Shown, Starting, Undoing, Work, Writing, is_by_due, Publishing, Learning, Passing, Sweeping, Detaching}
 use Rattle.oak_world.specs.Seen.{no_seat, seat_of, shown_at, shown_work}
 use Rattle.oak_world.specs.Worlds.{ActorState, WorldOf, actor_in, idle, live, work_in}
 use Rattle.jcr_law.specs.declared.law.JcrLaw.{JcrLaw}
@@ -107,6 +107,8 @@ made_of script past s k (event.Detach t) a step idle = inl (where_true k (t == s
 made_of script past s k (event.Out c r) a step idle =
     inr (record { none = refl; made = or_first (is_on (history_at script past) s c) (is_stopped past c) (where_true k (is_on (history_at script past) s c) _ a); idle = idle refl })
 made_of script past s k (event.In c v) a step idle = inr (record { none = refl; made = where_true k (is_on (history_at script past) s c) _ a; idle = idle refl })
+made_of script past s k (event.Sweep c r) a step idle =
+    inr (record { none = refl; made = or_first (is_on (history_at script past) s c) (is_stopped past c) (where_true k (is_on (history_at script past) s c) _ a); idle = idle refl })
 made_of script past s k (event.Checkpoint id v) a step idle = inr (record { none = refl; made = refl; idle = idle refl })
 made_of script past s k (event.Release id) a step idle = inr (record { none = refl; made = refl; idle = idle refl })
 made_of script past s k e a step idle = absurd (false≢true step)
@@ -115,6 +117,7 @@ made_of script past s k e a step idle = absurd (false≢true step)
 flight_none : (e : Event) (o : Option Flight) → tells_of_none e ≡ true → flight_with e o ≡ o
 flight_none (event.Out k r) o none = refl
 flight_none (event.In k v) o none = refl
+flight_none (event.Sweep k r) o none = refl
 flight_none (event.Checkpoint id v) o none = refl
 flight_none (event.Release id) o none = refl
 flight_none e o none = absurd (false≢true none)
@@ -223,6 +226,8 @@ module _ (script : Script) (n : GName) (s : ℕ) (old new : WorldOf JcrLaw) (sea
   awaited_seen (Starting t) r is seen = none_is_some r is
   awaited_seen (Publishing q) r is seen = none_is_some r is
   awaited_seen (Learning u) r is seen = none_is_some r is
+  awaited_seen (Passing q) r is seen = none_is_some r is
+  awaited_seen (Sweeping q) r is seen = none_is_some r is
   awaited_seen (Detaching v) r is seen = none_is_some r is
   awaited_seen (Writing q) r is seen = none_is_some r is
   awaited_seen (Undoing q e) r is seen = none_is_some r is

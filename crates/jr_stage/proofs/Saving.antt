@@ -17,7 +17,7 @@ use Rattle.oak_machine.specs.Sessions.{drawn_among, drawn_since, has_left, has_l
 use Rattle.oak_machine.proofs.Stays.{any_later}
 use Rattle.oak_commit.specs.declared.outcome.CommitEnd.{CommitEnd}
 use Rattle.oak_commit.specs.declared.outcome.CommitEnd.TheVariants as commit
-use Rattle.oak_port.specs.Ports.{Awaiting, Deciding, HoldsBack, Idle, Learning, Publishing, Shown, Starting, Undoing, Work, Writing}
+use Rattle.oak_port.specs.Ports.{Awaiting, Deciding, HoldsBack, Idle, Learning, Passing, Publishing, Shown, Starting, Sweeping, Undoing, Work, Writing}
 use Rattle.oak_port.specs.declared.task.Task.TheVariants as task
 use Rattle.core_heads.proofs.Passing.{drawn_stays, next_stays}
 use Rattle.jcr_law.specs.Lasting.{says_of, starts_of}
@@ -48,6 +48,9 @@ errand_waits h s c command.BackWrite (Starting task.BackWrite) works = refl
 errand_waits h s c command.BackWrite (Publishing r) works = refl
 errand_waits h s c command.BackRead (Starting task.BackRead) works = refl
 errand_waits h s c command.BackRead (Learning v) works = refl
+errand_waits h s c command.Sweep (Starting task.Sweep) works = refl
+errand_waits h s c command.Sweep (Passing r) works = refl
+errand_waits h s c command.Sweep (Sweeping r) works = refl
 errand_waits h s c command.Checkpoint (Starting (task.Checkpoint id)) works = refl
 errand_waits h s c (command.Release id) (Starting (task.Release i)) works = refl
 errand_waits h s c (command.Observe path deep mask) (Starting task.Observe) works = refl
@@ -237,6 +240,7 @@ module _ (law : JcrLaw) (old new : Shown) (run now : SessionRun) (k : StepKind) 
   drawn_by_one (event.Went t j) ran step = drawn_before
   drawn_by_one (event.Out c r) ran step = drawn_before
   drawn_by_one (event.In c v) ran step = drawn_before
+  drawn_by_one (event.Sweep c r) ran step = drawn_before
   drawn_by_one (event.Checkpoint id v) ran step = drawn_before
   drawn_by_one (event.Release id) ran step = drawn_before
   drawn_by_one (event.Attach t id) ran step = drawn_before

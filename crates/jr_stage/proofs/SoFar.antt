@@ -66,6 +66,7 @@ module _ (past : Past) (s t : ℕ) (others : (s == t) ≡ false) where
 pub unnamed_own : (past : Past) (s : ℕ) (e : Event) → tells_of_none e ≡ true → is_own past s e ≡ false
 unnamed_own past s (event.Out k r) h = refl
 unnamed_own past s (event.In k v) h = refl
+unnamed_own past s (event.Sweep k r) h = refl
 unnamed_own past s (event.Checkpoint id v) h = refl
 unnamed_own past s (event.Release id) h = refl
 unnamed_own past s e h = absurd (false≢true h)

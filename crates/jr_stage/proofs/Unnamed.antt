@@ -11,7 +11,7 @@ use Rattle.oak_machine.specs.declared.event.StepKind.TheVariants as kind
 use Rattle.oak_machine.specs.History.{History}
 use Rattle.oak_machine.specs.Sessions.{is_drawing, next_index}
 use Rattle.oak_machine.specs.Steps.{is_kind, step_number, kinds_for, where_test}
-use Rattle.oak_port.specs.Ports.{Idle, Learning, Publishing, Shown, Starting, Work}
+use Rattle.oak_port.specs.Ports.{Idle, Learning, Passing, Publishing, Shown, Starting, Sweeping, Work}
 use Rattle.oak_port.specs.declared.task.Task.TheVariants as task
 use Rattle.jr_part.specs.declared.need.Need.TheVariants as need
 use Rattle.jcr_law.specs.Makes.{commit_stages}
@@ -34,10 +34,11 @@ use Rattle.jr_stage.proofs.Saving.{flying_commits}
 
 -- ---- kinds
 
--- background work, and a step on the settings
+-- background work, a sweep, and a step on the settings
 abbrev is_upkeep : StepKind → Bool
 is_upkeep kind.Back = true
 is_upkeep kind.Learn = true
+is_upkeep kind.Sweep = true
 is_upkeep kind.Settings = true
 is_upkeep k = false
 
@@ -57,6 +58,7 @@ HasNumber k n = (step_number k == n) ≡ true
 unnamed_upkeep : (h : History) (s : ℕ) (k : StepKind) (e : Event) → list_any (is_kind k) (kinds_for h s (e ∷ [])) ≡ true → tells_of_none e ≡ true → (j : StepKind) × (is_upkeep j ≡ true) × (is_kind k j ≡ true)
 unnamed_upkeep h s k (event.Out c r) a none = (kind.Back, refl, where_some k kind.Back _ a)
 unnamed_upkeep h s k (event.In c v) a none = (kind.Learn, refl, where_some k kind.Learn _ a)
+unnamed_upkeep h s k (event.Sweep c r) a none = (kind.Sweep, refl, where_some k kind.Sweep _ a)
 unnamed_upkeep h s k (event.Checkpoint id v) a none = (kind.Settings, refl, where_some k kind.Settings true a)
 unnamed_upkeep h s k (event.Release id) a none = (kind.Settings, refl, where_some k kind.Settings true a)
 unnamed_upkeep h s k e a none = absurd (false≢true none)
@@ -77,6 +79,11 @@ upkeep_of kind.Learn i h none = of_learn i none
     of_learn : (i : StepKind) → is_upkeep i ≡ false → is_kind kind.Learn i ≡ false
     of_learn kind.Learn none = absurd (false≢true (sym none))
     of_learn i none = refl
+upkeep_of kind.Sweep i h none = of_sweep i none
+  where
+    of_sweep : (i : StepKind) → is_upkeep i ≡ false → is_kind kind.Sweep i ≡ false
+    of_sweep kind.Sweep none = absurd (false≢true (sym none))
+    of_sweep i none = refl
 upkeep_of kind.Settings i h none = of_settings i none
   where
     of_settings : (i : StepKind) → is_upkeep i ≡ false → is_kind kind.Settings i ≡ false
@@ -127,6 +134,9 @@ errand_apart h s c command.BackWrite (Starting task.BackWrite) works = refl
 errand_apart h s c command.BackWrite (Publishing r) works = refl
 errand_apart h s c command.BackRead (Starting task.BackRead) works = refl
 errand_apart h s c command.BackRead (Learning v) works = refl
+errand_apart h s c command.Sweep (Starting task.Sweep) works = refl
+errand_apart h s c command.Sweep (Passing r) works = refl
+errand_apart h s c command.Sweep (Sweeping r) works = refl
 errand_apart h s c command.Checkpoint (Starting (task.Checkpoint id)) works = refl
 errand_apart h s c (command.Release id) (Starting (task.Release i)) works = refl
 errand_apart h s c (command.Observe path deep mask) (Starting task.Observe) works = refl

@@ -131,6 +131,7 @@ is_next test past s later = option_map_or test (next_of past s later) false
 abbrev pub tells_of_none : Event → Bool
 tells_of_none (event.Out k r) = true
 tells_of_none (event.In k v) = true
+tells_of_none (event.Sweep k r) = true
 tells_of_none (event.Checkpoint id v) = true
 tells_of_none (event.Release id) = true
 tells_of_none _ = false
