@@ -1,11 +1,11 @@
 -- Partners that are found by an index are all partners.
-use Rattle.std.proofs.Common.{◌≡◌, ℕ, suc, zero, ◌+◌, ◌<◌, Bool, true, false, List, [], ◌∷◌, ◌++◌, map, length, get_or, take, drop, sym, ap, ◌∙◌, subst, append_assoc, arith}
+use Rattle.std.proofs.Common.{◌≡◌, ℕ, suc, zero, ◌+◌, ◌<◌, ◌≤◌, Bool, true, false, List, [], ◌∷◌, ◌++◌, map, length, get_or, take, drop, sym, ap, ◌∙◌, subst, append-nil, append_assoc, arith}
 use Rattle.std.specs.Prelude.{Option, Some, None, is_some, not, slice_get, ◌==◌}
 use Rattle.std.specs.Option.{option_map, unwrap_or}
 use Rattle.std.proofs.lemmas.Bool.{false≢true, ne_eqb}
 use Rattle.std.proofs.lemmas.Option.{slice_get-map}
 use Rattle.std.specs.List.{AllByRecursion, Contains, cons_option, filter, list_any}
-use Rattle.std.proofs.lemmas.List.{take_more}
+use Rattle.std.proofs.lemmas.List.{drop_all, take_more}
 use Rattle.std.proofs.lemmas.List.Elements.{Contains-append_left, Contains-append_right, filter-append, filter_map-append}
 use Rattle.std.proofs.lemmas.List.Folds.{list_any-from_Any}
 use Rattle.basics.proofs.Lists.{drop_next}
@@ -77,6 +77,13 @@ entries_more keys f xs i x place old new total ks within at made is before =
     ∙ append_assoc old (map (λ s. (s, place)) (keys (f x))) (placed keys (place + 1) (map f (drop (i + 1) xs)))
     ∙ ap (λ ys. old ++ placed keys place (map f ys)) (sym (drop_next xs i x within at))
     ∙ before
+
+-- an entry that is found is one of those that were put in
+pub entries_back : {A X : Type 0} (keys : X → List Sought) (f : List A → List X) (place : ℕ) (i : ℕ) (xs : List A) (entries total index : List (Sought × ℕ)) → f [] ≡ [] → length xs ≤ i → entries ++ placed keys place (f (drop i xs)) ≡ total
+    → ((s : Sought) (n : ℕ) → Contains index (s, n) → Contains entries (s, n)) → (s : Sought) (n : ℕ) → Contains index (s, n) → Contains total (s, n)
+entries_back keys f place i xs entries total index none past whole back s n c =
+    let all : entries ≡ total = sym (append-nil entries) ∙ ap (λ ys. entries ++ placed keys place ys) (sym none) ∙ ap (λ ys. entries ++ placed keys place (f ys)) (sym (drop_all i xs past)) ∙ whole in
+    subst (λ es. Contains es (s, n)) all (back s n c)
 
 pub partners_more : {X : Type 0} (p : X → Bool) (rs : List X) (ps : List ℕ) (i k : ℕ) (old new : List X) → i < length ps → k ≡ get_or ps i 0 → new ≡ old ++ filter p (at_places rs (k ∷ [])) → old ≡ filter p (at_places rs (take i ps)) → new ≡ filter p (at_places rs (take (i + 1) ps))
 partners_more p rs ps i k old new within at made before =

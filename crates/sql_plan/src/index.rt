@@ -1,7 +1,7 @@
 // Places found by keys.
 ghost use Rattle.std.specs.Prelude.{◌≡◌, ◌++◌, ℕ, true, IfOk, OnOk, map};
 ghost use Rattle.std.specs.Cmp.Lexicographic.{slice_cmp};
-ghost use Rattle.std.specs.List.{Contains, list_any};
+ghost use Rattle.std.specs.List.{Contains, filter, list_any};
 ghost use Rattle.std.specs.List.Sorted.{IsStrictlyIncreasing};
 ghost use Rattle.jr_path.specs.Names.{name_cmp};
 ghost use Rattle.sql_plan.specs.Index.{Sought, is_same_key, key_cmp, placed_key, sought};
@@ -49,7 +49,8 @@ impl<'a> Model for Index<'a> {
 impl<'a> Index<'a> {
     /// Takes over entries in any order. It takes no memory.
     pub fn of(entries: Vec<Entry<'a>>) -> Index<'a>
-        ensures { (s : Sought) (n : ℕ) → Contains (map placed_key entries.entry.items) (s, n) → Contains result (s, n) }
+        ensures all { (s : Sought) (n : ℕ) → Contains (map placed_key entries.entry.items) (s, n) → Contains result (s, n) }
+        ensures only { (s : Sought) (n : ℕ) → Contains result (s, n) → Contains (map placed_key entries.entry.items) (s, n) }
     {
         let mut entries = entries;
         entries.sort_unstable_by(|entry, other| key_cmp(&entry.key, &other.key));
@@ -58,7 +59,7 @@ impl<'a> Index<'a> {
 
     // The entries of one key.
     fn entries_of(&self, key: &Key<'a>) -> &[Entry<'a>]
-        ensures { (s : Sought) (n : ℕ) → Contains self.now (s, n) → is_same_key (sought key.now) s ≡ true → Contains (map placed_key result.now) (s, n) }
+        ensures { map placed_key result.now ≡ filter (λ e. is_same_key (sought key.now) e.0) self.now }
     {
         let start = self
             .entries
@@ -73,10 +74,11 @@ impl<'a> Index<'a> {
         }
     }
 
-    /// The places of all that has one of these keys, each once, in ascending order.
+    /// The places of just what has one of these keys, each once, in ascending order.
     pub fn places(&self, alloc: Global, keys: &[Key<'a>]) -> Result<Vec<usize>, AllocError>
         ensures rises { IfOk result (λ places. IsStrictlyIncreasing places.items) }
         ensures all { IfOk result (λ places. (s : Sought) (n : ℕ) → Contains self.now (s, n) → list_any (λ k. is_same_key k s) (map sought keys.now) ≡ true → Contains places.items n) }
+        ensures only { IfOk result (λ places. (n : ℕ) → Contains places.items n → (s : Sought) × Contains self.now (s, n) × (list_any (λ k. is_same_key k s) (map sought keys.now) ≡ true)) }
     {
         let mut places = Vec::new(alloc);
         for key in keys {
@@ -101,6 +103,7 @@ fn add_places(places: &mut Vec<usize>, entries: &[Entry<'_>]) -> Result<(), Allo
 fn sort_places(places: &mut Vec<usize>)
     ensures rises { IsStrictlyIncreasing places.new.items }
     ensures keeps { (n : ℕ) → Contains places.old.items n → Contains places.new.items n }
+    ensures only { (n : ℕ) → Contains places.new.items n → Contains places.old.items n }
 {
     places.sort_unstable();
     places.dedup();

@@ -45,7 +45,8 @@ fn index_of_nodes<'a>(
     link: &Link<'_>,
     right: &[Spot<'a>],
 ) -> Result<Index<'a>, AllocError>
-    ensures { IfOk result (λ index. (s : Sought) (n : ℕ) → Contains (placed (keys_of_node (linked link.now)) 0 (map deref_pair right.now)) (s, n) → Contains index (s, n)) }
+    ensures all { IfOk result (λ index. (s : Sought) (n : ℕ) → Contains (placed (keys_of_node (linked link.now)) 0 (map deref_pair right.now)) (s, n) → Contains index (s, n)) }
+    ensures only { IfOk result (λ index. (s : Sought) (n : ℕ) → Contains index (s, n) → Contains (placed (keys_of_node (linked link.now)) 0 (map deref_pair right.now)) (s, n)) }
 {
     let mut entries = Vec::new(alloc);
     let mut place = 0;
@@ -62,7 +63,8 @@ fn index_of_tuples<'a>(
     link: &Link<'_>,
     left: &[Tuple<'a>],
 ) -> Result<Index<'a>, AllocError>
-    ensures { IfOk result (λ index. (s : Sought) (n : ℕ) → Contains (placed (keys_of_tuple (linked link.now)) 0 left.now) (s, n) → Contains index (s, n)) }
+    ensures all { IfOk result (λ index. (s : Sought) (n : ℕ) → Contains (placed (keys_of_tuple (linked link.now)) 0 left.now) (s, n) → Contains index (s, n)) }
+    ensures only { IfOk result (λ index. (s : Sought) (n : ℕ) → Contains index (s, n) → Contains (placed (keys_of_tuple (linked link.now)) 0 left.now) (s, n)) }
 {
     let mut entries = Vec::new(alloc);
     let mut place = 0;
