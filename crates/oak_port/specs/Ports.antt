@@ -41,7 +41,9 @@ use Rattle.oak_port.specs.declared.task.TaskEnd.TheVariants as end
 -- nothing; a task; a commit that has drawn its revision: it writes, or it undoes and will end so,
 -- or it is committed, or it has ended and its base doesn't see it yet; a background write that has
 -- taken its notes, and will publish this revision; a background read that has read this of the
--- root; or a detaching whose base has moved to this vector
+-- root; a sweep that has read of the root how far its cluster node has published, this revision,
+-- and passes over documents; a sweep that has told the root how far it went, this revision, and
+-- whose node has still to learn it; or a detaching whose base has moved to this vector
 pub data Work : Type 0 where
   Idle : Work
   Starting : Task → Work
@@ -51,6 +53,8 @@ pub data Work : Type 0 where
   Awaiting : Revision → Work
   Publishing : Revision → Work
   Learning : RevVec → Work
+  Passing : Revision → Work
+  Sweeping : Revision → Work
   Detaching : RevVec → Work
 
 -- what is being done for a session, how many bytes of its next reply have a place, where that has
@@ -150,6 +154,13 @@ SeesAllOf v u = (r : Revision) → IsTrue (sees u r) → IsTrue (sees v r)
 abbrev pub IsSessionOn : History → ℕ → ℕ → Type 0
 IsSessionOn h s k = slice_get h.sessions s ≡ Some k
 
+-- a sweep that goes up to r passes one document more, or tells the root, from which on what is found
+-- of its cluster node's changes up to r is committed
+abbrev pub SweepsOn : History → ℕ → Revision → StepKind → Past → Work → Type 0
+SweepsOn h s r k own now = (k ≡ kind.Sweep)
+    × (((own ≡ event.Went s kind.Sweep ∷ []) × (now ≡ Passing r))
+    ⊎ ((m : ℕ) × IsSessionOn h s m × (own ≡ event.Sweep m r ∷ []) × (now ≡ Sweeping r)))
+
 -- the head of the cluster node of r sees r
 abbrev pub is_in_head : History → Revision → Bool
 is_in_head h r = sees (head_of h.clusters h.begin h.past r.cluster) r
@@ -181,6 +192,9 @@ Makes h s (Starting task.BackWrite) (out.Went k) own now =
 Makes h s (Starting task.BackRead) (out.Went k) own now =
     (v : RevVec) × IsPublic h v × (k ≡ kind.Back) × (own ≡ event.Went s kind.Back ∷ [])
     × (now ≡ Learning v)
+Makes h s (Starting task.Sweep) (out.Went k) own now =
+    (m : ℕ) × IsSessionOn h s m × (k ≡ kind.Sweep) × (own ≡ event.Went s kind.Sweep ∷ [])
+    × (now ≡ Passing (published h.begin h.past m))
 Makes h s (Starting (task.Checkpoint i)) (out.Ready (end.Set None)) own now =
     (v : RevVec) × (base_of h.past s ≡ Some v) × (own ≡ event.Checkpoint i v ∷ []) × (now ≡ Idle)
 Makes h s (Starting (task.Release i)) (out.Ready (end.Set None)) own now =
@@ -209,6 +223,11 @@ Makes h s (Publishing r) out.Memory own now = (own ≡ []) × (now ≡ Idle)
 Makes h s (Learning u) (out.Ready (end.Learnt v)) own now =
     (m : ℕ) × IsSessionOn h s m × SeesAllOf v u × (own ≡ event.In m v ∷ []) × (now ≡ Idle)
 Makes h s (Learning u) out.Memory own now = (own ≡ []) × (now ≡ Idle)
+Makes h s (Passing r) (out.Went k) own now = SweepsOn h s r k own now
+Makes h s (Passing r) out.Memory own now = (own ≡ []) × (now ≡ Idle)
+Makes h s (Sweeping r) (out.Ready (end.Swept o)) own now =
+    (o ≡ r) × (own ≡ event.Went s kind.Learn ∷ []) × (now ≡ Idle)
+Makes h s (Sweeping r) out.Memory own now = (own ≡ []) × (now ≡ Idle)
 Makes h s (Detaching v) (out.Ready (end.Pinned pin)) own now =
     (pin.base ≡ v) × (own ≡ event.Detach s ∷ []) × (now ≡ Idle)
 Makes h s (Detaching v) out.Memory own now = (own ≡ []) × (now ≡ Idle)
@@ -239,6 +258,7 @@ last_kind (Starting task.Observe) = kind.Pin
 last_kind (Starting t) = kind.Read
 last_kind (Publishing r) = kind.Back
 last_kind (Learning u) = kind.Learn
+last_kind (Sweeping r) = kind.Learn
 last_kind (Detaching v) = kind.Settings
 last_kind (Undoing r e) = kind.Finish
 last_kind _ = kind.Pin
@@ -310,8 +330,8 @@ LastsOn before now old new = (new.history ≡ old.history) → now ≡ before
 
 -- a task may start: a login first, the others of a session that has logged in and not left; an edit
 -- that the law lets start; a detaching where the session is attached, and others only where it
--- isn't; what changed since a vector where the session's cursor is there. No world splits, sweeps,
--- collects, stops or recovers yet
+-- isn't; what changed since a vector where the session's cursor is there. No world splits, collects,
+-- stops or recovers yet
 abbrev pub MayBegin : Starts → History → ℕ → Task → Type 0
 MayBegin starts h s task.Login = IsFalse (has_login h.past s)
 MayBegin starts h s (task.Commit edit marks) =
@@ -324,7 +344,6 @@ MayBegin starts h s task.Refresh =
 MayBegin starts h s task.Observe =
     IsTrue (has_login h.past s) × IsFalse (has_left h.past s) × IsFalse (is_attached h.past s)
 MayBegin starts h s (task.Split p) = ⊥
-MayBegin starts h s task.Sweep = ⊥
 MayBegin starts h s task.Collect = ⊥
 MayBegin starts h s (task.Attach i) =
     IsTrue (has_login h.past s) × IsFalse (has_left h.past s) × IsFalse (is_attached h.past s)
@@ -354,6 +373,9 @@ Appends task.BackWrite (event.Went s kind.Back) = ⊤
 Appends task.BackWrite (event.Out k r) = ⊤
 Appends task.BackRead (event.Went s kind.Back) = ⊤
 Appends task.BackRead (event.In k v) = ⊤
+Appends task.Sweep (event.Went s kind.Sweep) = ⊤
+Appends task.Sweep (event.Sweep k r) = ⊤
+Appends task.Sweep (event.Went s kind.Learn) = ⊤
 Appends (task.Checkpoint i) (event.Checkpoint id v) = id ≡ i
 Appends (task.Release i) (event.Release id) = id ≡ i
 Appends (task.Release i) (event.Went s kind.Settings) = ⊤
@@ -373,6 +395,8 @@ MayAppend (Deciding r) e = IsTrue (is_of_commit e)
 MayAppend (Awaiting r) e = IsTrue (is_of_commit e)
 MayAppend (Publishing r) e = Appends task.BackWrite e
 MayAppend (Learning v) e = Appends task.BackRead e
+MayAppend (Passing r) e = Appends task.Sweep e
+MayAppend (Sweeping r) e = Appends task.Sweep e
 MayAppend (Detaching v) e = Appends task.Detach e
 MayAppend Idle e = ⊥
 
