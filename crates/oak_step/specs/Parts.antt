@@ -55,7 +55,7 @@ use Rattle.oak_sync.specs.declared.stage.Stage.TheVariants as syncing
 use Rattle.oak_store.specs.Tables.{Table, after_undo, found, next_number, with_document}
 use Rattle.core_nodes.specs.Nodes.{cursor_owner, without_session}
 use Rattle.core_world.specs.Steps.{after_update, setting_op}
-pub use Rattle.oak_acts.specs.Acts.{after_ask, answered_by, pinned_base, result_of}
+pub use Rattle.oak_acts.specs.Acts.{after_ask, answered_by, pinned_base, replied, result_of}
 use Rattle.oak_step.specs.declared.upkeep.Upkeep.{Upkeep}
 use Rattle.oak_step.specs.declared.upkeep.Upkeep.TheVariants as upkeep
 use Rattle.oak_step.specs.Upkeeps.{set_checkpoint}
