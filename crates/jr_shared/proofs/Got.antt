@@ -166,7 +166,6 @@ module _ {L : Type 0} (law : Ghosts L) (old : PassKnown L) (got : WorldOf L) (g 
       begins (task.Checkpoint i) m = (login_same ∙ m.0, left_same ∙ m.1, attached_same ∙ m.2)
       begins task.Refresh m = (login_same ∙ m.0, left_same ∙ m.1, attached_same ∙ m.2)
       begins (task.Split p) m = absurd m
-      begins task.Sweep m = absurd m
       begins task.Collect m = absurd m
       begins (task.Attach i) m = (login_same ∙ m.0, left_same ∙ m.1, attached_same ∙ m.2)
       begins task.Detach m = (login_same ∙ m.0, left_same ∙ m.1, attached_same ∙ m.2)
@@ -179,6 +178,7 @@ module _ {L : Type 0} (law : Ghosts L) (old : PassKnown L) (got : WorldOf L) (g 
       begins (task.List p) m = (login_same ∙ m.0, left_same ∙ m.1)
       begins task.BackWrite m = (login_same ∙ m.0, left_same ∙ m.1)
       begins task.BackRead m = (login_same ∙ m.0, left_same ∙ m.1)
+      begins task.Sweep m = (login_same ∙ m.0, left_same ∙ m.1)
       begins (task.Release i) m = (login_same ∙ m.0, left_same ∙ m.1)
 
       -- what may begin by the history seen may begin still

@@ -21,7 +21,7 @@ use Rattle.oak_port.specs.declared.task.StepOut.{StepOut}
 use Rattle.oak_port.specs.declared.task.StepOut.TheVariants as out
 use Rattle.oak_port.specs.declared.task.Task.TheVariants as task
 use Rattle.oak_port.specs.declared.task.TaskEnd.TheVariants as end
-use Rattle.oak_port.specs.Ports.{AreOfStep, Awaiting, Deciding, Detaching, IsFinish, Learning, Makes, Publishing, Starting, Undoing, Work as Shows, Writing, WritesOn, last_kind}
+use Rattle.oak_port.specs.Ports.{AreOfStep, Awaiting, Deciding, Detaching, IsFinish, Learning, Makes, Passing, Publishing, Starting, Sweeping, SweepsOn, Undoing, Work as Shows, Writing, WritesOn, last_kind}
 use Rattle.oak_world.proofs.Asking.{of_kind, tested}
 use Rattle.jr_shared.proofs.Lists.{flipped}
 use Rattle.jr_shared.specs.Meanings.{own_events}
@@ -59,6 +59,10 @@ written s r k own now (inr (inl m)) = inl (event.Went s kind.Mark, m.1, refl)
 written s r k own now (inr (inr (inl m))) = inl (event.Commit r, m.1, refl)
 written s r k own now (inr (inr (inr m))) = inl (event.Refuse r m.0 m.1, m.2, refl)
 
+swept : (h : History) (s : ℕ) (r : Revision) (k : StepKind) (own : Past) (now : Shows) → SweepsOn h s r k own now → IsAdded own
+swept h s r k own now (is, inl m) = inl (event.Went s kind.Sweep, m.0, refl)
+swept h s r k own now (is, inr m) = inl (event.Sweep m.0 r, m.2, refl)
+
 pub shaped : (h : History) (s : ℕ) (w : Shows) (o : StepOut) (own : Past) (now : Shows) → Makes h s w o own now → IsShaped (adds w o) own
 shaped h s (Starting task.Login) (out.Ready (end.Pinned pin)) own now m = inl (event.Login s pin.base, m.0, refl)
 shaped h s (Starting task.Refresh) (out.Ready (end.Pinned pin)) own now m = inl (event.Refresh s pin.base, m.0, refl)
@@ -70,6 +74,7 @@ shaped h s (Starting (task.List p)) (out.Ready (end.Children names)) own now m =
 shaped h s (Starting (task.Commit edit marks)) (out.Went k) own now m = inl (event.Draw m.0, m.3, refl)
 shaped h s (Starting task.BackWrite) (out.Went k) own now m = inl (event.Went s kind.Back, m.3, refl)
 shaped h s (Starting task.BackRead) (out.Went k) own now m = inl (event.Went s kind.Back, m.3, refl)
+shaped h s (Starting task.Sweep) (out.Went k) own now m = inl (event.Went s kind.Sweep, m.3, refl)
 shaped h s (Starting (task.Checkpoint i)) (out.Ready (end.Set None)) own now m = inl (event.Checkpoint i m.0, m.2, refl)
 shaped h s (Starting (task.Release i)) (out.Ready (end.Set None)) own now m = inl (event.Release i, m.0, refl)
 shaped h s (Starting (task.Release i)) (out.Ready end.NoCheckpoint) own now m = inl (event.Went s kind.Settings, m.1, refl)
@@ -85,6 +90,10 @@ shaped h s (Publishing r) (out.Ready (end.Published o)) own now m = inl (event.O
 shaped h s (Publishing r) out.Memory own now m = m.0
 shaped h s (Learning u) (out.Ready (end.Learnt v)) own now m = inl (event.In m.0 v, m.3, refl)
 shaped h s (Learning u) out.Memory own now m = m.0
+shaped h s (Passing r) (out.Went k) own now m = swept h s r k own now m
+shaped h s (Passing r) out.Memory own now m = m.0
+shaped h s (Sweeping r) (out.Ready (end.Swept o)) own now m = inl (event.Went s kind.Learn, m.1, refl)
+shaped h s (Sweeping r) out.Memory own now m = m.0
 shaped h s (Detaching v) (out.Ready (end.Pinned pin)) own now m = inl (event.Detach s, m.1, refl)
 shaped h s (Detaching v) out.Memory own now m = m.0
 shaped h s (Writing r) (out.Went k) own now m = written s r k own now m
