@@ -8,15 +8,19 @@ use Rattle.oak_machine.specs.declared.event.StepKind.TheVariants as kind
 use Rattle.oak_port.specs.declared.task.StepOut.{StepOut}
 use Rattle.oak_port.specs.declared.task.StepOut.TheVariants as answers
 use Rattle.oak_port.specs.declared.task.TaskEnd.TheVariants as ends
-use Rattle.core_world.specs.States.{State}
+use Rattle.core_world.specs.States.{State, node_of}
 use Rattle.oak_node.specs.declared.pending.Pending.{Pending}
+use Rattle.oak_sweep.specs.Sweeping as sweeping
+use Rattle.oak_sweep.specs.declared.stage.Stage.{Stage as Swept}
+use Rattle.oak_sweep.specs.declared.stage.Stage.TheVariants as swept
+use Rattle.oak_sweep.specs.declared.sweeper.Sweeper.{Sweeper}
 use Rattle.oak_sync.specs.declared.back_read.BackRead.{BackRead}
 use Rattle.oak_sync.specs.declared.back_write.BackWrite.{BackWrite}
 use Rattle.oak_step.specs.declared.work.Work.{Work}
 use Rattle.oak_step.specs.declared.work.Work.TheVariants as work
 use Rattle.oak_step.specs.declared.upkeep.Upkeep.{Upkeep}
 use Rattle.oak_step.specs.declared.upkeep.Upkeep.TheVariants as upkeep
-use Rattle.oak_world.specs.Steps.{BeginsBackWrite, MakesState, MakesBackRead, MakesBackWrite, MakesCommit, MakesUpdate, MakesUpkeep}
+use Rattle.oak_world.specs.Steps.{BeginsBackWrite, MakesState, MakesBackRead, MakesBackWrite, MakesCommit, MakesSweep, MakesUpdate, MakesUpkeep, PassesTo}
 use Rattle.jr_shared.proofs.Lists.{never_longer, never_two_longer}
 
 module _ (s : ℕ) (w u : State) (same : u.past ≡ w.past) where
@@ -67,6 +71,19 @@ module _ (s : ℕ) (w u : State) (same : u.past ≡ w.past) where
   calm_learn b v answers.Memory m = still m.0
   calm_learn b v _ m = absurd m
 
+  calm_pass : (x : Sweeper) (at : Swept) → PassesTo s w x at u → IsCalm
+  calm_pass x swept.Root m = never _ (ap (λ (y : State). y.past) m)
+  calm_pass x swept.Document m = never _ (ap (λ (y : State). y.past) m)
+  calm_pass x swept.Publish m = never _ (ap (λ (y : State). y.past) m)
+  calm_pass x swept.Learn m = absurd m
+  calm_pass x swept.Done m = absurd m
+
+  calm_sweep : (x : Sweeper) (v : Work) (o : StepOut) → MakesSweep s w x u v o → IsCalm
+  calm_sweep x v (answers.Went kind.Sweep) m = calm_pass x (sweeping.stage_of x) m.0
+  calm_sweep x v (answers.Ready (ends.Swept r)) m = never _ (ap (λ (y : State). y.past) m.2)
+  calm_sweep x v answers.Memory m = still m.0
+  calm_sweep x v _ m = absurd m
+
   calm_upkeep : (k : Upkeep) (v : Work) (o : StepOut) → MakesUpkeep s w k u v o → IsCalm
   calm_upkeep upkeep.Write v (answers.Went kind.Back) m = never _ (ap (λ (x : State). x.past) m.2)
   calm_upkeep upkeep.Write v answers.Memory m = still m.0
@@ -74,6 +91,8 @@ module _ (s : ℕ) (w u : State) (same : u.past ≡ w.past) where
   calm_upkeep (upkeep.Noted n) v o m = calm_begin n v o m
   calm_upkeep (upkeep.Publish b) v o m = calm_publish b v o m
   calm_upkeep (upkeep.Read b) v o m = calm_learn b v o m
+  calm_upkeep upkeep.Sweep v o m = calm_sweep (sweeping.begun m.0 (node_of w s)) v o m.1
+  calm_upkeep (upkeep.Sweeping x) v o m = calm_sweep x v o m
   calm_upkeep (upkeep.Checkpoint i) v (answers.Ready (ends.Set None)) m = never _ (ap (λ (x : State). x.past) m.2)
   calm_upkeep (upkeep.Checkpoint i) v answers.Memory m = still m.0
   calm_upkeep (upkeep.Checkpoint i) v _ m = absurd m

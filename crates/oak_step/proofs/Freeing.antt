@@ -1,4 +1,4 @@
--- Background work, and a change of the settings, keep no places of the journal.
+-- Background work, a sweep and a change of the settings keep no places of the journal.
 use Rattle.std.proofs.Common.{◌≡◌, ℕ, inl, inr, ap}
 use Rattle.std.specs.Prelude.{None, Some}
 use Rattle.oak_machine.specs.declared.event.StepKind.TheVariants as kind
@@ -6,12 +6,14 @@ use Rattle.oak_node.specs.declared.pending.Pending.{Pending}
 use Rattle.oak_port.specs.declared.task.StepOut.{StepOut}
 use Rattle.oak_port.specs.declared.task.StepOut.TheVariants as answers
 use Rattle.oak_port.specs.declared.task.TaskEnd.TheVariants as ends
+use Rattle.oak_sweep.specs.Sweeping.{begun}
+use Rattle.oak_sweep.specs.declared.sweeper.Sweeper.{Sweeper}
 use Rattle.oak_sync.specs.declared.back_read.BackRead.{BackRead}
 use Rattle.oak_sync.specs.declared.back_write.BackWrite.{BackWrite}
 use Rattle.oak_step.specs.declared.work.Work.{Work}
 use Rattle.oak_step.specs.declared.upkeep.Upkeep.{Upkeep}
 use Rattle.oak_step.specs.declared.upkeep.Upkeep.TheVariants as upkeep
-use Rattle.oak_step.specs.Parts.{KeepsUp, LearnsOn, Parts, PublishesFirst, PublishesOn, needed}
+use Rattle.oak_step.specs.Parts.{KeepsUp, LearnsOn, Parts, PassesOn, PublishesFirst, PublishesOn, needed}
 
 module _ (s k : ℕ) (p q : Parts) (v : Work) where
   publishes_free : (b : BackWrite) (o : StepOut) → PublishesOn s k p b q v o → needed v ≡ 0
@@ -30,6 +32,12 @@ module _ (s k : ℕ) (p q : Parts) (v : Work) where
   learns_free b answers.Memory h = ap needed h.1
   learns_free b _ h = absurd h
 
+  passes_free : (x : Sweeper) (o : StepOut) → PassesOn s k p x q v o → needed v ≡ 0
+  passes_free x (answers.Went kind.Sweep) h = ap needed h.2
+  passes_free x (answers.Ready (ends.Swept r)) h = ap needed h.3
+  passes_free x answers.Memory h = ap needed h.1
+  passes_free x _ h = absurd h
+
   pub keeps_free : (u : Upkeep) (o : StepOut) → KeepsUp s k p u q v o → needed v ≡ 0
   keeps_free upkeep.Write (answers.Went kind.Back) h = ap needed h.3
   keeps_free upkeep.Write answers.Memory h = ap needed h.1
@@ -37,6 +45,8 @@ module _ (s k : ℕ) (p q : Parts) (v : Work) where
   keeps_free (upkeep.Noted n) o h = begins_free n o h
   keeps_free (upkeep.Publish b) o h = publishes_free b o h
   keeps_free (upkeep.Read b) o h = learns_free b o h
+  keeps_free upkeep.Sweep o h = passes_free (begun h.0 k) o h.1
+  keeps_free (upkeep.Sweeping x) o h = passes_free x o h
   keeps_free (upkeep.Checkpoint i) (answers.Ready (ends.Set None)) h = ap needed h.3
   keeps_free (upkeep.Checkpoint i) answers.Memory h = ap needed h.1
   keeps_free (upkeep.Checkpoint i) _ h = absurd h

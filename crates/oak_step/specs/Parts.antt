@@ -6,7 +6,7 @@ use Rattle.jr_path.specs.declared.path.Path.{Path}
 use Rattle.jr_path.specs.declared.path.Item.{Item}
 use Rattle.jr_rev.specs.declared.revision.Revision.{Revision}
 use Rattle.jr_rev.specs.Revisions.{is_before}
-use Rattle.jr_rev.specs.Vectors.{sees}
+use Rattle.jr_rev.specs.Vectors.{no_entries, raised, sees}
 use Rattle.oak_changes.specs.declared.changes.ChangesReader.{ChangesReader}
 use Rattle.oak_changes.specs.declared.changes.Step.TheVariants as observed
 use Rattle.oak_changes.specs.Reading as changes
@@ -20,6 +20,7 @@ use Rattle.oak_commit.specs.declared.outcome.CommitEnd.TheVariants as end
 use Rattle.oak_commit.specs.declared.stage.Stage.{Stage}
 use Rattle.oak_commit.specs.declared.stage.Stage.TheVariants as stage
 use Rattle.oak_doc.specs.declared.document.Document.{Document}
+use Rattle.oak_doc.specs.declared.asks.Ask.{Ask}
 use Rattle.oak_doc.specs.declared.asks.Ask.TheVariants as ask
 use Rattle.oak_doc.specs.declared.asks.Reply.TheVariants as reply
 use Rattle.oak_doc.specs.declared.update.Cond.{Cond}
@@ -41,6 +42,10 @@ use Rattle.oak_read.specs.declared.reader.ReadOut.TheVariants as out
 use Rattle.oak_read.specs.declared.reader.Step.{Step}
 use Rattle.oak_read.specs.declared.reader.Step.TheVariants as step
 use Rattle.oak_read.specs.Reading.{answer, due, fed as fed_reader}
+use Rattle.oak_sweep.specs.Sweeping as sweeping
+use Rattle.oak_sweep.specs.declared.stage.Stage.{Stage as Swept}
+use Rattle.oak_sweep.specs.declared.stage.Stage.TheVariants as swept
+use Rattle.oak_sweep.specs.declared.sweeper.Sweeper.{Sweeper}
 use Rattle.oak_sync.specs.Learning as learning
 use Rattle.oak_sync.specs.Publishing as publishing
 use Rattle.oak_sync.specs.declared.back_read.BackRead.{BackRead}
@@ -50,7 +55,7 @@ use Rattle.oak_sync.specs.declared.stage.Stage.TheVariants as syncing
 use Rattle.oak_store.specs.Tables.{Table, after_undo, found, next_number, with_document}
 use Rattle.core_nodes.specs.Nodes.{cursor_owner, without_session}
 use Rattle.core_world.specs.Steps.{after_update, setting_op}
-pub use Rattle.oak_acts.specs.Acts.{after_ask, answered_by, pinned_base, result_of}
+pub use Rattle.oak_acts.specs.Acts.{after_ask, answered_by, pinned_base, replied, result_of}
 use Rattle.oak_step.specs.declared.upkeep.Upkeep.{Upkeep}
 use Rattle.oak_step.specs.declared.upkeep.Upkeep.TheVariants as upkeep
 use Rattle.oak_step.specs.Upkeeps.{set_checkpoint}
@@ -380,7 +385,40 @@ LearnsOn s k p b q v (answers.Ready (ends.Learnt u)) =
 LearnsOn s k p b q v answers.Memory = Refused p q v
 LearnsOn s k p b q v _ = ⊥
 
--- a step of background work, or on the settings
+-- a sweep, once the documents have answered what it asked
+abbrev pub swept_on : Table → Sweeper → Sweeper
+swept_on t x = sweeping.fed x (answered_by t (sweeping.due x))
+
+-- the event of a step of session s of cluster node k, of a sweep that asks this: with the root's
+-- update the node has swept up to the target
+abbrev pub sweep_event : ℕ → ℕ → Sweeper → Ask → Event
+sweep_event s k x (ask.Update op) = event.Sweep k x.target
+sweep_event s k x _ = event.Went s kind.Sweep
+
+-- a sweep has something to ask of the documents
+abbrev pub IsPassing : Swept → Type 0
+IsPassing swept.Root = Unit {0}
+IsPassing swept.Document = Unit {0}
+IsPassing swept.Publish = Unit {0}
+IsPassing _ = ⊥
+
+-- a sweep reads the root, passes over a document or tells the root, and is fed the answer; at last
+-- the memory learns how far it went, that alone, and the task ends
+abbrev pub PassesOn : ℕ → ℕ → Parts → Sweeper → Parts → Work → StepOut → Type 0
+PassesOn s k p x q v (answers.Went kind.Sweep) =
+    IsPassing (sweeping.stage_of x)
+    × (q ≡ parts (after_ask p.table (sweeping.due x)) p.memory
+    (p.list ++ sweep_event s k x (sweeping.due x) ∷ []))
+    × (v ≡ work.Upkeep (upkeep.Sweeping (swept_on p.table x)))
+PassesOn s k p x q v (answers.Ready (ends.Swept r)) =
+    (sweeping.stage_of x ≡ swept.Learn) × (r ≡ x.target)
+    × (q ≡ parts p.table (learned p.memory no_entries (raised no_entries x.target))
+    (p.list ++ event.Went s kind.Learn ∷ []))
+    × (v ≡ work.Rest)
+PassesOn s k p x q v answers.Memory = Refused p q v
+PassesOn s k p x q v _ = ⊥
+
+-- a step of background work, of a sweep, or on the settings
 abbrev pub KeepsUp : ℕ → ℕ → Parts → Upkeep → Parts → Work → StepOut → Type 0
 KeepsUp s k p upkeep.Write q v (answers.Went kind.Back) =
     (n : Pending) × IsPending p.memory n
@@ -391,6 +429,8 @@ KeepsUp s k p upkeep.Write q v _ = ⊥
 KeepsUp s k p (upkeep.Noted n) q v o = PublishesFirst s k p n q v o
 KeepsUp s k p (upkeep.Publish b) q v o = PublishesOn s k p b q v o
 KeepsUp s k p (upkeep.Read b) q v o = LearnsOn s k p b q v o
+KeepsUp s k p upkeep.Sweep q v o = (a : Global) × PassesOn s k p (sweeping.begun a k) q v o
+KeepsUp s k p (upkeep.Sweeping x) q v o = PassesOn s k p x q v o
 KeepsUp s k p (upkeep.Checkpoint i) q v (answers.Ready (ends.Set None)) =
     (pin : Pin) × (pin_of p.memory s ≡ Some pin)
     × (q ≡ parts (after_update p.table (setting_op (change.Checkpoint i pin))) p.memory
@@ -532,11 +572,12 @@ IsBackReading syncing.Read = Unit {0}
 IsBackReading syncing.Learn = Unit {0}
 IsBackReading _ = ⊥
 
--- background work has something due; a checkpoint is made, a cursor pinned, and a session detached,
+-- background work or a sweep has something due; a checkpoint is made, a cursor pinned, and a session detached,
 -- where the session is pinned
 abbrev pub CanKeepUp : ℕ → NodeState → Upkeep → Type 0
 CanKeepUp s m (upkeep.Publish b) = IsPublishing (publishing.stage_of b)
 CanKeepUp s m (upkeep.Read b) = IsBackReading (learning.stage_of b)
+CanKeepUp s m (upkeep.Sweeping x) = sweeping.stage_of x ≢ swept.Done
 CanKeepUp s m (upkeep.Checkpoint i) = IsSome (pin_of m s)
 CanKeepUp s m upkeep.Detach = IsSome (pin_of m s)
 CanKeepUp s m upkeep.Observe = (s < 64) × IsSome (pin_of m s)

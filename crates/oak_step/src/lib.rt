@@ -7,6 +7,7 @@ mod commit;
 mod load;
 mod settings;
 mod step;
+mod sweep;
 mod upkeep;
 mod work;
 

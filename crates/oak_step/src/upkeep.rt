@@ -8,10 +8,10 @@ ghost use Rattle.oak_read.specs.Reading.{IsTable};
 ghost use Rattle.oak_store.specs.Tables.{Table};
 ghost use Rattle.oak_step.specs.Parts.{CanKeepUp, KeepsUp, parts};
 ghost use Rattle.oak_step.specs.declared.upkeep.Upkeep.TheVariants as upkeep;
-ghost use Rattle.oak_step.specs.Upkeeps.{kind_kept, kind_read};
+ghost use Rattle.oak_step.specs.Upkeeps.{kind_kept, kind_read, kind_swept};
 
 use crate::work::Work;
-use crate::{back, settings};
+use crate::{back, settings, sweep};
 use jr_path::Text;
 use jr_rev::Pin;
 use oak_acts::refresh;
@@ -19,6 +19,7 @@ use oak_machine::{Event, Events, StepKind};
 use oak_node::{NodeMem, Pending};
 use oak_port::{StepOut, TaskEnd};
 use oak_store::DocTable;
+use oak_sweep::Sweeper;
 use oak_sync::{BackRead, BackWrite, Stage};
 use std::alloc::{AllocError, Global};
 
@@ -34,6 +35,11 @@ pub enum Upkeep {
     /// A background read. The stage of the read tells whether it reads the root, or the memory is
     /// to learn what that told.
     Read(BackRead),
+    /// A sweep that has read nothing.
+    Sweep,
+    /// A sweep that knows how far it goes. Its stage tells whether it passes over a document or
+    /// tells the root, or the memory is to learn how far it went.
+    Sweeping(Sweeper),
     Checkpoint(Text),
     Release(Text),
     /// The session is to read at the checkpoint of that name.
@@ -54,6 +60,8 @@ impl Upkeep {
         match self {
             Upkeep::Write | Upkeep::Noted(_) | Upkeep::Publish(_) => StepKind::Back,
             Upkeep::Read(read) => kind_read(read.stage()),
+            Upkeep::Sweep => StepKind::Sweep,
+            Upkeep::Sweeping(sweeper) => kind_swept(sweeper.stage()),
             Upkeep::Checkpoint(_) | Upkeep::Release(_) | Upkeep::Attach(_) | Upkeep::Detaching(_) =>
                 StepKind::Settings,
             Upkeep::Detach | Upkeep::Observe => StepKind::Pin,
@@ -68,6 +76,19 @@ fn kind_read(stage: Stage) -> StepKind
     match stage {
         Stage::Learn => StepKind::Learn,
         Stage::Write | Stage::Publish | Stage::Read | Stage::Done => StepKind::Back,
+    }
+}
+
+// The kind of the next step of a sweep.
+fn kind_swept(stage: oak_sweep::Stage) -> StepKind
+    ensures { result ≡ kind_swept stage }
+{
+    match stage {
+        oak_sweep::Stage::Learn => StepKind::Learn,
+        oak_sweep::Stage::Root
+        | oak_sweep::Stage::Document
+        | oak_sweep::Stage::Publish
+        | oak_sweep::Stage::Done => StepKind::Sweep,
     }
 }
 
@@ -93,6 +114,8 @@ pub(crate) fn keep_up(
         Upkeep::Noted(pending) => back::begin(alloc, table, events, node, s, pending),
         Upkeep::Publish(write) => back::publish(table, events, node, s, write),
         Upkeep::Read(read) => back::read(table, memory, events, node, s, read),
+        Upkeep::Sweep => sweep::begin_sweep(alloc, table, events, node, s),
+        Upkeep::Sweeping(sweeper) => sweep::go_on(table, memory, events, node, s, sweeper),
         Upkeep::Checkpoint(name) => settings::checkpoint(alloc, table, memory, events, s, &name),
         Upkeep::Release(name) => settings::release(alloc, table, events, s, &name),
         Upkeep::Attach(name) => settings::attach(alloc, table, events, s, &name),

@@ -62,14 +62,15 @@ impl Work {
             Task::Commit(edit, marks) => Ok(Work::Plan(edit, marks)),
             Task::BackWrite => Ok(Work::Upkeep(Upkeep::Write)),
             Task::BackRead => Ok(Work::Upkeep(Upkeep::Read(BackRead::new(alloc)))),
+            Task::Sweep => Ok(Work::Upkeep(Upkeep::Sweep)),
             Task::Checkpoint(name) => Ok(Work::Upkeep(Upkeep::Checkpoint(name))),
             Task::Release(name) => Ok(Work::Upkeep(Upkeep::Release(name))),
             Task::Attach(name) => Ok(Work::Upkeep(Upkeep::Attach(name))),
             Task::Detach => Ok(Work::Upkeep(Upkeep::Detach)),
             Task::Observe => Ok(Work::Upkeep(Upkeep::Observe)),
-            // No world splits, sweeps, collects, stops or recovers yet.
+            // No world splits, collects, stops or recovers yet.
             Task::Split(_path) => unreachable!(),
-            Task::Sweep | Task::Collect | Task::Stop(_) | Task::Recover(_) => unreachable!(),
+            Task::Collect | Task::Stop(_) | Task::Recover(_) => unreachable!(),
         }
     }
 

@@ -29,7 +29,7 @@ use Rattle.oak_port.specs.declared.task.StepOut.TheVariants as out
 use Rattle.oak_port.specs.declared.task.Task.{Task}
 use Rattle.oak_port.specs.declared.task.Task.TheVariants as task
 use Rattle.oak_port.specs.declared.task.TaskEnd.TheVariants as end
-use Rattle.oak_port.specs.Ports.{AreOfStep, Awaiting, Deciding, Detaching, Idle, IsAskedOf, IsFinish, Learning, Makes, MayAppend, Publishing, Starting, Undoing, Work as Shows, Writing, WritesOn, last_kind}
+use Rattle.oak_port.specs.Ports.{AreOfStep, Awaiting, Deciding, Detaching, Idle, IsAskedOf, IsFinish, Learning, Makes, MayAppend, Passing, Publishing, Starting, Sweeping, SweepsOn, Undoing, Work as Shows, Writing, WritesOn, last_kind}
 use Rattle.oak_step.specs.declared.work.Work.{Work}
 use Rattle.oak_step.specs.declared.work.Work.TheVariants as work
 use Rattle.oak_step.specs.Works.{Begins}
@@ -84,6 +84,10 @@ writes_less s r k own now (inr (inr (inl m))) = less_by (Writing r) now _ m.2 (�
 writes_less s r k own now (inr (inr (inr (inl m)))) = less_by (Writing r) now _ m.2 (λ e may. may)
 writes_less s r k own now (inr (inr (inr (inr m)))) = less_by (Writing r) now _ m.4 (λ e may. may)
 
+passes : (h : History) (s : ℕ) (r : Revision) (k : StepKind) (own : Past) (now : Shows) → SweepsOn h s r k own now → IsToAppend (Passing r) own × IsLess (Passing r) now
+passes h s r k own now (is, inl m) = (inr (inl (event.Went s kind.Sweep, m.0, tt, refl)), less_by (Passing r) now _ m.1 (λ e may. may))
+passes h s r k own now (is, inr m) = (inr (inl (event.Sweep m.0 r, m.2, tt, refl)), less_by (Passing r) now _ m.3 (λ e may. may))
+
 -- a step adds what it may append, and may append no more then
 adds : (h : History) (s : ℕ) (work : Shows) (o : StepOut) (own : Past) (now : Shows) → Makes h s work o own now → IsToAppend work own × IsLess work now
 adds h s (Starting task.Login) (out.Ready (end.Pinned pin)) own now m = (inr (inl (event.Login s pin.base, m.0, tt, refl)), no_more (Starting task.Login) now m.1)
@@ -96,6 +100,7 @@ adds h s (Starting (task.List p)) (out.Ready (end.Children names)) own now m = (
 adds h s (Starting (task.Commit edit marks)) (out.Went k) own now m = (inr (inl (event.Draw m.0, m.3, refl, refl)), less_by (Starting (task.Commit edit marks)) now _ m.4 (λ e may. may))
 adds h s (Starting task.BackWrite) (out.Went k) own now m = (inr (inl (event.Went s kind.Back, m.3, tt, refl)), less_by (Starting task.BackWrite) now _ m.4 (λ e may. may))
 adds h s (Starting task.BackRead) (out.Went k) own now m = (inr (inl (event.Went s kind.Back, m.3, tt, refl)), less_by (Starting task.BackRead) now _ m.4 (λ e may. may))
+adds h s (Starting task.Sweep) (out.Went k) own now m = (inr (inl (event.Went s kind.Sweep, m.3, tt, refl)), less_by (Starting task.Sweep) now _ m.4 (λ e may. may))
 adds h s (Starting (task.Checkpoint i)) (out.Ready (end.Set None)) own now m = (inr (inl (event.Checkpoint i m.0, m.2, refl, refl)), no_more (Starting (task.Checkpoint i)) now m.3)
 adds h s (Starting (task.Release i)) (out.Ready (end.Set None)) own now m = (inr (inl (event.Release i, m.0, refl, refl)), no_more (Starting (task.Release i)) now m.1)
 adds h s (Starting (task.Release i)) (out.Ready end.NoCheckpoint) own now m = (inr (inl (event.Went s kind.Settings, m.1, tt, refl)), no_more (Starting (task.Release i)) now m.2)
@@ -111,6 +116,10 @@ adds h s (Publishing r) (out.Ready (end.Published o)) own now m = (inr (inl (eve
 adds h s (Publishing r) out.Memory own now m = (inl m.0, no_more (Publishing r) now m.1)
 adds h s (Learning u) (out.Ready (end.Learnt v)) own now m = (inr (inl (event.In m.0 v, m.3, tt, refl)), no_more (Learning u) now m.4)
 adds h s (Learning u) out.Memory own now m = (inl m.0, no_more (Learning u) now m.1)
+adds h s (Passing r) (out.Went k) own now m = passes h s r k own now m
+adds h s (Passing r) out.Memory own now m = (inl m.0, no_more (Passing r) now m.1)
+adds h s (Sweeping r) (out.Ready (end.Swept o)) own now m = (inr (inl (event.Went s kind.Learn, m.1, tt, refl)), no_more (Sweeping r) now m.2)
+adds h s (Sweeping r) out.Memory own now m = (inl m.0, no_more (Sweeping r) now m.1)
 adds h s (Detaching v) (out.Ready (end.Pinned pin)) own now m = (inr (inl (event.Detach s, m.1, tt, refl)), no_more (Detaching v) now m.2)
 adds h s (Detaching v) out.Memory own now m = (inl m.0, no_more (Detaching v) now m.1)
 adds h s (Writing r) (out.Went k) own now m = (writes s r k own now m, writes_less s r k own now m)

@@ -46,6 +46,7 @@ begins_free pin (task.Changes since) v h = ap needed h.3
 begins_free pin (task.Commit edit marks) v h = ap needed h
 begins_free pin task.BackWrite v h = ap needed h
 begins_free pin task.BackRead v h = ap needed h.1
+begins_free pin task.Sweep v h = ap needed h
 begins_free pin (task.Checkpoint i) v h = ap needed h
 begins_free pin (task.Release i) v h = ap needed h
 begins_free pin (task.Attach i) v h = ap needed h

@@ -9,6 +9,8 @@ use Rattle.oak_commit.specs.Clashing.{Met}
 use Rattle.oak_commit.specs.Committing.{Committing}
 use Rattle.oak_commit.specs.declared.look.Look.{Look}
 use Rattle.jr_path.specs.Lists.{Text}
+use Rattle.jr_rev.specs.declared.revision.Revision.{Revision}
+use Rattle.jr_rev.specs.Vectors.{no_entries, raised}
 use Rattle.oak_machine.specs.declared.event.Event.{Event}
 use Rattle.oak_machine.specs.declared.event.Event.TheVariants as event
 use Rattle.oak_machine.specs.declared.event.Journal.{Journal}
@@ -16,11 +18,14 @@ use Rattle.oak_machine.specs.Recorded.{Recorded}
 use Rattle.oak_machine.specs.History.{Past}
 use Rattle.oak_machine.specs.Laws.{Says, Starts, StartsProper, StartsWrite}
 use Rattle.oak_machine.specs.Runs.{StartsLast}
+use Rattle.oak_node.specs.Heads.{learned}
 use Rattle.oak_node.specs.Memory.{NodeState}
 use Rattle.oak_read.specs.Reading.{IsTable}
 use Rattle.oak_store.specs.Tables.{Table}
 use Rattle.core_clash.specs.Core.{root_of}
 use Rattle.core_world.specs.States.{memory_at, with_memory}
+use Rattle.core_world.specs.Steps.{swept_to}
+use Rattle.core_world.proofs.Lives.{its_node}
 use Rattle.oak_port.specs.declared.task.StepOut.{StepOut}
 use Rattle.oak_port.specs.Ports.{Steps as StepSeen}
 use Rattle.oak_world.specs.declared.actor.Actor.{Actor}
@@ -30,12 +35,13 @@ use Rattle.oak_world.specs.Kept.{ArePlaced, IsLooking, IsPlaced, IsWorld, May}
 use Rattle.oak_step.specs.Parts.{CanStep, Parts, Steps, needed, parts}
 use Rattle.oak_world.specs.Steps.{MakesState, StepsIn, attached_after, reads_after}
 use Rattle.oak_world.specs.Seen.{shown_at}
-use Rattle.oak_world.specs.Worlds.{ActorState, WorldOf, actor_in, idle, live, node_in, once_looked, parts_at, said_in, shown_actor, shown_world, state_of, with_parts, with_reply, with_work, work_in}
+use Rattle.oak_world.specs.Worlds.{ActorState, WorldOf, actor_in, idle, live, node_in, once_looked, parts_at, said_in, shown_actor, shown_world, state_of, with_formers, with_parts, with_reply, with_work, work_in}
 use Rattle.oak_world.proofs.Keeping.{can_step, seat, step_keeps, step_seen}
 use Rattle.oak_world.proofs.Looking.{SamePrevious, running_same}
 use Rattle.oak_world.proofs.Placing.{own_places, placed_set}
 use Rattle.oak_world.proofs.States.{LeavesLooks}
 use Rattle.oak_world.proofs.Stepping.{makes}
+use Rattle.oak_world.proofs.Sweepers.{learns_alone}
 
 -- a session's seat is set, and so is what is seen of it
 pub map_set : {X Y : Type 0} (f : X → Y) (xs : List X) (s : ℕ) (a : X) → map f (slice_set xs s a) ≡ slice_set (map f xs) s (f a)
@@ -126,6 +132,9 @@ module _ (starts : Starts) (says : Says) (proper : StartsProper starts) (writes 
       leaves : (x : Table) → SamePrevious w.table x → LeavesLooks w s seated x
       leaves x same q = running_same w.table x same q (work_in w.actors q) (looks q)
 
+      alone : (r : Revision) → learned (memory_at w.memories (node_in w.history s)) no_entries (raised no_entries r) ≡ swept_to (memory_at w.memories (node_in w.history s)) r
+      alone = learns_alone starts says (with_formers (state_of w) is.formers) is.kept (node_in w.history s) (its_node starts says proper (with_formers (state_of w) is.formers) is.kept.sessions s (ap is_some on))
+
       module _ (busy : a.work ≢ work.Rest) (made : Steps s k (parts t m j.events.list) a.work after b.work o) where
         made_there : Steps s (node_in w.history s) (parts_at w s) (work_in w.actors s) after b.work o
         made_there =
@@ -135,7 +144,7 @@ module _ (starts : Starts) (says : Says) (proper : StartsProper starts) (writes 
 
         makes_now : MakesState s (state_of w) (work_in w.actors s) (state_of now) b.work o
         makes_now = subst (λ (x : WorldOf L). MakesState s (state_of w) (work_in w.actors s) (state_of x) b.work o) same_world
-            (makes w s seated after b.work (shown_actor b) refl leaves (work_in w.actors s) refl (λ e. busy (sym work_is ∙ e)) roots o made_there)
+            (makes w s seated after b.work (shown_actor b) refl leaves alone (work_in w.actors s) refl (λ e. busy (sym work_is ∙ e)) roots o made_there)
 
         pub steps_in : b.began ≡ a.began → b.reply ≡ a.reply → b.reads ≡ reads_after a.work o a.reads → b.attached ≡ attached_after a.work o a.attached → StepsIn w s now o
         steps_in began reply reads attached = record {

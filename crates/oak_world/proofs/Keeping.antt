@@ -45,6 +45,10 @@ use Rattle.oak_port.specs.declared.task.Task.TheVariants as task
 use Rattle.oak_port.specs.Ports.{Answers, Beside, Idle, Makes as Tells, MayBegin, Seat, Starting, OthersAlone, Steps as StepSeen, Work as Shows}
 use Rattle.oak_step.specs.declared.work.Work.{Work}
 use Rattle.oak_step.specs.declared.work.Work.TheVariants as work
+use Rattle.oak_sweep.specs.Sweeping as sweeping
+use Rattle.oak_sweep.specs.declared.stage.Stage.{Stage as Swept}
+use Rattle.oak_sweep.specs.declared.stage.Stage.TheVariants as swept
+use Rattle.oak_sweep.specs.declared.sweeper.Sweeper.{Sweeper}
 use Rattle.oak_sync.specs.Learning.{begun as begun_read, stage_of as stage_of_read}
 use Rattle.oak_sync.specs.declared.back_read.BackRead.{BackRead}
 use Rattle.oak_sync.specs.declared.stage.Stage.{Stage as Syncing}
@@ -54,9 +58,9 @@ use Rattle.oak_step.specs.declared.upkeep.Upkeep.{Upkeep}
 use Rattle.oak_step.specs.declared.upkeep.Upkeep.TheVariants as upkeep
 use Rattle.oak_world.proofs.Ahead.{still_due}
 use Rattle.oak_world.proofs.Looking.{SamePrevious, once_revision}
-use Rattle.oak_world.specs.Kept.{IsWorld, May, MayKeepUp, MayReadOn}
+use Rattle.oak_world.specs.Kept.{IsWorld, May, MayKeepUp, MayReadOn, MaySweepOn}
 use Rattle.oak_step.specs.Parts.{CanKeepUp, CanStep, IsBackReading, needed}
-use Rattle.oak_world.specs.Seen.{no_seat, seat_of, shown_at, shown_by, shown_read, shown_upkeep, shown_work}
+use Rattle.oak_world.specs.Seen.{no_seat, seat_of, shown_at, shown_by, shown_read, shown_sweep, shown_upkeep, shown_work}
 use Rattle.oak_step.specs.Works.{Begins, CanBegin, kind_due, kind_of_stage}
 use Rattle.oak_world.specs.Steps.{IsPresent, StepsIn, attached_after}
 use Rattle.oak_world.specs.Worlds.{ActorState, Story, WorldOf, actor_in, live, node_in, observing_of, once_looked, reading_of, running_as, running_of, said_in, state_of, state_with, with_formers, with_reply, with_work, work_in}
@@ -144,11 +148,20 @@ read_shown b syncing.Read h = cc
 read_shown b syncing.Learn h = cc
 read_shown b syncing.Done h = cc
 
+sweep_shown : (x : Sweeper) (at : Swept) → shown_sweep x at ≡ Idle → ⊥
+sweep_shown x swept.Root h = cc
+sweep_shown x swept.Document h = cc
+sweep_shown x swept.Publish h = cc
+sweep_shown x swept.Learn h = cc
+sweep_shown x swept.Done h = cc
+
 upkeep_shown : (u : Upkeep) → shown_upkeep u ≡ Idle → ⊥
 upkeep_shown upkeep.Write h = cc
 upkeep_shown (upkeep.Noted n) h = cc
 upkeep_shown (upkeep.Publish b) h = cc
 upkeep_shown (upkeep.Read b) h = read_shown b (stage_of_read b) h
+upkeep_shown upkeep.Sweep h = cc
+upkeep_shown (upkeep.Sweeping x) h = sweep_shown x (sweeping.stage_of x) h
 upkeep_shown (upkeep.Checkpoint i) h = cc
 upkeep_shown (upkeep.Release i) h = cc
 upkeep_shown (upkeep.Attach i) h = cc
@@ -209,6 +222,7 @@ begins_shown pin (task.Changes since) v h = ap shown_work h.3
 begins_shown pin (task.Commit edit marks) v h = ap shown_work h
 begins_shown pin task.BackWrite v h = ap shown_work h
 begins_shown pin task.BackRead v h = ap shown_work h.1
+begins_shown pin task.Sweep v h = ap shown_work h
 begins_shown pin (task.Checkpoint i) v h = ap shown_work h
 begins_shown pin (task.Release i) v h = ap shown_work h
 begins_shown pin (task.Attach i) v h = ap shown_work h
@@ -261,9 +275,15 @@ module _ (starts : Starts) (says : Says) (proper : StartsProper starts) (writes 
   can_read b syncing.Learn may = tt
   can_read b _ may = absurd may
 
+  -- a sweep that may go on has something due
+  can_sweep : (x : Sweeper) (at : Swept) → MaySweepOn (live w.history) s x at → at ≢ swept.Done
+  can_sweep x swept.Done may over = may
+  can_sweep x _ may over = cc
+
   can_keep_up : (u : Upkeep) → IsPresent (live w.history) s → MayKeepUp (live w.history) s u → CanKeepUp s (memory_of (state_of w) s) u
   can_keep_up (upkeep.Publish b) come may = publishing_at b (still_due b may.1)
   can_keep_up (upkeep.Read b) come may = can_read b (stage_of_read b) may
+  can_keep_up (upkeep.Sweeping x) come may = can_sweep x (sweeping.stage_of x) may
   can_keep_up (upkeep.Checkpoint i) come may = come_pinned come
   can_keep_up upkeep.Detach come may = come_pinned come
   can_keep_up upkeep.Observe come may = (below_few, come_pinned come)
@@ -292,7 +312,6 @@ module _ (starts : Starts) (says : Says) (proper : StartsProper starts) (writes 
   can_begin (task.Load p) may = actor_there starts says proper state is.kept s there is.unstopped may.0 may.1
   can_begin (task.List p) may = actor_there starts says proper state is.kept s there is.unstopped may.0 may.1
   can_begin (task.Split p) may = may
-  can_begin task.Sweep may = may
   can_begin task.Collect may = may
   can_begin (task.Changes since) may = actor_there starts says proper state is.kept s there is.unstopped may.0 may.1
   can_begin (task.Stop k) may = may
@@ -435,6 +454,7 @@ module _ (starts : Starts) (says : Says) (proper : StartsProper starts) (writes 
     start_keeps (task.Commit edit marks) v may h = subst (λ (x : Work). IsWorld starts says (with_work w s x)) (sym h) (quiet_keeps (work.Plan edit marks) refl (refl, refl) (record { login = may.0; stays = may.1 }, may.2, may.3))
     start_keeps task.BackWrite v may h = upkeep_keeps upkeep.Write v h (record { login = may.0; stays = may.1 }) tt
     start_keeps task.BackRead v may h = upkeep_keeps (upkeep.Read (begun_read h.0)) v h.1 (record { login = may.0; stays = may.1 }) tt
+    start_keeps task.Sweep v may h = upkeep_keeps upkeep.Sweep v h (record { login = may.0; stays = may.1 }) tt
     start_keeps (task.Checkpoint i) v may h = upkeep_keeps (upkeep.Checkpoint i) v h (record { login = may.0; stays = may.1 }) may.2
     start_keeps (task.Release i) v may h = upkeep_keeps (upkeep.Release i) v h (record { login = may.0; stays = may.1 }) tt
     start_keeps (task.Attach i) v may h = upkeep_keeps (upkeep.Attach i) v h (record { login = may.0; stays = may.1 }) may.2

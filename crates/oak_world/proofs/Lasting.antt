@@ -12,15 +12,20 @@ use Rattle.oak_machine.specs.Sessions.{is_attached}
 use Rattle.core_heads.proofs.Runs.{later_run}
 use Rattle.core_read.proofs.Latest.{at_most_trans}
 use Rattle.core_world.specs.Kept.{WereOnRoot}
+use Rattle.oak_sweep.specs.Sweeping as sweeping
+use Rattle.oak_sweep.specs.declared.stage.Stage.{Stage as Swept}
+use Rattle.oak_sweep.specs.declared.stage.Stage.TheVariants as swept
+use Rattle.oak_sweep.specs.declared.sweeper.Sweeper.{Sweeper}
 use Rattle.oak_sync.specs.Learning.{stage_of}
 use Rattle.oak_sync.specs.declared.back_read.BackRead.{BackRead}
 use Rattle.oak_sync.specs.declared.stage.Stage.{Stage as Syncing}
 use Rattle.oak_sync.specs.declared.stage.Stage.TheVariants as syncing
 use Rattle.oak_step.specs.declared.upkeep.Upkeep.{Upkeep}
 use Rattle.oak_step.specs.declared.upkeep.Upkeep.TheVariants as upkeep
-use Rattle.oak_world.specs.Kept.{IsOwn, MayKeepUp, MayReadOn}
+use Rattle.oak_world.specs.Kept.{IsOwn, IsOwnPublished, MayKeepUp, MayReadOn, MaySweepOn}
 use Rattle.oak_world.specs.Worlds.{Story, live}
 use Rattle.oak_world.proofs.Others.{attached_left, reader_left}
+use Rattle.oak_world.proofs.Sweepers.{published_lasts}
 
 -- local revisions rise
 pub local_lasts : (starts : Starts) (says : Says) (clusters : ℕ) (sessions : List ℕ) (begin : Begin) → AreNodes clusters sessions → (own before : Past) → IsRunOf starts says clusters sessions begin (own ++ before) → (r : Revision) (k : ℕ) → is_at_most r (local begin before k) ≡ true → is_at_most r (local begin (own ++ before) k) ≡ true
@@ -38,6 +43,16 @@ module _ (starts : Starts) (says : Says) (h : Story) (nodes : AreNodes h.cluster
   pub own_lasts : (r : Revision) → IsOwn (live h) q r → IsOwn (after own (live h)) q r
   own_lasts r m = (m.0, local_lasts starts says h.clusters h.sessions None nodes own h.past run r r.cluster m.1)
 
+  published_own_lasts : (r : Revision) → IsOwnPublished (live h) q r → IsOwnPublished (after own (live h)) q r
+  published_own_lasts r m = (m.0, published_lasts None own h.past r.cluster r m.1)
+
+  sweep_lasts : (x : Sweeper) (at : Swept) → MaySweepOn (live h) q x at → MaySweepOn (after own (live h)) q x at
+  sweep_lasts x swept.Root m = m
+  sweep_lasts x swept.Document m = published_own_lasts x.target m
+  sweep_lasts x swept.Publish m = published_own_lasts x.target m
+  sweep_lasts x swept.Learn m = published_own_lasts x.target m
+  sweep_lasts x swept.Done m = absurd m
+
   module _ (others : AreOthers q own h.past) where
     -- a session is attached as before, or not
     pub still : (b : Bool) → is_attached h.past q ≡ b → is_attached (own ++ h.past) q ≡ b
@@ -53,6 +68,8 @@ module _ (starts : Starts) (says : Says) (h : Story) (nodes : AreNodes h.cluster
     upkeep_lasts (upkeep.Noted n) m = own_lasts n.upto m
     upkeep_lasts (upkeep.Publish b) m = (own_lasts b.upto m.0, m.1)
     upkeep_lasts (upkeep.Read b) m = learn_lasts b (stage_of b) m
+    upkeep_lasts upkeep.Sweep m = tt
+    upkeep_lasts (upkeep.Sweeping x) m = sweep_lasts x (sweeping.stage_of x) m
     upkeep_lasts (upkeep.Checkpoint i) m = still false m
     upkeep_lasts (upkeep.Release i) m = tt
     upkeep_lasts (upkeep.Attach i) m = still false m

@@ -34,11 +34,15 @@ use Rattle.oak_port.specs.declared.task.TaskEnd.TheVariants as ends
 use Rattle.oak_read.specs.Reading.{IsTable}
 use Rattle.oak_store.specs.Tables.{Table, next_number}
 use Rattle.core_clash.specs.Core.{root_of}
-use Rattle.core_world.specs.States.{State, base_in, listed_at, memory_of, nodes_in}
+use Rattle.core_world.specs.States.{State, base_in, listed_at, memory_of, node_of, nodes_in}
 use Rattle.core_world.specs.Steps.{after_mark, after_update, after_write, marked_by, with_result}
 use Rattle.oak_step.proofs.Stages.{finish_stage}
-use Rattle.oak_step.specs.Parts.{EndsSo, changes_on, committed, fed_previous, mark_made, read_on}
+use Rattle.oak_step.specs.Parts.{EndsSo, changes_on, committed, fed_previous, mark_made, read_on, swept_on}
 use Rattle.oak_node.specs.declared.pending.Pending.{Pending}
+use Rattle.oak_sweep.specs.Sweeping as sweeping
+use Rattle.oak_sweep.specs.declared.stage.Stage.{Stage as Swept}
+use Rattle.oak_sweep.specs.declared.stage.Stage.TheVariants as swept
+use Rattle.oak_sweep.specs.declared.sweeper.Sweeper.{Sweeper}
 use Rattle.oak_sync.specs.Learning as learning
 use Rattle.oak_sync.specs.declared.back_read.BackRead.{BackRead}
 use Rattle.oak_sync.specs.declared.back_write.BackWrite.{BackWrite}
@@ -55,9 +59,10 @@ use Rattle.oak_world.proofs.Reading.{read_lowers}
 use Rattle.oak_world.proofs.States.{actor_set}
 use Rattle.oak_world.specs.Kept.{EndsInRoot, IsLooking, IsWorld, May, MayKeepUp}
 use Rattle.oak_world.proofs.Looking.{left_found, left_written, once_alone, once_found, once_written, once_wrote, outcome_found, outcome_written, update_previous, written_found, written_written}
-use Rattle.oak_world.specs.Left.{changes_left, commit_left, learn_left, left_in, looked_in, looks_left, steps_left, marks_left, names_in, reads_left, updates_left, upkeep_left, writes_left}
-use Rattle.oak_world.specs.Steps.{BeginsBackWrite, MakesState, MakesBackRead, MakesBackWrite, MakesCommit, MakesUpdate, MakesUpkeep, MayUpdate, StepsIn}
+use Rattle.oak_world.specs.Left.{changes_left, commit_left, learn_left, left_in, looked_in, looks_left, marks_left, names_in, reads_left, steps_left, sweep_left, updates_left, upkeep_left, writes_left}
+use Rattle.oak_world.specs.Steps.{BeginsBackWrite, MakesBackRead, MakesBackWrite, MakesCommit, MakesState, MakesSweep, MakesUpdate, MakesUpkeep, MayUpdate, PassesTo, StepsIn}
 use Rattle.oak_world.specs.Worlds.{ActorState, WorldOf, idle, live, look_through, once_looked, running_as, state_of, work_in}
+use Rattle.oak_world.proofs.Sweepers.{IsLookingFor, learn_left_one, look_lowers, publish_left, some_sweep_left, sweep_told}
 
 -- ---- basics
 
@@ -420,6 +425,8 @@ rooted starts t h s (work.Upkeep u) may = by u may.1
     by upkeep.Write m = tt
     by (upkeep.Noted n) m = tt
     by (upkeep.Read b) m = tt
+    by upkeep.Sweep m = tt
+    by (upkeep.Sweeping x) m = tt
     by (upkeep.Checkpoint i) m = tt
     by (upkeep.Release i) m = tt
     by (upkeep.Attach i) m = tt
@@ -480,36 +487,68 @@ module _ (s : ℕ) (w u : State) (m n : NodeState) (x : Work) where
   learn_less b answers.Memory h = some_less (learning.stage_of b) h.1
   learn_less b _ h = absurd h
 
-  upkeep_less : (k : Upkeep) → IsGoing k → (o : StepOut) → MakesUpkeep s w k u x o → now < upkeep_left (memory_of w s) k
-  upkeep_less upkeep.Write going (answers.Went kind.Back) h =
+  sweep_less : IsTable w.table.documents → (y : Sweeper) (o : StepOut) → MakesSweep s w y u x o → now < sweep_left w.table y
+  sweep_less table y (answers.Went kind.Sweep) h = by (sweeping.stage_of y) refl h.0
+    where
+      next : now ≡ sweep_left u.table (swept_on w.table y)
+      next = ap (steps_left s u.table n) h.1
+
+      -- a document is looked for
+      looked : IsLookingFor (sweeping.stage_of y) → u.table ≡ w.table → now < sweep_left w.table y
+      looked looks same =
+          let z : now ≡ sweep_left w.table (swept_on w.table y) = next ∙ ap (λ (t : Table). sweep_left t (swept_on w.table y)) same in
+          let lower = look_lowers w.table table y looks in
+          omega (arith, z, lower)
+
+      -- the root is told
+      told : sweeping.stage_of y ≡ swept.Publish → now < sweep_left w.table y
+      told at =
+          let z : now ≡ 1 = next ∙ learn_left_one u.table (swept_on w.table y) (sweep_told w.table y at).0 in
+          let was = publish_left w.table y at in
+          omega (arith, z, was)
+
+      by : (z : Swept) → sweeping.stage_of y ≡ z → PassesTo s w y z u → now < sweep_left w.table y
+      by swept.Root at to = looked (subst IsLookingFor (sym at) tt) (ap (λ (v : State). v.table) to)
+      by swept.Document at to = looked (subst IsLookingFor (sym at) tt) (ap (λ (v : State). v.table) to)
+      by swept.Publish at to = told at
+      by swept.Learn at to = absurd to
+      by swept.Done at to = absurd to
+  sweep_less table y (answers.Ready (ends.Swept r)) h = let z : now ≡ 0 = ap (steps_left s u.table n) h.3 in let some = some_sweep_left w.table y in omega (arith, z, some)
+  sweep_less table y answers.Memory h = let z : now ≡ 0 = ap (steps_left s u.table n) h.1 in let some = some_sweep_left w.table y in omega (arith, z, some)
+  sweep_less table y _ h = absurd h
+
+  upkeep_less : IsTable w.table.documents → (k : Upkeep) → IsGoing k → (o : StepOut) → MakesUpkeep s w k u x o → now < upkeep_left w.table (memory_of w s) k
+  upkeep_less table upkeep.Write going (answers.Went kind.Back) h =
       let z : now ≡ suc (names_in (h.0).paths) = ap (steps_left s u.table n) h.3 in
       let few = noted_few (memory_of w s) h.0 h.1 in
       omega (arith, z, few)
-  upkeep_less upkeep.Write going answers.Memory h = rest_less _ h.1
-  upkeep_less upkeep.Write going _ h = absurd h
-  upkeep_less (upkeep.Noted p) going o h = begin_less p o h
-  upkeep_less (upkeep.Publish b) going o h = publish_less b going o h
-  upkeep_less (upkeep.Read b) going o h = learn_less b o h
-  upkeep_less (upkeep.Checkpoint i) going (answers.Ready (ends.Set None)) h = rest_less 0 h.3
-  upkeep_less (upkeep.Checkpoint i) going answers.Memory h = rest_less 0 h.1
-  upkeep_less (upkeep.Checkpoint i) going _ h = absurd h
-  upkeep_less (upkeep.Release i) going (answers.Ready (ends.Set None)) h = rest_less 0 h.2
-  upkeep_less (upkeep.Release i) going (answers.Ready ends.NoCheckpoint) h = rest_less 0 h.2
-  upkeep_less (upkeep.Release i) going answers.Memory h = rest_less 0 h.1
-  upkeep_less (upkeep.Release i) going _ h = absurd h
-  upkeep_less (upkeep.Attach i) going (answers.Ready (ends.Set (Some pin))) h = rest_less 0 h.2
-  upkeep_less (upkeep.Attach i) going (answers.Ready ends.NoCheckpoint) h = rest_less 0 h.2
-  upkeep_less (upkeep.Attach i) going answers.Memory h = rest_less 0 h.1
-  upkeep_less (upkeep.Attach i) going _ h = absurd h
-  upkeep_less upkeep.Detach going (answers.Went kind.Pin) h = let z : now ≡ 1 = ap (steps_left s u.table n) h.1 in omega (arith, z)
-  upkeep_less upkeep.Detach going answers.Memory h = rest_less 1 h.1
-  upkeep_less upkeep.Detach going _ h = absurd h
-  upkeep_less (upkeep.Detaching pin) going (answers.Ready (ends.Pinned o)) h = rest_less 0 h.2
-  upkeep_less (upkeep.Detaching pin) going answers.Memory h = rest_less 0 h.1
-  upkeep_less (upkeep.Detaching pin) going _ h = absurd h
-  upkeep_less upkeep.Observe going (answers.Ready (ends.Pinned pin)) h = rest_less 0 h.2
-  upkeep_less upkeep.Observe going answers.Memory h = rest_less 0 h.1
-  upkeep_less upkeep.Observe going _ h = absurd h
+  upkeep_less table upkeep.Write going answers.Memory h = rest_less _ h.1
+  upkeep_less table upkeep.Write going _ h = absurd h
+  upkeep_less table (upkeep.Noted p) going o h = begin_less p o h
+  upkeep_less table (upkeep.Publish b) going o h = publish_less b going o h
+  upkeep_less table (upkeep.Read b) going o h = learn_less b o h
+  upkeep_less table upkeep.Sweep going o h = sweep_less table (sweeping.begun h.0 (node_of w s)) o h.1
+  upkeep_less table (upkeep.Sweeping y) going o h = sweep_less table y o h
+  upkeep_less table (upkeep.Checkpoint i) going (answers.Ready (ends.Set None)) h = rest_less 0 h.3
+  upkeep_less table (upkeep.Checkpoint i) going answers.Memory h = rest_less 0 h.1
+  upkeep_less table (upkeep.Checkpoint i) going _ h = absurd h
+  upkeep_less table (upkeep.Release i) going (answers.Ready (ends.Set None)) h = rest_less 0 h.2
+  upkeep_less table (upkeep.Release i) going (answers.Ready ends.NoCheckpoint) h = rest_less 0 h.2
+  upkeep_less table (upkeep.Release i) going answers.Memory h = rest_less 0 h.1
+  upkeep_less table (upkeep.Release i) going _ h = absurd h
+  upkeep_less table (upkeep.Attach i) going (answers.Ready (ends.Set (Some pin))) h = rest_less 0 h.2
+  upkeep_less table (upkeep.Attach i) going (answers.Ready ends.NoCheckpoint) h = rest_less 0 h.2
+  upkeep_less table (upkeep.Attach i) going answers.Memory h = rest_less 0 h.1
+  upkeep_less table (upkeep.Attach i) going _ h = absurd h
+  upkeep_less table upkeep.Detach going (answers.Went kind.Pin) h = let z : now ≡ 1 = ap (steps_left s u.table n) h.1 in omega (arith, z)
+  upkeep_less table upkeep.Detach going answers.Memory h = rest_less 1 h.1
+  upkeep_less table upkeep.Detach going _ h = absurd h
+  upkeep_less table (upkeep.Detaching pin) going (answers.Ready (ends.Pinned o)) h = rest_less 0 h.2
+  upkeep_less table (upkeep.Detaching pin) going answers.Memory h = rest_less 0 h.1
+  upkeep_less table (upkeep.Detaching pin) going _ h = absurd h
+  upkeep_less table upkeep.Observe going (answers.Ready (ends.Pinned pin)) h = rest_less 0 h.2
+  upkeep_less table upkeep.Observe going answers.Memory h = rest_less 0 h.1
+  upkeep_less table upkeep.Observe going _ h = absurd h
 
   -- ---- all
 
@@ -549,7 +588,7 @@ module _ (s : ℕ) (w u : State) (m n : NodeState) (x : Work) where
   less table (work.Move r) (answers.Wait o) roots h = inl tt
   less table (work.Move r) (answers.Ready (ends.Commit (end.Committed o))) roots h = inr (rest_less 0 h.1)
   less table (work.Move r) _ roots h = absurd h
-  less table (work.Upkeep k) o going h = inr (upkeep_less k going o h)
+  less table (work.Upkeep k) o going h = inr (upkeep_less table k going o h)
   less table work.Rest o roots h = absurd h
 
 -- a step lowers the number, or it waits
@@ -575,7 +614,7 @@ over starts past s t m (work.Commit c) may h = absurd (by c.outcome h)
 over starts past s t m (work.Move r) may h = absurd (omega (arith, h))
 over starts past s t m (work.Upkeep u) may h = absurd (by u (rooted starts t past s (work.Upkeep u) may) h)
   where
-    by : (u : Upkeep) → IsGoing u → upkeep_left m u ≡ 0 → ⊥
+    by : (u : Upkeep) → IsGoing u → upkeep_left t m u ≡ 0 → ⊥
     by upkeep.Write g h = omega (arith, h)
     by (upkeep.Noted n) g h = omega (arith, h)
     by (upkeep.Publish b) g h = let less = is_within b g in omega (arith, h, less)
@@ -587,6 +626,8 @@ over starts past s t m (work.Upkeep u) may h = absurd (by u (rooted starts t pas
         at syncing.Read h = omega (arith, h)
         at syncing.Learn h = omega (arith, h)
         at syncing.Done h = omega (arith, h)
+    by upkeep.Sweep g h = omega (arith, h)
+    by (upkeep.Sweeping x) g h = let some = some_sweep_left t x in omega (arith, h, some)
     by (upkeep.Checkpoint i) g h = omega (arith, h)
     by (upkeep.Release i) g h = omega (arith, h)
     by (upkeep.Attach i) g h = omega (arith, h)

@@ -46,6 +46,16 @@ as_many : (es : Entries) → length (keys_of es) ≡ length es
 as_many [] = refl
 as_many (e ∷ es) = ap suc (as_many es)
 
+-- behind the first of all there are fewer than all
+pub behind_first : (e : DocId × Document) (more : Entries) (q : Path) → e.0 ≡ id.Node q → length (filter (λ x. is_lt (id_cmp (id.Node q) x)) (keys_of (e ∷ more))) < length (e ∷ more)
+behind_first e more q same =
+    let none : is_lt (id_cmp (id.Node q) e.0) ≡ false = ap (λ (x : DocId). is_lt (id_cmp (id.Node q) x)) same ∙ not_below_itself (id.Node q) in
+    let rest = filter (λ x. is_lt (id_cmp (id.Node q) x)) (keys_of more) in
+    let passed : length (filter (λ x. is_lt (id_cmp (id.Node q) x)) (keys_of (e ∷ more))) ≡ length rest = ap (λ b. length (cond b (e.0 ∷ rest) rest)) none in
+    let most : length rest ≤ length (keys_of more) = few_pass (λ x. is_lt (id_cmp (id.Node q) x)) (keys_of more) in
+    let count : length (keys_of more) ≡ length more = as_many more in
+    omega (arith, passed, most, count)
+
 module _ (t : Table) where
   -- ---- what an answer leads to
 
@@ -112,16 +122,6 @@ module _ (t : Table) where
     first_further : IsTable t.documents → IsFurther (length t.documents) (next step.First)
     first_further table = by t.documents refl
       where
-        -- behind the first of all there are fewer than all
-        fewer : (e : DocId × Document) (more : Entries) (q : Path) → e.0 ≡ id.Node q → length (filter (λ x. is_lt (id_cmp (id.Node q) x)) (keys_of (e ∷ more))) < length (e ∷ more)
-        fewer e more q same =
-            let none : is_lt (id_cmp (id.Node q) e.0) ≡ false = ap (λ (x : DocId). is_lt (id_cmp (id.Node q) x)) same ∙ not_below_itself (id.Node q) in
-            let rest = filter (λ x. is_lt (id_cmp (id.Node q) x)) (keys_of more) in
-            let passed : length (filter (λ x. is_lt (id_cmp (id.Node q) x)) (keys_of (e ∷ more))) ≡ length rest = ap (λ b. length (cond b (e.0 ∷ rest) rest)) none in
-            let most : length rest ≤ length (keys_of more) = few_pass (λ x. is_lt (id_cmp (id.Node q) x)) (keys_of more) in
-            let count : length (keys_of more) ≡ length more = as_many more in
-            omega (arith, passed, most, count)
-
         by : (es : Entries) → t.documents ≡ es → IsFurther (length t.documents) (fed_next (reader step.First) (option_map (λ e. e.1) (slice_get es 0)))
         by [] none = inl refl
         by (e ∷ more) is = subst (λ (x : DocId). IsFurther (length t.documents) (with_document (reader step.First) x e.1)) (sym id_is) (kind e.0 refl)
@@ -132,7 +132,7 @@ module _ (t : Table) where
             kind : (x : DocId) → e.0 ≡ x → IsFurther (length t.documents) (with_document (reader step.First) x e.1)
             kind (id.Node q) same =
                 at_node (length t.documents) step.First q e.1
-                (subst (λ (es : Entries). length (filter (λ x. is_lt (id_cmp (id.Node q) x)) (keys_of es)) < length es) (sym is) (fewer e more q same))
+                (subst (λ (es : Entries). length (filter (λ x. is_lt (id_cmp (id.Node q) x)) (keys_of es)) < length es) (sym is) (behind_first e more q same))
             kind (id.Prev n q) same = inl refl
             kind id.Settings same = inl refl
 

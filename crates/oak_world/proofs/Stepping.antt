@@ -1,6 +1,6 @@
 -- A step of a session on its parts is, by what it does, one of the steps of the state.
 use Rattle.jr_path.specs.declared.path.Path.{Path}
-use Rattle.std.proofs.Common.{◌≡◌, inl, inr, ℕ, ◌<◌, Bool, true, Option, Some, None, List, [], ◌∷◌, ◌++◌, length, map, refl, sym, ap, subst, ◌∙◌}
+use Rattle.std.proofs.Common.{Bool, List, None, Option, Some, [], ap, inl, inr, length, map, refl, subst, sym, true, ℕ, ◌++◌, ◌<◌, ◌∙◌, ◌∷◌, ◌≡◌}
 use mathlib.Core.Bool.{false≢true}
 use Rattle.std.proofs.lemmas.List.{reverse-reverse}
 use Rattle.std.specs.Prelude.{reverse}
@@ -18,6 +18,7 @@ use Rattle.oak_machine.specs.declared.event.Event.{Event}
 use Rattle.oak_machine.specs.declared.event.Event.TheVariants as event
 use Rattle.oak_machine.specs.declared.event.StepKind.{StepKind}
 use Rattle.oak_machine.specs.declared.event.StepKind.TheVariants as kind
+use Rattle.oak_doc.specs.declared.asks.Ask.{Ask}
 use Rattle.oak_doc.specs.declared.update.Change.TheVariants as change
 use Rattle.oak_node.specs.Heads.{learned, next_draw, with_draw}
 use Rattle.oak_node.specs.Memory.{NodeState}
@@ -28,13 +29,18 @@ use Rattle.oak_read.specs.declared.reader.Reader.{Reader}
 use Rattle.oak_store.specs.Tables.{Table}
 use Rattle.core_clash.specs.Core.{root_of}
 use Rattle.core_world.specs.States.{State, memory_at, with_memory, with_session}
-use Rattle.core_world.specs.Steps.{after_finish, after_update, after_want, setting_op, with_observer, with_reader}
+use Rattle.core_world.specs.Steps.{after_finish, after_sweep, after_update, after_want, after_went, setting_op, swept_to, with_observer, with_reader}
 use Rattle.oak_port.specs.declared.task.StepOut.{StepOut}
 use Rattle.oak_port.specs.declared.task.StepOut.TheVariants as answers
 use Rattle.oak_port.specs.declared.task.TaskEnd.TheVariants as ends
 use Rattle.oak_step.specs.declared.work.Work.{Work}
 use Rattle.oak_step.specs.declared.work.Work.TheVariants as work
 use Rattle.oak_node.specs.declared.pending.Pending.{Pending}
+use Rattle.jr_rev.specs.Vectors.{no_entries, raised}
+use Rattle.oak_sweep.specs.Sweeping as sweeping
+use Rattle.oak_sweep.specs.declared.stage.Stage.{Stage as Swept}
+use Rattle.oak_sweep.specs.declared.stage.Stage.TheVariants as swept
+use Rattle.oak_sweep.specs.declared.sweeper.Sweeper.{Sweeper}
 use Rattle.oak_sync.specs.Learning as learning
 use Rattle.oak_sync.specs.Publishing as publishing
 use Rattle.oak_sync.specs.declared.back_read.BackRead.{BackRead}
@@ -43,20 +49,21 @@ use Rattle.oak_sync.proofs.Standing.{IsPathDue, below_due, root_due}
 use Rattle.oak_step.specs.declared.upkeep.Upkeep.{Upkeep}
 use Rattle.oak_step.specs.declared.upkeep.Upkeep.TheVariants as upkeep
 use Rattle.oak_step.proofs.Backs.{goes_on, read_table, reads_on, told_table}
-use Rattle.oak_step.specs.Parts.{CommitsOn, EndsSo, IsGivenUp, KeepsUp, LearnsOn, Parts, PublishesFirst, PublishesOn, Steps, UpdatesOn, UpdatesDocument, after_ask, pinned_base, changes_on, learned_on, parts, parts_ended, published_on, read_on}
-use Rattle.oak_world.specs.Steps.{BeginsBackWrite, MakesState, MakesBackRead, MakesBackWrite, MakesCommit, MakesUpdate, MakesUpkeep}
+use Rattle.oak_step.specs.Parts.{CommitsOn, EndsSo, IsGivenUp, IsPassing, KeepsUp, LearnsOn, Parts, PassesOn, PublishesFirst, PublishesOn, Steps, UpdatesDocument, UpdatesOn, after_ask, changes_on, learned_on, parts, parts_ended, pinned_base, published_on, read_on, sweep_event, swept_on}
+use Rattle.oak_world.specs.Steps.{BeginsBackWrite, MakesBackRead, MakesBackWrite, MakesCommit, MakesState, MakesSweep, MakesUpdate, MakesUpkeep, PassesTo}
 use Rattle.oak_world.specs.Worlds.{ActorState, WorldOf, node_in, observing_of, once_looked, parts_at, reading_of, running_as, running_of, state_of, with_parts, work_in}
 use Rattle.oak_world.specs.Kept.{IsLooking}
 use Rattle.oak_world.proofs.Looking.{SamePrevious, both_previous, once_alone, same_previous, update_previous}
 use Rattle.oak_world.proofs.Making.{begins_is, ended_is, makes_last, makes_look, makes_mark, makes_undo, makes_write, observes_is, reads_is, runs_is, same_is, sets_is, told_is}
 use Rattle.oak_world.proofs.States.{LeavesLooks, SameReaders, same_readers}
 use Rattle.oak_step.proofs.Stages.{IsLookStage, IsMarkStage, last_stage, look_stage, mark_stage, undo_stage, write_stage}
+use Rattle.oak_world.proofs.Sweepers.{IsLookingFor, looks_stay, root_told}
 
 -- parts with the same documents, memory and events
 same_parts : (p q : Parts) → p.table ≡ q.table → p.memory ≡ q.memory → p.list ≡ q.list → p ≡ q
 same_parts p q t m es = ap (λ (x : Table). parts x p.memory p.list) t ∙ (ap (λ (x : NodeState). parts q.table x p.list) m ∙ ap (λ (x : List Event). parts q.table q.memory x) es)
 
-module _ {L : Type 0} (w : WorldOf L) (s : ℕ) (there : s < length w.actors) (q : Parts) (v : Work) (a : ActorState) (does : a.work ≡ v) (leaves : (t : Table) → SamePrevious w.table t → LeavesLooks w s there t) where
+module _ {L : Type 0} (w : WorldOf L) (s : ℕ) (there : s < length w.actors) (q : Parts) (v : Work) (a : ActorState) (does : a.work ≡ v) (leaves : (t : Table) → SamePrevious w.table t → LeavesLooks w s there t) (alone : (r : Revision) → learned (memory_at w.memories (node_in w.history s)) no_entries (raised no_entries r) ≡ swept_to (memory_at w.memories (node_in w.history s)) r) where
   abbrev node : ℕ
   node = node_in w.history s
 
@@ -251,6 +258,39 @@ module _ {L : Type 0} (w : WorldOf L) (s : ℕ) (there : s < length w.actors) (q
     learns b answers.Memory h = (nothing h.0 h.1, h.1)
     learns b _ h = absurd h
 
+    passes : (x : Sweeper) (o : StepOut) → PassesOn s node (parts_at w s) x q v o → MakesSweep s (state_of w) x now v o
+    passes x (answers.Went kind.Sweep) h = (by (sweeping.stage_of x) refl h.0, h.2)
+      where
+        made : (e : Event) (t : Table) → SamePrevious w.table t → q ≡ parts t memory (reverse w.history.past ++ e ∷ []) → now ≡ record (state_of w) { past = e ∷ w.history.past; table = t }
+        made e t same is = sets (work.Upkeep k) (work.Upkeep (upkeep.Sweeping (swept_on w.table x))) here h.2 (λ u. refl) (refl, refl) e t same is
+
+        -- a document is looked for
+        looked : IsLookingFor (sweeping.stage_of x) → now ≡ after_went (state_of w) s kind.Sweep
+        looked looks =
+            let stay = looks_stay w.table s node x looks in
+            made (event.Went s kind.Sweep) w.table (λ k p. refl)
+            (h.1 ∙ (ap (λ (t : Table). parts t memory (reverse w.history.past ++ sweep_event s node x (sweeping.due x) ∷ [])) stay.0 ∙ ap (λ (e : Event). parts w.table memory (reverse w.history.past ++ e ∷ [])) stay.1))
+
+        -- the root is told
+        told : sweeping.stage_of x ≡ swept.Publish → now ≡ after_sweep (state_of w) s x.target
+        told at = made (event.Sweep node x.target) (after_update w.table (sweeping.sweep_op x.target)) (update_previous w.table (sweeping.sweep_op x.target) refl) (h.1 ∙ ap (λ (a : Ask). parts (after_ask w.table a) memory (reverse w.history.past ++ sweep_event s node x a ∷ [])) (root_told x at))
+
+        by : (y : Swept) → sweeping.stage_of x ≡ y → IsPassing y → PassesTo s (state_of w) x y now
+        by swept.Root at m = looked (subst IsLookingFor (sym at) tt)
+        by swept.Document at m = looked (subst IsLookingFor (sym at) tt)
+        by swept.Publish at m = told at
+        by swept.Learn at m = absurd m
+        by swept.Done at m = absurd m
+    passes x (answers.Ready (ends.Swept r)) h = (
+      h.0,
+      h.1,
+      tells (work.Upkeep k) work.Rest here h.3 (λ t. refl) (refl, refl) (event.Went s kind.Learn) (learned memory no_entries (raised no_entries x.target)) h.2
+          ∙ ap (λ (m : NodeState). record (state_of w) { past = event.Went s kind.Learn ∷ w.history.past; memories = with_memory w.memories node m }) (alone x.target),
+      h.3,
+    )
+    passes x answers.Memory h = (nothing h.0 h.1, h.1)
+    passes x _ h = absurd h
+
   upkeep_makes : (k : Upkeep) → work_in w.actors s ≡ work.Upkeep k → (o : StepOut) → KeepsUp s node (parts_at w s) k q v o → MakesUpkeep s (state_of w) k now v o
   upkeep_makes upkeep.Write here (answers.Went kind.Back) h = (h.0, h.1, tells (work.Upkeep upkeep.Write) (work.Upkeep (upkeep.Noted h.0)) here h.3 (λ t. refl) (refl, refl) (event.Went s kind.Back) (without_seen memory) h.2, h.3)
   upkeep_makes upkeep.Write here answers.Memory h = (still (work.Upkeep upkeep.Write) work.Rest here h.1 (λ t. refl) (refl, refl) h.0, h.1)
@@ -258,6 +298,8 @@ module _ {L : Type 0} (w : WorldOf L) (s : ℕ) (there : s < length w.actors) (q
   upkeep_makes (upkeep.Noted n) here o h = publishes_first (upkeep.Noted n) here n o h
   upkeep_makes (upkeep.Publish b) here o h = publishes (upkeep.Publish b) here b o h
   upkeep_makes (upkeep.Read b) here o h = learns (upkeep.Read b) here b o h
+  upkeep_makes upkeep.Sweep here o h = (h.0, passes upkeep.Sweep here (sweeping.begun h.0 node) o h.1)
+  upkeep_makes (upkeep.Sweeping x) here o h = passes (upkeep.Sweeping x) here x o h
   upkeep_makes (upkeep.Checkpoint i) here (answers.Ready (ends.Set None)) h = (h.0, h.1, sets (work.Upkeep (upkeep.Checkpoint i)) work.Rest here h.3 (λ t. refl) (refl, refl) (event.Checkpoint i (h.0).base) (after_update w.table (setting_op (change.Checkpoint i h.0))) (update_previous w.table (setting_op (change.Checkpoint i h.0)) refl) h.2, h.3)
   upkeep_makes (upkeep.Checkpoint i) here answers.Memory h = (still (work.Upkeep (upkeep.Checkpoint i)) work.Rest here h.1 (λ t. refl) (refl, refl) h.0, h.1)
   upkeep_makes (upkeep.Checkpoint i) here _ h = absurd h

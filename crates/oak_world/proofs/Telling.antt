@@ -22,13 +22,17 @@ use Rattle.oak_sync.specs.declared.back_write.BackWrite.{BackWrite}
 use Rattle.core_clash.specs.Core.{root_of}
 use Rattle.core_clash.specs.Sessions.{Running}
 use Rattle.core_keep.specs.Formers.{Formers}
-use Rattle.core_world.specs.States.{State, nodes_in}
+use Rattle.core_world.specs.States.{State, node_of, nodes_in}
 use Rattle.core_world.specs.Steps.{after_last, after_mark, lasted_by, marked_by}
 use Rattle.oak_step.specs.declared.upkeep.Upkeep.{Upkeep}
 use Rattle.oak_step.specs.declared.upkeep.Upkeep.TheVariants as upkeep
 use Rattle.oak_step.specs.declared.work.Work.{Work}
 use Rattle.oak_step.specs.declared.work.Work.TheVariants as work
-use Rattle.oak_world.specs.Steps.{BeginsBackWrite, MakesBackRead, MakesBackWrite, MakesCommit, MakesState, MakesUpdate, MakesUpkeep}
+use Rattle.oak_sweep.specs.Sweeping as sweeping
+use Rattle.oak_sweep.specs.declared.stage.Stage.{Stage as Swept}
+use Rattle.oak_sweep.specs.declared.stage.Stage.TheVariants as swept
+use Rattle.oak_sweep.specs.declared.sweeper.Sweeper.{Sweeper}
+use Rattle.oak_world.specs.Steps.{BeginsBackWrite, MakesBackRead, MakesBackWrite, MakesCommit, MakesState, MakesSweep, MakesUpdate, MakesUpkeep, PassesTo}
 use Rattle.oak_world.specs.Worlds.{running_as, with_formers}
 
 module _ (f : Formers) (s : ℕ) (w u : State) where
@@ -84,6 +88,18 @@ module _ (f : Formers) (s : ℕ) (w u : State) where
   read_told b v answers.Memory h = (same _ h.0, h.1)
   read_told b v _ h = absurd h
 
+  passes_told : (x : Sweeper) (y : Swept) → PassesTo s w x y u → PassesTo s was x y now
+  passes_told x swept.Root h = same _ h
+  passes_told x swept.Document h = same _ h
+  passes_told x swept.Publish h = same _ h
+  passes_told x _ h = absurd h
+
+  sweep_told : (x : Sweeper) (v : Work) (o : StepOut) → MakesSweep s w x u v o → MakesSweep s was x now v o
+  sweep_told x v (answers.Went kind.Sweep) h = (passes_told x (sweeping.stage_of x) h.0, h.1)
+  sweep_told x v (answers.Ready (ends.Swept r)) h = (h.0, h.1, same _ h.2, h.3)
+  sweep_told x v answers.Memory h = (same _ h.0, h.1)
+  sweep_told x v _ h = absurd h
+
   upkeep_told : (k : Upkeep) (v : Work) (o : StepOut) → MakesUpkeep s w k u v o → MakesUpkeep s was k now v o
   upkeep_told upkeep.Write v (answers.Went kind.Back) h = (h.0, h.1, same _ h.2, h.3)
   upkeep_told upkeep.Write v answers.Memory h = (same _ h.0, h.1)
@@ -91,6 +107,8 @@ module _ (f : Formers) (s : ℕ) (w u : State) where
   upkeep_told (upkeep.Noted n) v o h = begin_told n v o h
   upkeep_told (upkeep.Publish b) v o h = write_told b v o h
   upkeep_told (upkeep.Read b) v o h = read_told b v o h
+  upkeep_told upkeep.Sweep v o h = (h.0, sweep_told (sweeping.begun h.0 (node_of w s)) v o h.1)
+  upkeep_told (upkeep.Sweeping x) v o h = sweep_told x v o h
   upkeep_told (upkeep.Checkpoint i) v (answers.Ready (ends.Set None)) h = (h.0, h.1, same _ h.2, h.3)
   upkeep_told (upkeep.Checkpoint i) v answers.Memory h = (same _ h.0, h.1)
   upkeep_told (upkeep.Checkpoint i) v _ h = absurd h

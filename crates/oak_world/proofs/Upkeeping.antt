@@ -1,6 +1,6 @@
 -- The steps of background work and on the settings, from one state to the next.
 use Rattle.oak_world.proofs.Looking.{update_previous}
-use Rattle.std.proofs.Common.{◌≡◌, ℕ, Bool, true, false, cond, ◌&&◌, Option, Some, None, [], ◌∷◌, inl, inr, is_some, refl, sym, ap, subst, ◌∙◌}
+use Rattle.std.proofs.Common.{Bool, None, Option, Some, [], ap, cond, false, inl, inr, is_some, refl, subst, sym, true, ℕ, ◌&&◌, ◌∙◌, ◌∷◌, ◌≡◌, ◌⊎◌}
 use Rattle.std.specs.Prelude.{◌==◌, IsSome, length, slice_get}
 use Rattle.std.specs.BTreeMap.{is_at}
 use Rattle.std.specs.Map.{lookup}
@@ -18,9 +18,9 @@ use Rattle.oak_doc.specs.declared.document.Document.{Document}
 use Rattle.oak_doc.specs.declared.update.Change.TheVariants as change
 use Rattle.oak_machine.specs.declared.event.Event.TheVariants as event
 use Rattle.oak_machine.specs.declared.event.StepKind.TheVariants as kind
-use Rattle.oak_machine.specs.Heads.{local}
+use Rattle.oak_machine.specs.Heads.{local, published}
 use Rattle.oak_machine.specs.History.{History}
-use Rattle.oak_machine.specs.Laws.{Says, Starts, StartsProper}
+use Rattle.oak_machine.specs.Laws.{Says, Starts, StartsProper, after}
 use Rattle.oak_machine.specs.Runs.{IsNode}
 use Rattle.oak_machine.specs.Sessions.{has_reader, is_attached, is_stopped, is_stopped_under, kept_checkpoint}
 use Rattle.oak_machine.specs.Steps.{is_on}
@@ -32,19 +32,24 @@ use Rattle.core_heads.proofs.Orders.{at_most_itself}
 use Rattle.core_nodes.specs.Nodes.{IsMemoryOf, base_of_pin, cursor_owner}
 use Rattle.core_world.specs.Kept.{IsKept, WereOnRoot}
 use Rattle.core_world.specs.States.{State, history_in, memory_of, node_of, nodes_in}
-use Rattle.core_world.specs.Steps.{after_attach, after_back, after_checkpoint, after_detach, after_learn, after_observe, after_out, after_pending, after_refresh, after_release, after_unfound, after_went, setting_op}
+use Rattle.core_world.specs.Steps.{after_attach, after_back, after_checkpoint, after_detach, after_learn, after_learn_swept, after_observe, after_out, after_pending, after_refresh, after_release, after_sweep, after_unfound, after_went, setting_op}
 use Rattle.oak_sync.specs.Publishing.{back_op}
 use Rattle.core_world.proofs.Backs.{heard, own_entry_is, told_now}
 use Rattle.core_world.proofs.Draws.{base_is}
 use Rattle.core_world.proofs.Flights.{number_itself}
 use Rattle.core_world.proofs.Lives.{its_node, on_node, node_alive}
-use Rattle.core_world.proofs.Whole.{attach_keeps, attach_unfound_keeps, back_keeps, checkpoint_keeps, detach_keeps, layers_of, learn_keeps, observe_whole, out_keeps, pending_keeps, refresh_whole, release_keeps, release_unfound_keeps, went_whole}
+use Rattle.core_world.proofs.Sweeps.{published_local}
+use Rattle.core_world.proofs.Whole.{attach_keeps, attach_unfound_keeps, back_keeps, checkpoint_keeps, detach_keeps, layers_of, learn_keeps, learn_swept_keeps, observe_whole, out_keeps, pending_keeps, refresh_whole, release_keeps, release_unfound_keeps, sweep_keeps, went_whole}
 use Rattle.oak_port.specs.declared.task.StepOut.{StepOut}
 use Rattle.oak_port.specs.declared.task.StepOut.TheVariants as answers
 use Rattle.oak_port.specs.declared.task.TaskEnd.TheVariants as ends
-use Rattle.oak_port.specs.Ports.{AreOfStep, Idle, Learning, Makes as Tells, Publishing, Work as Shows}
+use Rattle.oak_port.specs.Ports.{AreOfStep, Idle, Learning, Makes as Tells, Passing, Publishing, Sweeping, Work as Shows}
 use Rattle.oak_step.specs.declared.work.Work.{Work}
 use Rattle.oak_step.specs.declared.work.Work.TheVariants as work
+use Rattle.oak_sweep.specs.Sweeping as sweeping
+use Rattle.oak_sweep.specs.declared.stage.Stage.{Stage as Swept}
+use Rattle.oak_sweep.specs.declared.stage.Stage.TheVariants as swept
+use Rattle.oak_sweep.specs.declared.sweeper.Sweeper.{Sweeper}
 use Rattle.oak_sync.specs.Learning as learning
 use Rattle.oak_sync.specs.Publishing.{stage_of, went_on}
 use Rattle.oak_sync.specs.declared.back_read.BackRead.{BackRead}
@@ -54,13 +59,15 @@ use Rattle.oak_sync.specs.declared.stage.Stage.TheVariants as stage
 use Rattle.oak_sync.proofs.Standing.{below_due, one_due}
 use Rattle.oak_step.specs.declared.upkeep.Upkeep.{Upkeep}
 use Rattle.oak_step.specs.declared.upkeep.Upkeep.TheVariants as upkeep
-use Rattle.oak_world.specs.Kept.{EndsInRoot, IsOwn, MayKeepUp, MayReadOn}
-use Rattle.oak_world.specs.Seen.{shown_read, shown_upkeep, shown_work}
-use Rattle.oak_world.specs.Steps.{BeginsBackWrite, IsPresent, MakesBackRead, MakesBackWrite, MakesUpkeep, attached_after, attaching, is_made}
+use Rattle.oak_world.specs.Kept.{EndsInRoot, IsOwn, IsOwnPublished, MayKeepUp, MayReadOn, MaySweepOn}
+use Rattle.oak_world.specs.Seen.{shown_read, shown_sweep, shown_upkeep, shown_work}
+use Rattle.oak_world.specs.Steps.{BeginsBackWrite, IsPresent, MakesBackRead, MakesBackWrite, MakesSweep, MakesUpkeep, PassesTo, attached_after, attaching, is_made}
+use Rattle.oak_step.specs.Parts.{swept_on}
 use Rattle.oak_step.specs.Upkeeps.{set_checkpoint}
 use Rattle.oak_world.proofs.Ahead.{begins_ahead, below_root, goes_ahead}
 use Rattle.oak_world.proofs.Lasting.{local_lasts}
 use Rattle.oak_world.proofs.Attached.{attached_reads}
+use Rattle.oak_world.proofs.Sweepers.{document_passed, either_stage, root_read, sweep_told, target_own, target_published}
 use Rattle.oak_world.proofs.StepsOf.{IsStepOf, apart_one, chosen, flipped, kind_told, none_stopped, refused_stays, with_true}
 
 module _ (starts : Starts) (says : Says) (proper : StartsProper starts) (w : State) (kept : IsKept starts says w) (s : ℕ) (there : is_some (slice_get w.sessions s) ≡ true) (none_halted : (k : ℕ) → is_stopped w.past k ≡ false) where
@@ -243,6 +250,144 @@ module _ (starts : Starts) (says : Says) (proper : StartsProper starts) (w : Sta
       learns_step may u x answers.Memory m = refused_step (upkeep.Read b) (unread_step (learning.stage_of b)) u x m.0 m.1
       learns_step may u x _ m = absurd m
 
+    -- ---- a sweep
+
+    -- a revision of the session's node that is published
+    own_published : (r : Revision) → r.cluster ≡ node_of w s → is_at_most r (published w.begin w.past (node_of w s)) ≡ true → IsOwnPublished (history_in w) s r
+    own_published r of low = (on ∙ ap Some (sym of), subst (λ (k : ℕ). is_at_most r (published w.begin w.past k) ≡ true) (sym of) low)
+
+    module _ (v : Work) (y : Sweeper) (shown : shown_work v ≡ shown_sweep y (sweeping.stage_of y)) (unmoved : attaching v ≡ None) where
+      -- the sweep, once the documents have answered
+      abbrev next : Sweeper
+      next = swept_on w.table y
+
+      -- the session is attached as before
+      unmoved_stays : (o : StepOut) → attached_after v o (is_attached w.past s) ≡ is_attached w.past s
+      unmoved_stays o = ap (λ (x : Option Bool). option_map_or (λ now. cond (is_made o) now (is_attached w.past s)) x (is_attached w.past s)) unmoved
+
+      shown_there : (z : Swept) → sweeping.stage_of y ≡ z → shown_sweep y z ≡ shown_work v
+      shown_there z at = sym (shown ∙ ap (shown_sweep y) at)
+
+      abbrev PassStep : State → Type 0
+      PassStep t = StepOf v t (work.Upkeep (upkeep.Sweeping next)) (answers.Went kind.Sweep)
+
+      -- the root is read
+      root_step : sweeping.stage_of y ≡ swept.Root → slice_get w.sessions s ≡ Some y.cluster → PassStep (after_went w s kind.Sweep)
+      root_step at mine = record {
+        own = event.Went s kind.Sweep ∷ [];
+        grown = refl;
+        kept = went_whole starts says proper w kept s kind.Sweep refl refl come.login come.stays;
+        may = (record { login = come.login; stays = come.stays }, subst (MaySweepOn (after (event.Went s kind.Sweep ∷ []) (history_in w)) s next) (sym read.0) (subst (λ (r : Revision). IsOwnPublished (history_in w) s r) (sym target) (own_published _ goal.0 goal.1)));
+        apart = apart_one w.past s (event.Went s kind.Sweep) (λ q m. flipped q s m);
+        attached = unmoved_stays (answers.Went kind.Sweep);
+        unstopped = λ q k. k;
+        same = λ i q. refl;
+        tells = subst (λ (z : Shows). Tells (history_in w) s z (answers.Went kind.Sweep) (event.Went s kind.Sweep ∷ []) (shown_sweep next (sweeping.stage_of next))) (shown_there swept.Root at) (node_of w s, on, refl, refl, ap (shown_sweep next) read.0 ∙ ap Passing (target ∙ target_published starts says w kept (node_of w s) node));
+        of_step = kind_told kind.Sweep (s == s && true) (with_true (s == s) (number_itself s));
+        as_due = refl;
+      }
+        where
+          read : (sweeping.stage_of next ≡ swept.Document) × (next.target ≡ sweeping.target_in y.cluster (nodes_in w.table []))
+          read = root_read w.table y at
+
+          its_own : y.cluster ≡ node_of w s
+          its_own = let k : Some y.cluster ≡ Some (node_of w s) = sym mine ∙ on in ap (λ (o : Option ℕ). option_map_or (λ m. m) o y.cluster) k
+
+          target : next.target ≡ sweeping.target_in (node_of w s) (nodes_in w.table [])
+          target = read.1 ∙ ap (λ (k : ℕ). sweeping.target_in k (nodes_in w.table [])) its_own
+
+          goal : ((sweeping.target_in (node_of w s) (nodes_in w.table [])).cluster ≡ node_of w s) × (is_at_most (sweeping.target_in (node_of w s) (nodes_in w.table [])) (published w.begin w.past (node_of w s)) ≡ true)
+          goal = target_own starts says w kept (node_of w s) node
+
+      -- a document is passed
+      document_step : sweeping.stage_of y ≡ swept.Document → IsOwnPublished (history_in w) s y.target → PassStep (after_went w s kind.Sweep)
+      document_step at mine = record {
+        own = event.Went s kind.Sweep ∷ [];
+        grown = refl;
+        kept = went_whole starts says proper w kept s kind.Sweep refl refl come.login come.stays;
+        may = (record { login = come.login; stays = come.stays }, either_stage (sweeping.stage_of next) passed.0 (MaySweepOn (after (event.Went s kind.Sweep ∷ []) (history_in w)) s next) still_own still_own);
+        apart = apart_one w.past s (event.Went s kind.Sweep) (λ q m. flipped q s m);
+        attached = unmoved_stays (answers.Went kind.Sweep);
+        unstopped = λ q k. k;
+        same = λ i q. refl;
+        tells = subst (λ (z : Shows). Tells (history_in w) s z (answers.Went kind.Sweep) (event.Went s kind.Sweep ∷ []) (shown_sweep next (sweeping.stage_of next))) (shown_there swept.Document at)
+            (refl, inl (refl, either_stage (sweeping.stage_of next) passed.0 (λ z. shown_sweep next z ≡ Passing y.target) (ap Passing passed.1) (ap Passing passed.1)));
+        of_step = kind_told kind.Sweep (s == s && true) (with_true (s == s) (number_itself s));
+        as_due = refl;
+      }
+        where
+          passed : ((sweeping.stage_of next ≡ swept.Document) ⊎ (sweeping.stage_of next ≡ swept.Publish)) × (next.target ≡ y.target)
+          passed = document_passed w.table y at
+
+          still_own : IsOwnPublished (history_in w) s next.target
+          still_own = subst (λ (r : Revision). IsOwnPublished (history_in w) s r) (sym passed.1) mine
+
+      -- what a sweep goes up to is of its node, and published
+      of_its_node : IsOwnPublished (history_in w) s y.target → y.target.cluster ≡ node_of w s
+      of_its_node mine = let k : Some y.target.cluster ≡ Some (node_of w s) = sym mine.0 ∙ on in ap (λ (o : Option ℕ). option_map_or (λ m. m) o y.target.cluster) k
+
+      low : IsOwnPublished (history_in w) s y.target → is_at_most y.target (published w.begin w.past (node_of w s)) ≡ true
+      low mine = subst (λ (k : ℕ). is_at_most y.target (published w.begin w.past k) ≡ true) (of_its_node mine) mine.1
+
+      -- the root is told
+      sweep_tell_step : sweeping.stage_of y ≡ swept.Publish → IsOwnPublished (history_in w) s y.target → PassStep (after_sweep w s y.target)
+      sweep_tell_step at mine = record {
+        own = event.Sweep (node_of w s) y.target ∷ [];
+        grown = refl;
+        kept = sweep_keeps starts says proper w kept s come.login y.target (of_its_node mine) (low mine);
+        may = (record { login = come.login; stays = come.stays }, subst (MaySweepOn (after (event.Sweep (node_of w s) y.target ∷ []) (history_in w)) s next) (sym told.0) (subst (λ (r : Revision). IsOwnPublished (history_in w) s r) (sym told.1) mine));
+        apart = apart_one w.past s (event.Sweep (node_of w s) y.target) (λ q m. refl);
+        attached = unmoved_stays (answers.Went kind.Sweep);
+        unstopped = λ q k. k;
+        same = update_previous w.table (sweeping.sweep_op y.target) refl;
+        tells = subst (λ (z : Shows). Tells (history_in w) s z (answers.Went kind.Sweep) (event.Sweep (node_of w s) y.target ∷ []) (shown_sweep next (sweeping.stage_of next))) (shown_there swept.Publish at)
+            (refl, inr (node_of w s, on, refl, ap (shown_sweep next) told.0 ∙ ap Sweeping told.1));
+        of_step = kind_told kind.Sweep (is_on (history_in w) s (node_of w s)) is_mine;
+        as_due = refl;
+      }
+        where
+          told : (sweeping.stage_of next ≡ swept.Learn) × (next.target ≡ y.target)
+          told = sweep_told w.table y at
+
+      -- the memory learns
+      swept_step : sweeping.stage_of y ≡ swept.Learn → IsOwnPublished (history_in w) s y.target → StepOf v (after_learn_swept w s y.target) work.Rest (answers.Ready (ends.Swept y.target))
+      swept_step at mine = record {
+        own = event.Went s kind.Learn ∷ [];
+        grown = refl;
+        kept = learn_swept_keeps starts says proper w kept s come.login come.stays y.target (of_its_node mine) (published_local starts says w (layers_of starts says w kept) (node_of w s) y.target (low mine));
+        may = tt;
+        apart = apart_one w.past s (event.Went s kind.Learn) (λ q m. flipped q s m);
+        attached = unmoved_stays (answers.Ready (ends.Swept y.target));
+        unstopped = λ q k. k;
+        same = λ i q. refl;
+        tells = subst (λ (z : Shows). Tells (history_in w) s z (answers.Ready (ends.Swept y.target)) (event.Went s kind.Learn ∷ []) Idle) (shown_there swept.Learn at) (refl, refl, refl);
+        of_step = subst (λ (z : Shows). AreOfStep (history_in w) s z (answers.Ready (ends.Swept y.target)) (event.Went s kind.Learn ∷ [])) (shown_there swept.Learn at) (kind_told kind.Learn (s == s && true) (with_true (s == s) (number_itself s)));
+        as_due = refl;
+      }
+
+      -- memory was refused
+      unswept_step : (z : Swept) → Tells (history_in w) s (shown_sweep y z) answers.Memory [] Idle
+      unswept_step swept.Root = (refl, refl)
+      unswept_step swept.Document = (refl, refl)
+      unswept_step swept.Publish = (refl, refl)
+      unswept_step swept.Learn = (refl, refl)
+      unswept_step swept.Done = (refl, refl)
+
+      pass_step : (u : State) (z : Swept) → sweeping.stage_of y ≡ z → MaySweepOn (history_in w) s y z → PassesTo s w y z u → PassStep u
+      pass_step u swept.Root at may to = subst PassStep (sym to) (root_step at may)
+      pass_step u swept.Document at may to = subst PassStep (sym to) (document_step at may)
+      pass_step u swept.Publish at may to = subst PassStep (sym to) (sweep_tell_step at may)
+      pass_step u swept.Learn at may to = absurd to
+      pass_step u swept.Done at may to = absurd to
+
+      sweep_step : MaySweepOn (history_in w) s y (sweeping.stage_of y) → (u : State) (x : Work) (o : StepOut) → MakesSweep s w y u x o → StepOf v u x o
+      sweep_step may u x (answers.Went kind.Sweep) m = at_those v (answers.Went kind.Sweep) u (work.Upkeep (upkeep.Sweeping next)) u x refl m.1 (pass_step u (sweeping.stage_of y) refl may m.0)
+      sweep_step may u x (answers.Ready (ends.Swept r)) m =
+          subst (λ (z : Revision). StepOf v u x (answers.Ready (ends.Swept z))) (sym m.1)
+          (at_those v (answers.Ready (ends.Swept y.target)) (after_learn_swept w s y.target) work.Rest u x m.2 m.3 (swept_step m.0 (subst (MaySweepOn (history_in w) s y) m.0 may)))
+      sweep_step may u x answers.Memory m = at_those v answers.Memory w work.Rest u x m.0 m.1 (record { own = []; grown = refl; kept = kept; may = tt; apart = λ q m. refl; attached = refused_stays v (is_attached w.past s); unstopped = λ q m. m; same = λ i q. refl; tells = subst (λ (z : Shows). Tells (history_in w) s z answers.Memory [] Idle) (sym shown) (unswept_step (sweeping.stage_of y)); of_step = refl; as_due = refl })
+      sweep_step may u x _ m = absurd m
+
     -- ---- the settings
 
     checkpoint_step : (i : Text) (pin : Pin) → is_attached w.past s ≡ false → pin_of (memory_of w s) s ≡ Some pin → StepOf (work.Upkeep (upkeep.Checkpoint i)) (after_checkpoint w s i pin) work.Rest (answers.Ready (ends.Set None))
@@ -399,6 +544,8 @@ module _ (starts : Starts) (says : Says) (proper : StartsProper starts) (w : Sta
     upkeep_step (upkeep.Noted n) may u x o m = begin_step n may u x o m
     upkeep_step (upkeep.Publish b) may u x o m = publish_step (work.Upkeep (upkeep.Publish b)) b refl refl may.0 may.1 u x o m
     upkeep_step (upkeep.Read b) may u x o m = learns_step b may u x o m
+    upkeep_step upkeep.Sweep may u x o m = sweep_step (work.Upkeep upkeep.Sweep) (sweeping.begun m.0 (node_of w s)) refl refl on u x o m.1
+    upkeep_step (upkeep.Sweeping y) may u x o m = sweep_step (work.Upkeep (upkeep.Sweeping y)) y refl refl may u x o m
     upkeep_step (upkeep.Checkpoint i) may u x (answers.Ready (ends.Set None)) m = at_those (work.Upkeep (upkeep.Checkpoint i)) (answers.Ready (ends.Set None)) (after_checkpoint w s i m.0) work.Rest u x m.2 m.3 (checkpoint_step i m.0 may m.1)
     upkeep_step (upkeep.Checkpoint i) may u x answers.Memory m = refused_step (upkeep.Checkpoint i) (refl, refl) u x m.0 m.1
     upkeep_step (upkeep.Checkpoint i) may u x _ m = absurd m

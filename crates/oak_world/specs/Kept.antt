@@ -18,8 +18,12 @@ use Rattle.core_keep.specs.Formers.{Formers}
 use Rattle.core_world.specs.Kept.{IsKept, WereOnRoot}
 use Rattle.jr_rev.specs.declared.revision.Revision.{Revision}
 use Rattle.jr_rev.specs.Revisions.{is_at_most}
-use Rattle.oak_machine.specs.Heads.{local}
+use Rattle.oak_machine.specs.Heads.{local, published}
 use Rattle.oak_port.specs.Ports.{MayAppend}
+use Rattle.oak_sweep.specs.Sweeping as sweeping
+use Rattle.oak_sweep.specs.declared.stage.Stage.{Stage as Swept}
+use Rattle.oak_sweep.specs.declared.stage.Stage.TheVariants as swept
+use Rattle.oak_sweep.specs.declared.sweeper.Sweeper.{Sweeper}
 use Rattle.oak_sync.specs.Learning.{stage_of}
 use Rattle.oak_sync.specs.declared.back_read.BackRead.{BackRead}
 use Rattle.oak_sync.specs.declared.back_write.BackWrite.{BackWrite}
@@ -59,6 +63,11 @@ abbrev pub IsOwn : History → ℕ → Revision → Type 0
 IsOwn h s r = (slice_get h.sessions s ≡ Some r.cluster)
     × IsTrue (is_at_most r (local h.begin h.past r.cluster))
 
+-- the revision is one of the session's cluster node, and published
+abbrev pub IsOwnPublished : History → ℕ → Revision → Type 0
+IsOwnPublished h s r = (slice_get h.sessions s ≡ Some r.cluster)
+    × IsTrue (is_at_most r (published h.begin h.past r.cluster))
+
 -- the root's document is the last that a background write tells, and is still to be told
 pub record EndsInRoot (b : BackWrite) : Type 0 where
   pub front : List Path
@@ -72,13 +81,21 @@ MayReadOn h b syncing.Read = Unit {0}
 MayReadOn h b syncing.Learn = WereOnRoot h.begin h.clusters h.past b.last b.sweep
 MayReadOn h b _ = ⊥
 
--- what is published is the node's own, and what is learned the root told; at an attached session no
+-- a sweep of the session's cluster node that stands in a stage has still to read the root, or goes
+-- up to what is published
+abbrev pub MaySweepOn : History → ℕ → Sweeper → Swept → Type 0
+MaySweepOn h s x swept.Root = slice_get h.sessions s ≡ Some x.cluster
+MaySweepOn h s x swept.Done = ⊥
+MaySweepOn h s x _ = IsOwnPublished h s x.target
+
+-- what is published is the node's own, what is learned the root told, and what is swept published; at an attached session no
 -- checkpoint is made, no cursor is pinned, and no further checkpoint is taken; it is detached, and
 -- once it is at the head, its reader goes
 abbrev pub MayKeepUp : History → ℕ → Upkeep → Type 0
 MayKeepUp h s (upkeep.Noted n) = IsOwn h s n.upto
 MayKeepUp h s (upkeep.Publish b) = IsOwn h s b.upto × EndsInRoot b
 MayKeepUp h s (upkeep.Read b) = MayReadOn h b (stage_of b)
+MayKeepUp h s (upkeep.Sweeping x) = MaySweepOn h s x (sweeping.stage_of x)
 MayKeepUp h s (upkeep.Checkpoint i) = IsFalse (is_attached h.past s)
 MayKeepUp h s (upkeep.Attach i) = IsFalse (is_attached h.past s)
 MayKeepUp h s upkeep.Detach = IsTrue (is_attached h.past s)

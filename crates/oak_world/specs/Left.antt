@@ -31,6 +31,9 @@ use Rattle.oak_read.specs.declared.reader.Step.TheVariants as step
 use Rattle.oak_store.specs.Tables.{Table}
 use Rattle.core_world.specs.States.{listed_at, memory_of, moved_in, nodes_in}
 use Rattle.core_world.specs.Steps.{after_update}
+use Rattle.oak_sweep.specs.declared.sweeper.Sweeper.{Sweeper}
+use Rattle.oak_sweep.specs.declared.sweeper.Step.{Step as SweepStep}
+use Rattle.oak_sweep.specs.declared.sweeper.Step.TheVariants as passing
 use Rattle.oak_sync.specs.Learning.{stage_of}
 use Rattle.oak_sync.specs.declared.stage.Stage.{Stage as Syncing}
 use Rattle.oak_sync.specs.declared.stage.Stage.TheVariants as syncing
@@ -193,15 +196,29 @@ abbrev pub learn_left : Syncing → ℕ
 learn_left syncing.Read = 2
 learn_left _ = 1
 
+-- how many steps of a sweep are left at most: the root's read, one for each document that it has
+-- still to pass, the look behind the last one, the root's update, and the learning
+abbrev pub sweep_left : Table → Sweeper → ℕ
+sweep_left t x = by x.step
+  where
+    by : SweepStep → ℕ
+    by passing.Root = length t.documents + 4
+    by passing.First = length t.documents + 3
+    by (passing.Behind p) = documents_behind t p + 3
+    by passing.Publish = 2
+    by _ = 1
+
 -- how many steps of an upkeep are left at most; a background write tells a document a step, which
 -- before it has begun are the root's and no more than one for each name
-abbrev pub upkeep_left : NodeState → Upkeep → ℕ
-upkeep_left m upkeep.Write = suc (suc (names_in (seen_paths m.head m.notes)))
-upkeep_left m (upkeep.Noted n) = suc (names_in n.paths)
-upkeep_left m (upkeep.Publish b) = length b.paths - b.written
-upkeep_left m (upkeep.Read b) = learn_left (stage_of b)
-upkeep_left m upkeep.Detach = 2
-upkeep_left m _ = 1
+abbrev pub upkeep_left : Table → NodeState → Upkeep → ℕ
+upkeep_left t m upkeep.Write = suc (suc (names_in (seen_paths m.head m.notes)))
+upkeep_left t m (upkeep.Noted n) = suc (names_in n.paths)
+upkeep_left t m (upkeep.Publish b) = length b.paths - b.written
+upkeep_left t m (upkeep.Read b) = learn_left (stage_of b)
+upkeep_left t m upkeep.Sweep = length t.documents + 4
+upkeep_left t m (upkeep.Sweeping x) = sweep_left t x
+upkeep_left t m upkeep.Detach = 2
+upkeep_left t m _ = 1
 
 -- ---- all
 
@@ -213,7 +230,7 @@ steps_left s t m (work.Changes r) = suc (changes_left t r)
 steps_left s t m (work.Plan edit marks) =
     suc (commit_left t (begun (next_draw m) (pinned_base m s) edit marks) None)
 steps_left s t m (work.Commit c) = commit_left t c c.outcome
-steps_left s t m (work.Upkeep u) = upkeep_left m u
+steps_left s t m (work.Upkeep u) = upkeep_left t m u
 steps_left s t m _ = 1
 
 -- of what session s of a world does

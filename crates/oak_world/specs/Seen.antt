@@ -8,13 +8,17 @@ use Rattle.oak_commit.specs.declared.outcome.CommitEnd.TheVariants as end
 use Rattle.core_watch.specs.Standing.{path_read}
 use Rattle.oak_port.specs.declared.task.Task.{Task}
 use Rattle.oak_port.specs.declared.task.Task.TheVariants as task
+use Rattle.oak_sweep.specs.Sweeping as sweeping
+use Rattle.oak_sweep.specs.declared.stage.Stage.{Stage as Swept}
+use Rattle.oak_sweep.specs.declared.stage.Stage.TheVariants as swept
+use Rattle.oak_sweep.specs.declared.sweeper.Sweeper.{Sweeper}
 use Rattle.oak_sync.specs.Learning.{stage_of}
 use Rattle.oak_sync.specs.declared.back_read.BackRead.{BackRead}
 use Rattle.oak_sync.specs.declared.stage.Stage.{Stage as Syncing}
 use Rattle.oak_sync.specs.declared.stage.Stage.TheVariants as syncing
 use Rattle.oak_step.specs.declared.upkeep.Upkeep.{Upkeep}
 use Rattle.oak_step.specs.declared.upkeep.Upkeep.TheVariants as upkeep
-use Rattle.oak_port.specs.Ports.{Awaiting, Deciding, Detaching, Idle, Learning, Publishing, Seat, Shown, Starting, Undoing, Work as Shows, Writing}
+use Rattle.oak_port.specs.Ports.{Awaiting, Deciding, Detaching, Idle, Learning, Passing, Publishing, Seat, Shown, Starting, Sweeping, Undoing, Work as Shows, Writing}
 use Rattle.oak_step.specs.declared.work.Work.{Work}
 use Rattle.oak_step.specs.declared.work.Work.TheVariants as work
 use Rattle.oak_step.specs.Works.{kind_due}
@@ -36,12 +40,20 @@ abbrev pub shown_read : BackRead → Syncing → Shows
 shown_read b syncing.Learn = Learning b.last
 shown_read b _ = Starting task.BackRead
 
--- background work, or a change of the settings
+-- a sweep that stands in a stage
+abbrev pub shown_sweep : Sweeper → Swept → Shows
+shown_sweep x swept.Root = Starting task.Sweep
+shown_sweep x swept.Learn = Sweeping x.target
+shown_sweep x _ = Passing x.target
+
+-- background work, a sweep, or a change of the settings
 abbrev pub shown_upkeep : Upkeep → Shows
 shown_upkeep upkeep.Write = Starting task.BackWrite
 shown_upkeep (upkeep.Noted n) = Publishing n.upto
 shown_upkeep (upkeep.Publish b) = Publishing b.upto
 shown_upkeep (upkeep.Read b) = shown_read b (stage_of b)
+shown_upkeep upkeep.Sweep = Starting task.Sweep
+shown_upkeep (upkeep.Sweeping x) = shown_sweep x (sweeping.stage_of x)
 shown_upkeep (upkeep.Checkpoint i) = Starting (task.Checkpoint i)
 shown_upkeep (upkeep.Release i) = Starting (task.Release i)
 shown_upkeep (upkeep.Attach i) = Starting (task.Attach i)

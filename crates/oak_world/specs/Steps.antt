@@ -32,11 +32,15 @@ use Rattle.oak_node.specs.Notes.{IsPending}
 use Rattle.oak_node.specs.Heads.{AwaitsEarlier, learned, next_draw}
 use Rattle.oak_node.specs.Pins.{pin_now}
 use Rattle.oak_read.specs.Reading.{due}
-use Rattle.core_world.specs.States.{State, base_in, memory_of, nodes_in}
-use Rattle.core_world.specs.Steps.{after_attach, after_back, after_checkpoint, after_detach, after_learn, after_observe, after_out, after_pending, after_release, after_unfound, after_went, after_draw, after_finish, after_last, after_leave, after_login, after_mark, after_refresh, after_undoing, after_want, after_write, after_write_in_want, with_observer, with_reader}
+use Rattle.core_world.specs.States.{State, base_in, memory_of, node_of, nodes_in}
+use Rattle.core_world.specs.Steps.{after_attach, after_back, after_checkpoint, after_detach, after_learn, after_learn_swept, after_observe, after_out, after_pending, after_release, after_sweep, after_unfound, after_went, after_draw, after_finish, after_last, after_leave, after_login, after_mark, after_refresh, after_undoing, after_want, after_write, after_write_in_want, with_observer, with_reader}
 use Rattle.oak_port.specs.declared.task.StepOut.{StepOut}
 use Rattle.oak_port.specs.declared.task.StepOut.TheVariants as answers
 use Rattle.oak_port.specs.declared.task.TaskEnd.TheVariants as ends
+use Rattle.oak_sweep.specs.Sweeping as sweeping
+use Rattle.oak_sweep.specs.declared.stage.Stage.{Stage as Swept}
+use Rattle.oak_sweep.specs.declared.stage.Stage.TheVariants as swept
+use Rattle.oak_sweep.specs.declared.sweeper.Sweeper.{Sweeper}
 use Rattle.oak_sync.specs.Learning as learning
 use Rattle.oak_sync.specs.Publishing as publishing
 use Rattle.oak_sync.specs.declared.back_read.BackRead.{BackRead}
@@ -48,7 +52,7 @@ use Rattle.oak_step.specs.Upkeeps.{set_checkpoint}
 use Rattle.oak_step.specs.declared.work.Work.{Work}
 use Rattle.oak_step.specs.declared.work.Work.TheVariants as work
 use Rattle.oak_step.specs.Works.{kind_due}
-use Rattle.oak_step.specs.Parts.{EndsSo, changes_on, committed, end_of_reading, fed_previous, mark_made, read_on}
+use Rattle.oak_step.specs.Parts.{EndsSo, changes_on, committed, end_of_reading, fed_previous, mark_made, read_on, swept_on}
 use Rattle.oak_world.specs.Worlds.{WorldOf, actor_in, running_as, state_of, work_in}
 
 -- ---- who may be told what
@@ -152,7 +156,27 @@ MakesBackRead s w b u v (answers.Ready (ends.Learnt x)) =
 MakesBackRead s w b u v answers.Memory = (u ≡ w) × (v ≡ work.Rest)
 MakesBackRead s w b u v _ = ⊥
 
--- a step of background work, or on the settings
+-- a sweep that stands in a stage reads the root or passes over a document, which changes nothing; or
+-- once it has asked for each, it tells the root how far it goes
+abbrev pub PassesTo : ℕ → State → Sweeper → Swept → State → Type 0
+PassesTo s w x swept.Root u = u ≡ after_went w s kind.Sweep
+PassesTo s w x swept.Document u = u ≡ after_went w s kind.Sweep
+PassesTo s w x swept.Publish u = u ≡ after_sweep w s x.target
+PassesTo s w x _ u = ⊥
+
+-- a sweep goes on, and is fed the answer to what it asked; or its cluster node learns how far it
+-- went, that alone, and the task ends
+abbrev pub MakesSweep : ℕ → State → Sweeper → State → Work → StepOut → Type 0
+MakesSweep s w x u v (answers.Went kind.Sweep) =
+    PassesTo s w x (sweeping.stage_of x) u
+    × (v ≡ work.Upkeep (upkeep.Sweeping (swept_on w.table x)))
+MakesSweep s w x u v (answers.Ready (ends.Swept r)) =
+    (sweeping.stage_of x ≡ swept.Learn) × (r ≡ x.target) × (u ≡ after_learn_swept w s x.target)
+    × (v ≡ work.Rest)
+MakesSweep s w x u v answers.Memory = (u ≡ w) × (v ≡ work.Rest)
+MakesSweep s w x u v _ = ⊥
+
+-- a step of background work, of a sweep, or on the settings
 abbrev pub MakesUpkeep : ℕ → State → Upkeep → State → Work → StepOut → Type 0
 MakesUpkeep s w upkeep.Write u v (answers.Went kind.Back) = (n : Pending)
     × IsPending (memory_of w s) n × (u ≡ after_pending w s) × (v ≡ work.Upkeep (upkeep.Noted n))
@@ -161,6 +185,9 @@ MakesUpkeep s w upkeep.Write u v _ = ⊥
 MakesUpkeep s w (upkeep.Noted n) u v o = BeginsBackWrite s w n u v o
 MakesUpkeep s w (upkeep.Publish b) u v o = MakesBackWrite s w b u v o
 MakesUpkeep s w (upkeep.Read b) u v o = MakesBackRead s w b u v o
+MakesUpkeep s w upkeep.Sweep u v o =
+    (a : Global) × MakesSweep s w (sweeping.begun a (node_of w s)) u v o
+MakesUpkeep s w (upkeep.Sweeping x) u v o = MakesSweep s w x u v o
 MakesUpkeep s w (upkeep.Checkpoint i) u v (answers.Ready (ends.Set None)) = (pin : Pin)
     × (pin_of (memory_of w s) s ≡ Some pin) × (u ≡ after_checkpoint w s i pin) × (v ≡ work.Rest)
 MakesUpkeep s w (upkeep.Checkpoint i) u v answers.Memory = (u ≡ w) × (v ≡ work.Rest)

@@ -9,6 +9,9 @@ returns-in-Noted-clause-made c = rw c.in-Noted.is (c.begin.ensures.made c.args.m
 pub returns-in-Publish-clause-made : goal.returns-in-Publish-clause-made
 returns-in-Publish-clause-made c = rw c.in-Publish.is (c.publish.ensures.made c.args.memory.now)
 
+pub returns-in-Sweep-clause-made : goal.returns-in-Sweep-clause-made
+returns-in-Sweep-clause-made c = rw c.in-Sweep.is (c.begin_sweep.ensures.made c.args.memory.now)
+
 pub returns-in-Checkpoint-clause-made : goal.returns-in-Checkpoint-clause-made
 returns-in-Checkpoint-clause-made c = rw c.in-Checkpoint.is (c.checkpoint.ensures.made c.args.node)
 
