@@ -16,7 +16,7 @@ use Rattle.oak_machine.specs.declared.event.StepKind.TheVariants as kind
 use Rattle.oak_port.specs.declared.task.StepOut.{StepOut}
 use Rattle.oak_port.specs.declared.task.StepOut.TheVariants as answers
 use Rattle.oak_port.specs.declared.task.Task.{Task}
-use Rattle.oak_port.specs.Ports.{Deciding, Detaching, Idle, Learning, Publishing, ReadsAsDue, Starting, Undoing, Awaiting, Work as Shows, Writing, is_due}
+use Rattle.oak_port.specs.Ports.{Deciding, Detaching, Idle, Learning, Publishing, ReadsAsDue, Starting, Undoing, Awaiting, Work as Shows, Writing, is_due, Passing, Sweeping}
 use Rattle.oak_step.proofs.Feeding.{stage_last, stage_mark, stage_write}
 use Rattle.oak_step.proofs.Stages.{finish_stage}
 use Rattle.oak_step.specs.declared.upkeep.Upkeep.{Upkeep}
@@ -29,7 +29,11 @@ use Rattle.oak_sync.specs.declared.back_read.BackRead.{BackRead}
 use Rattle.oak_sync.specs.declared.stage.Stage.{Stage as Syncing}
 use Rattle.oak_sync.specs.declared.stage.Stage.TheVariants as syncing
 use Rattle.core_world.specs.States.{State}
-use Rattle.oak_world.specs.Seen.{shown_by, shown_read, shown_upkeep, shown_work}
+use Rattle.oak_sweep.specs.Sweeping as sweeping
+use Rattle.oak_sweep.specs.declared.stage.Stage.{Stage as Swept}
+use Rattle.oak_sweep.specs.declared.stage.Stage.TheVariants as swept
+use Rattle.oak_sweep.specs.declared.sweeper.Sweeper.{Sweeper}
+use Rattle.oak_world.specs.Seen.{shown_by, shown_read, shown_upkeep, shown_work, shown_sweep}
 use Rattle.oak_world.specs.Steps.{MakesCommit, MakesState, MakesUpdate}
 
 -- where as many events are there as before, none was added
@@ -89,11 +93,20 @@ module _ (s : ℕ) (w u : State) (own : Past) (grown : u.past ≡ own ++ w.past)
   read_shown b syncing.Read r h = never_task _ r h
   read_shown b syncing.Done r h = never_task _ r h
 
+  sweep_shown : {A : Type 0} (x : Sweeper) (at : Swept) (r : Revision) → shown_sweep x at ≡ Writing r → A
+  sweep_shown x swept.Root r h = never_task _ r h
+  sweep_shown x swept.Document r h = absurd (let never : Passing x.target ≡ Writing r = h in cc)
+  sweep_shown x swept.Publish r h = absurd (let never : Passing x.target ≡ Writing r = h in cc)
+  sweep_shown x swept.Learn r h = absurd (let never : Sweeping x.target ≡ Writing r = h in cc)
+  sweep_shown x swept.Done r h = absurd (let never : Passing x.target ≡ Writing r = h in cc)
+
   upkeep_shown : {A : Type 0} (k : Upkeep) (r : Revision) → shown_upkeep k ≡ Writing r → A
   upkeep_shown upkeep.Write r h = never_task _ r h
   upkeep_shown (upkeep.Noted n) r h = absurd (let never : Publishing n.upto ≡ Writing r = h in cc)
   upkeep_shown (upkeep.Publish b) r h = absurd (let never : Publishing b.upto ≡ Writing r = h in cc)
   upkeep_shown (upkeep.Read b) r h = read_shown b (stage_of_read b) r h
+  upkeep_shown upkeep.Sweep r h = never_task _ r h
+  upkeep_shown (upkeep.Sweeping x) r h = sweep_shown x (sweeping.stage_of x) r h
   upkeep_shown (upkeep.Checkpoint i) r h = never_task _ r h
   upkeep_shown (upkeep.Release i) r h = never_task _ r h
   upkeep_shown (upkeep.Attach i) r h = never_task _ r h
