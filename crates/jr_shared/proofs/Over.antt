@@ -8,7 +8,7 @@ use Rattle.oak_step.specs.declared.upkeep.Upkeep.TheVariants as upkeep
 use Rattle.oak_step.specs.declared.work.Work.{Work}
 use Rattle.oak_step.specs.declared.work.Work.TheVariants as work
 use Rattle.oak_world.specs.Left.{commit_left, steps_left, upkeep_left}
-use Rattle.oak_world.proofs.Sweepers.{some_sweep_left}
+use Rattle.oak_world.proofs.Sweepers.{some_passes_left}
 
 -- a commit always has a step left
 going : (w : State) (c : Committing) (o : Option CommitEnd) → commit_left w.table c o ≡ 0 → ⊥
@@ -34,7 +34,7 @@ none_left s w u (work.Upkeep k) h = by k h
     by (upkeep.Publish b) h = h
     by (upkeep.Read b) h = h
     by upkeep.Sweep h = absurd (omega (arith, h))
-    by (upkeep.Sweeping x) h = let some = some_sweep_left w.table x in absurd (omega (arith, h, some))
+    by (upkeep.Sweeping x) h = let some = some_passes_left w.table x in absurd (omega (arith, h, some))
     by (upkeep.Checkpoint i) h = h
     by (upkeep.Release i) h = h
     by (upkeep.Attach i) h = h

@@ -59,10 +59,10 @@ use Rattle.oak_world.proofs.Reading.{read_lowers}
 use Rattle.oak_world.proofs.States.{actor_set}
 use Rattle.oak_world.specs.Kept.{EndsInRoot, IsLooking, IsWorld, May, MayKeepUp}
 use Rattle.oak_world.proofs.Looking.{left_found, left_written, once_alone, once_found, once_written, once_wrote, outcome_found, outcome_written, update_previous, written_found, written_written}
-use Rattle.oak_world.specs.Left.{changes_left, commit_left, learn_left, left_in, looked_in, looks_left, marks_left, names_in, reads_left, steps_left, sweep_left, updates_left, upkeep_left, writes_left}
+use Rattle.oak_world.specs.Left.{changes_left, commit_left, learn_left, left_in, looked_in, looks_left, marks_left, names_in, reads_left, steps_left, passes_left, updates_left, upkeep_left, writes_left}
 use Rattle.oak_world.specs.Steps.{BeginsBackWrite, MakesBackRead, MakesBackWrite, MakesCommit, MakesState, MakesSweep, MakesUpdate, MakesUpkeep, MayUpdate, PassesTo, StepsIn}
 use Rattle.oak_world.specs.Worlds.{ActorState, WorldOf, idle, live, look_through, once_looked, running_as, state_of, work_in}
-use Rattle.oak_world.proofs.Sweepers.{IsLookingFor, learn_left_one, look_lowers, publish_left, some_sweep_left, sweep_told}
+use Rattle.oak_world.proofs.Sweepers.{IsLookingFor, learn_left_one, look_lowers, publish_left, some_passes_left, sweep_told}
 
 -- ---- basics
 
@@ -487,34 +487,34 @@ module _ (s : ℕ) (w u : State) (m n : NodeState) (x : Work) where
   learn_less b answers.Memory h = some_less (learning.stage_of b) h.1
   learn_less b _ h = absurd h
 
-  sweep_less : IsTable w.table.documents → (y : Sweeper) (o : StepOut) → MakesSweep s w y u x o → now < sweep_left w.table y
+  sweep_less : IsTable w.table.documents → (y : Sweeper) (o : StepOut) → MakesSweep s w y u x o → now < passes_left w.table y
   sweep_less table y (answers.Went kind.Sweep) h = by (sweeping.stage_of y) refl h.0
     where
-      next : now ≡ sweep_left u.table (swept_on w.table y)
+      next : now ≡ passes_left u.table (swept_on w.table y)
       next = ap (steps_left s u.table n) h.1
 
       -- a document is looked for
-      looked : IsLookingFor (sweeping.stage_of y) → u.table ≡ w.table → now < sweep_left w.table y
+      looked : IsLookingFor (sweeping.stage_of y) → u.table ≡ w.table → now < passes_left w.table y
       looked looks same =
-          let z : now ≡ sweep_left w.table (swept_on w.table y) = next ∙ ap (λ (t : Table). sweep_left t (swept_on w.table y)) same in
+          let z : now ≡ passes_left w.table (swept_on w.table y) = next ∙ ap (λ (t : Table). passes_left t (swept_on w.table y)) same in
           let lower = look_lowers w.table table y looks in
           omega (arith, z, lower)
 
       -- the root is told
-      told : sweeping.stage_of y ≡ swept.Publish → now < sweep_left w.table y
+      told : sweeping.stage_of y ≡ swept.Publish → now < passes_left w.table y
       told at =
           let z : now ≡ 1 = next ∙ learn_left_one u.table (swept_on w.table y) (sweep_told w.table y at).0 in
           let was = publish_left w.table y at in
           omega (arith, z, was)
 
-      by : (z : Swept) → sweeping.stage_of y ≡ z → PassesTo s w y z u → now < sweep_left w.table y
+      by : (z : Swept) → sweeping.stage_of y ≡ z → PassesTo s w y z u → now < passes_left w.table y
       by swept.Root at to = looked (subst IsLookingFor (sym at) tt) (ap (λ (v : State). v.table) to)
       by swept.Document at to = looked (subst IsLookingFor (sym at) tt) (ap (λ (v : State). v.table) to)
       by swept.Publish at to = told at
       by swept.Learn at to = absurd to
       by swept.Done at to = absurd to
-  sweep_less table y (answers.Ready (ends.Swept r)) h = let z : now ≡ 0 = ap (steps_left s u.table n) h.3 in let some = some_sweep_left w.table y in omega (arith, z, some)
-  sweep_less table y answers.Memory h = let z : now ≡ 0 = ap (steps_left s u.table n) h.1 in let some = some_sweep_left w.table y in omega (arith, z, some)
+  sweep_less table y (answers.Ready (ends.Swept r)) h = let z : now ≡ 0 = ap (steps_left s u.table n) h.3 in let some = some_passes_left w.table y in omega (arith, z, some)
+  sweep_less table y answers.Memory h = let z : now ≡ 0 = ap (steps_left s u.table n) h.1 in let some = some_passes_left w.table y in omega (arith, z, some)
   sweep_less table y _ h = absurd h
 
   upkeep_less : IsTable w.table.documents → (k : Upkeep) → IsGoing k → (o : StepOut) → MakesUpkeep s w k u x o → now < upkeep_left w.table (memory_of w s) k
@@ -627,7 +627,7 @@ over starts past s t m (work.Upkeep u) may h = absurd (by u (rooted starts t pas
         at syncing.Learn h = omega (arith, h)
         at syncing.Done h = omega (arith, h)
     by upkeep.Sweep g h = omega (arith, h)
-    by (upkeep.Sweeping x) g h = let some = some_sweep_left t x in omega (arith, h, some)
+    by (upkeep.Sweeping x) g h = let some = some_passes_left t x in omega (arith, h, some)
     by (upkeep.Checkpoint i) g h = omega (arith, h)
     by (upkeep.Release i) g h = omega (arith, h)
     by (upkeep.Attach i) g h = omega (arith, h)

@@ -52,7 +52,7 @@ use Rattle.core_world.proofs.Backs.{told_now}
 use Rattle.core_world.proofs.Sweeps.{published_later, sweep_learned, target_is}
 use Rattle.core_world.proofs.Whole.{layers_of}
 use Rattle.oak_step.specs.Parts.{after_ask, replied, sweep_event, swept_on}
-use Rattle.oak_world.specs.Left.{documents_behind, sweep_left}
+use Rattle.oak_world.specs.Left.{documents_behind, passes_left}
 use Rattle.oak_world.proofs.Observing.{behind_first}
 use Rattle.oak_world.proofs.Reading.{ids_known}
 
@@ -184,21 +184,21 @@ module _ (t : Table) (table : IsTable t.documents) where
           fewer_behind (id.Node p) (id.Node q) less (keys_of t.documents) (ids_known t.documents (id.Node q) there)
 
   -- a sweep that finds a document, with fewer behind it, or none
-  lowered : (x : Sweeper) (n : ℕ) (o : Option Path) → ((q : Path) → o ≡ Some q → documents_behind t q < n) → sweep_left t (node_passed x o) < n + 3
-  lowered x n None few = let z : sweep_left t (node_passed x None) ≡ 2 = refl in omega (arith, z)
+  lowered : (x : Sweeper) (n : ℕ) (o : Option Path) → ((q : Path) → o ≡ Some q → documents_behind t q < n) → passes_left t (node_passed x o) < n + 3
+  lowered x n None few = let z : passes_left t (node_passed x None) ≡ 2 = refl in omega (arith, z)
   lowered x n (Some q) few =
-      let z : sweep_left t (node_passed x (Some q)) ≡ documents_behind t q + 3 = refl in
+      let z : passes_left t (node_passed x (Some q)) ≡ documents_behind t q + 3 = refl in
       let less = few q refl in
       omega (arith, z, less)
 
   -- a look lowers the number
-  pub look_lowers : (x : Sweeper) → IsLookingFor (stage_of x) → sweep_left t (swept_on t x) < sweep_left t x
+  pub look_lowers : (x : Sweeper) → IsLookingFor (stage_of x) → passes_left t (swept_on t x) < passes_left t x
   look_lowers x = by x.alloc x.cluster x.target x.step
     where
-      by : (a : Global) (k : ℕ) (r : Revision) (y : Step) → IsLookingFor (stage_of (sweeper a k r y)) → sweep_left t (swept_on t (sweeper a k r y)) < sweep_left t (sweeper a k r y)
+      by : (a : Global) (k : ℕ) (r : Revision) (y : Step) → IsLookingFor (stage_of (sweeper a k r y)) → passes_left t (swept_on t (sweeper a k r y)) < passes_left t (sweeper a k r y)
       by a k r step.Root h =
-          let z : sweep_left t (swept_on t (sweeper a k r step.Root)) ≡ length t.documents + 3 = refl in
-          let was : sweep_left t (sweeper a k r step.Root) ≡ length t.documents + 4 = refl in
+          let z : passes_left t (swept_on t (sweeper a k r step.Root)) ≡ length t.documents + 3 = refl in
+          let was : passes_left t (sweeper a k r step.Root) ≡ length t.documents + 4 = refl in
           omega (arith, z, was)
       by a k r step.First h = lowered (sweeper a k r step.First) (length t.documents) (node_found (found_first t)) first_fewer
       by a k r (step.Behind p) h = lowered (sweeper a k r (step.Behind p)) (documents_behind t p) (node_found (found_behind t p)) (next_fewer p)
@@ -207,10 +207,10 @@ module _ (t : Table) (table : IsTable t.documents) where
       by a k r step.Done h = absurd h
 
 -- two steps are left of a sweep that tells the root, and one of one whose memory is to learn
-pub publish_left : (t : Table) (x : Sweeper) → stage_of x ≡ stage.Publish → sweep_left t x ≡ 2
+pub publish_left : (t : Table) (x : Sweeper) → stage_of x ≡ stage.Publish → passes_left t x ≡ 2
 publish_left t x = by x.alloc x.cluster x.target x.step
   where
-    by : (a : Global) (k : ℕ) (r : Revision) (y : Step) → stage_of (sweeper a k r y) ≡ stage.Publish → sweep_left t (sweeper a k r y) ≡ 2
+    by : (a : Global) (k : ℕ) (r : Revision) (y : Step) → stage_of (sweeper a k r y) ≡ stage.Publish → passes_left t (sweeper a k r y) ≡ 2
     by a k r step.Publish at = refl
     by a k r step.Root at = cc
     by a k r step.First at = cc
@@ -218,10 +218,10 @@ publish_left t x = by x.alloc x.cluster x.target x.step
     by a k r step.Learn at = cc
     by a k r step.Done at = cc
 
-pub learn_left_one : (t : Table) (x : Sweeper) → stage_of x ≡ stage.Learn → sweep_left t x ≡ 1
+pub learn_left_one : (t : Table) (x : Sweeper) → stage_of x ≡ stage.Learn → passes_left t x ≡ 1
 learn_left_one t x = by x.alloc x.cluster x.target x.step
   where
-    by : (a : Global) (k : ℕ) (r : Revision) (y : Step) → stage_of (sweeper a k r y) ≡ stage.Learn → sweep_left t (sweeper a k r y) ≡ 1
+    by : (a : Global) (k : ℕ) (r : Revision) (y : Step) → stage_of (sweeper a k r y) ≡ stage.Learn → passes_left t (sweeper a k r y) ≡ 1
     by a k r step.Learn at = refl
     by a k r step.Root at = cc
     by a k r step.First at = cc
@@ -230,10 +230,10 @@ learn_left_one t x = by x.alloc x.cluster x.target x.step
     by a k r step.Done at = cc
 
 -- some step is left
-pub some_sweep_left : (t : Table) (x : Sweeper) → 0 < sweep_left t x
-some_sweep_left t x = by x.alloc x.cluster x.target x.step
+pub some_passes_left : (t : Table) (x : Sweeper) → 0 < passes_left t x
+some_passes_left t x = by x.alloc x.cluster x.target x.step
   where
-    by : (a : Global) (k : ℕ) (r : Revision) (y : Step) → 0 < sweep_left t (sweeper a k r y)
+    by : (a : Global) (k : ℕ) (r : Revision) (y : Step) → 0 < passes_left t (sweeper a k r y)
     by a k r step.Root = omega arith
     by a k r step.First = omega arith
     by a k r (step.Behind p) = omega arith

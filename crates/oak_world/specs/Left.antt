@@ -198,8 +198,8 @@ learn_left _ = 1
 
 -- how many steps of a sweep are left at most: the root's read, one for each document that it has
 -- still to pass, the look behind the last one, the root's update, and the learning
-abbrev pub sweep_left : Table → Sweeper → ℕ
-sweep_left t x = by x.step
+abbrev pub passes_left : Table → Sweeper → ℕ
+passes_left t x = by x.step
   where
     by : SweepStep → ℕ
     by passing.Root = length t.documents + 4
@@ -216,7 +216,7 @@ upkeep_left t m (upkeep.Noted n) = suc (names_in n.paths)
 upkeep_left t m (upkeep.Publish b) = length b.paths - b.written
 upkeep_left t m (upkeep.Read b) = learn_left (stage_of b)
 upkeep_left t m upkeep.Sweep = length t.documents + 4
-upkeep_left t m (upkeep.Sweeping x) = sweep_left t x
+upkeep_left t m (upkeep.Sweeping x) = passes_left t x
 upkeep_left t m upkeep.Detach = 2
 upkeep_left t m _ = 1
 
