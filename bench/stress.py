@@ -22,7 +22,7 @@ def session(number, turns):
     node = "/shared" if number % 2 else "/s%d" % number
     calls = [["add", node], ["save"]]
     for i in range(turns):
-        calls += [["refresh"], ["set", node, "p", i], ["save"], ["get", node + "/p"]]
+        calls += [["refresh", True], ["set", node, "p", i], ["save"], ["get", node + "/p"]]
     return {"cluster": 1 + number % 4, "commands": calls}
 
 

@@ -16,8 +16,8 @@ SeesTrees law clusters sessions begin = (past : Past)
     → IsRunOf (starts_of law) (says_of law) clusters sessions begin past → (s : ℕ) (v : RevVec)
     → base_of past s ≡ Some v → IsTree (tree_at begin past v)
 
--- in each run of the law that begins so, the tree that a session sees at its base meets the rules of
--- the law's types
+-- in each run of the law that begins so, the tree that a session sees at its base meets the rules
+-- of the law's types
 abbrev pub SeesTyped : JcrLaw → (clusters : ℕ) → (sessions : List ℕ) → Begin → Type 0
 SeesTyped law clusters sessions begin = (past : Past)
     → IsRunOf (starts_of law) (says_of law) clusters sessions begin past → (s : ℕ) (v : RevVec)

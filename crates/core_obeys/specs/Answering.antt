@@ -67,7 +67,7 @@ pub data AnswersEdit (h : History) (s : ℕ) (m : Command) (c : Call)
     : List ℕ → Type 0 where
   -- the command refuses
   refusing : (r : Refusal) → edit_due c m ≡ Some (Err r) → AnswersEdit h s m c (no_text r)
-  -- its edit is no plan
+  -- the command's edit is no plan
   unplanned : (ws : List Write) (r : Refusal) → edit_due c m ≡ Some (Ok ws)
       → NoPlan c.types c.base c.state.tokens ws r → AnswersEdit h s m c (no_text r)
   -- there is nothing to write
@@ -105,7 +105,7 @@ pub data MovedFor (law : JcrLaw) (h : History) (s : ℕ) : Command → List ℕ 
 
 -- what is so where s says the text as its reply of that index
 pub record HasReason (law : JcrLaw) (h : History) (s i : ℕ) (text : List ℕ) : Type 0 where
-  -- it answers the next command of s, and has a cause by the law
+  -- the text answers the next command of s, and has a cause by the law
   pub place : i ≡ next_index h.past s
   pub command : Command
   pub next : command_at law s i ≡ Some command

@@ -31,7 +31,7 @@ pub record Obeys (law : JcrLaw) (h : History) : Type 0 where
       (tokens_at_draw (tokens_by law) h r d.session) d.edit.writes
   pub references : IsTidy h.begin h.past → ReferencesOk (tree_by_commits h.begin h.past)
 
--- so the history was at each time
+-- at each time the history obeyed the rules
 abbrev pub ObeysThroughout : JcrLaw → History → Type 0
 ObeysThroughout law h = (later past : Past) → later ++ past ≡ h.past
     → Obeys law (record h { past = past })

@@ -34,8 +34,8 @@ pub use product::{
 };
 
 /// After each commit the tree of all commits meets the rules of node types, at each node and item
-/// (JSR 283, 3.7 Node Types). So does what a closed vector sees, and with it what a session sees at
-/// its base.
+/// (JSR 283, 3.7 Node Types). What a closed vector sees meets them too, and with it what a session
+/// sees at its base.
 pub fn commits_obey_types<L: Law>(law: &L)
     ensures order { (types : List TypeDef) (tokens : Tokens) (h : History)
         → IsObeyingRun types tokens (L.may_start law.now) (L.may_say law.now) h
@@ -68,8 +68,8 @@ pub fn commits_keep_references<L: Law>(law: &L)
         → IsTidy h.begin h.past → ReferencesOk (tree_by_commits h.begin h.past) }
 {}
 
-/// A plan marks the parent of each node that it adds or removes. So a law that lets only plans
-/// start merges trees.
+/// A plan marks the parent of each node that it adds or removes. Where a law lets only plans
+/// start, it merges trees.
 pub fn plans_mark_parents()
     ensures { (types : List TypeDef) (tokens : List (List ℕ)) (t : Nodes) (edit : Edit)
         (marks : List MarkAt) → PlanOk types t tokens edit.writes marks

@@ -20,7 +20,7 @@ abbrev pub ShowsRows : List TypeDef → Nodes → Query → List ℕ → Type 0
 ShowsRows types tree q text = (rows : List Row)
     × AreRows q (map (subtypes types) q.types) tree rows × (text ≡ ok_text (rows_data rows))
 
--- it tells the first selector's type that nobody registered, or shows the rows
+-- a query's reply tells the first selector's type that nobody registered, or shows the rows
 abbrev pub AnswersFor : Option Name → List TypeDef → Nodes → Query → List ℕ → Type 0
 AnswersFor (Some n) types tree q text = text ≡ no_text (no_type n)
 AnswersFor None types tree q text = ShowsRows types tree q text
@@ -30,7 +30,7 @@ AnswersFor None types tree q text = ShowsRows types tree q text
 abbrev pub AnswersQuery : List TypeDef → Nodes → Query → List ℕ → Type 0
 AnswersQuery types tree q text = AnswersFor (unknown_selector types q) types tree q text
 
--- it answers what a query's text was read as: a query, or why it is none
+-- a reply answers what a query's text was read as: a query, or why it is none
 abbrev pub AnswersRead : List TypeDef → Nodes → Result Query SqlFault → List ℕ → Type 0
 AnswersRead types tree (Ok q) text = AnswersQuery types tree q text
 AnswersRead types tree (Err (fault.InvalidQuery offset)) text = text ≡ no_text (no_query offset)

@@ -46,8 +46,8 @@ pub struct Accepted {
 
 /// What a command comes to by what is due for it (JSR 283, 10.11 Saving): a reply, where that is a
 /// refusal, has nothing to write, isn't proper or can't be planned; else a plan. Of the tree after
-/// the edit, the rules of types and the references there it looks at what the edit touches alone, as
-/// far as the footing is assured of the tree before it.
+/// the edit, the rules of types and the references there it looks at what the edit touches alone,
+/// as far as the footing is assured of the tree before it.
 pub fn come(
     alloc: Global,
     footing: &Footing<'_>,

@@ -17,9 +17,9 @@ use jr_value::Property;
 use std::alloc::{AllocError, Global};
 use std::collections::BTreeSet;
 
-/// Whether an edit is proper on a tree: the tree after it, which the caller lends, is one, it writes
-/// each item once and changes it, and it unsets each property of a node that goes (JSR 283, 10.11
-/// Saving). Where the tree before is known to be one, it looks only at what is written.
+/// Whether an edit is proper on a tree: the tree after it, which the caller lends, is one, it
+/// writes each item once and changes it, and it unsets each property of a node that goes (JSR 283,
+/// 10.11 Saving). Where the tree before is known to be one, it looks only at what is written.
 pub fn is_proper(
     alloc: Global,
     known: bool,
@@ -82,7 +82,8 @@ fn is_change(old: &Tree, new: &Edited<'_>, write: &Write) -> bool
 
 // Whether the property is there, and the same as this one.
 fn is_same(found: Option<&Property>, property: &Property) -> bool
-    ensures { result ≡ option_map_or (same_property property.now) (option_copied found.entry) false }
+    ensures { result
+        ≡ option_map_or (same_property property.now) (option_copied found.entry) false }
 {
     match found {
         Some(found) => property == found,

@@ -29,7 +29,7 @@ pub fn cause_text(alloc: Global, refusal: &Refusal) -> Result<String, AllocError
     refusal_text(alloc, refusal)
 }
 
-// The same of a refusal that nobody needs any more.
+// The text of a cause, of a refusal that nobody needs any more.
 pub(crate) fn cause_told(alloc: Global, refusal: Refusal) -> Result<String, AllocError>
     ensures { IfOk result (λ text. ¬ (refusal ≡ out_of_memory)
         × (string_bytes text ≡ no_text refusal)) }

@@ -53,7 +53,8 @@ fn are_rooted(tree: &Edited<'_>, writes: &[Write]) -> Result<bool, AllocError>
     Ok(true)
 }
 
-// Whether the node at a path stands with its parent, or doesn't stand, and none right below it does.
+// Whether the node at a path stands with its parent, or doesn't stand, and none right below it
+// does.
 fn is_rooted(tree: &Edited<'_>, path: &Path) -> Result<bool, AllocError>
     ensures { IfOk result (λ b. b ≡ is_rooted tree.now path.now) }
 {
@@ -79,8 +80,8 @@ fn is_tree(alloc: Global, tree: &Edited<'_>) -> Result<bool, AllocError>
     rooted
 }
 
-// Its paths stand in order, and so do the names of each node's properties. It does nothing: callers
-// learn the facts.
+// A tree's paths stand in order, and so do the names of each node's properties. The call does
+// nothing: callers learn the facts.
 fn know_order(tree: &Tree)
     ensures paths { is_sorted path_cmp tree.now ≡ true }
     ensures names { has_names_in_order tree.now ≡ true }

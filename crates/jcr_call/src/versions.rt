@@ -29,7 +29,8 @@ pub(crate) fn version_told(
     version_of(alloc, tree, path, id.as_str())
 }
 
-// The same, by the node's identifier.
+// The name of the version that a check-in of a node makes, or of its base version, by the node's
+// identifier.
 fn version_of(alloc: Global, tree: &Tree, path: &Path, id: &str) -> Result<Option<Name>, AllocError>
     requires { id.now ≡ identifier_of tree.now path.now }
     ensures { IfOk result (λ name. name ≡ checked_in_version tree.now path.now) }
@@ -42,7 +43,8 @@ fn version_of(alloc: Global, tree: &Tree, path: &Path, id: &str) -> Result<Optio
     }
 }
 
-// The same of a node whose identifier is a name.
+// The name of the version that a check-in of a node makes, or of its base version, where the node's
+// identifier is a name.
 fn version_by(
     alloc: Global,
     tree: &Tree,
@@ -57,7 +59,8 @@ fn version_by(
     checked_in_version(alloc, tree, path, &history)
 }
 
-// The same of a node whose identifier is none, so that it has no versions.
+// The name of the version that a check-in of a node makes, where the node's identifier is no name,
+// so that it has no versions.
 fn first_version(
     alloc: Global,
     tree: &Tree,
@@ -76,7 +79,7 @@ fn first_version(
 }
 
 // No node has a text as its name that isn't in the grammar of names, and so no node stands below
-// one. It changes nothing: callers learn the fact.
+// one. The call changes nothing: callers learn the fact.
 fn know_childless(tree: &Tree, id: &str)
     requires { ¬ (IsName id.now) }
     ensures { children_of tree.now (child_path version_storage id.now) ≡ [] }

@@ -1,6 +1,6 @@
 -- The causes of a reply by commands: those that every command may have, those by which the base
--- moves, and those for which it stays. Where they give one reply at most, it is named: a text is said
--- for them where it is that reply.
+-- moves, and those for which it stays. Where they give one reply at most, it is named: a text is
+-- said for them where it is that reply.
 use Rattle.std.specs.Prelude.{◌≡◌, ◌⊎◌, ℕ, Bool, false, cond, not, ◌&&◌, List, slice_get, Option, None, Some, is_none, option_and_then, option_map, IsTrue}
 use Rattle.std.specs.Option.{option_map_or}
 use Rattle.jr_rev.specs.Vectors.{sees}
@@ -67,7 +67,8 @@ abbrev pub is_begun_there : History → ℕ → Draw → Bool
 is_begun_there h s d =
     option_map_or (λ v. same_vector v d.base) (base_of (before_turn h.past s) s) false
 
--- such a draw has ended, is committed, and the base of s moved to a vector that sees it
+-- a draw at the base at which the command of s began has ended, is committed, and the base of s
+-- moved to a vector that sees it
 abbrev pub is_seen_commit : History → ℕ → Draw → Bool
 is_seen_commit h s d = is_begun_there h s d
     && ((is_ended h.past d.revision && is_committed h.past d.revision)
@@ -86,7 +87,8 @@ committed_reply law h s m = option_and_then (reply_to_draw law h s m) (draw_sinc
 -- the reply where the commit was refused for a clash
 abbrev pub clash_reply : History → ℕ → Option (List ℕ)
 clash_reply h s = option_and_then (λ r. cond (is_ended h.past r)
-    (option_map (λ x. no_text (clash_refusal x.0 x.1)) (refusal_of h.past r)) None) (drawn_since h.past s)
+    (option_map (λ x. no_text (clash_refusal x.0 x.1)) (refusal_of h.past r)) None)
+    (drawn_since h.past s)
 
 -- a command that commits isn't committed, or was refused for a clash
 abbrev pub UncommittedCause : JcrLaw → History → ℕ → Command → List ℕ → Type 0

@@ -216,7 +216,7 @@ fn is_begun_there(journal: &Journal, session: u32, draw: &Draw) -> bool
     }
 }
 
-// Whether such a draw is committed, and the base sees it.
+// Whether a draw at the base at which the command began is committed, and the base sees it.
 fn is_seen_commit(journal: &Journal, session: u32, draw: &Draw) -> bool
     ensures { result ≡ is_seen_commit (history_of journal.now) session draw.now }
 {
@@ -299,7 +299,7 @@ fn clash_reply(alloc: Global, journal: &Journal, session: u32) -> Result<Option<
     }
 }
 
-// The same, by the revision that was drawn.
+// The reply that tells of the clash, by the revision that was drawn.
 fn ended_clash(alloc: Global, journal: &Journal, r: Revision) -> Result<Option<String>, AllocError>
     ensures { let h = history_of journal.now in IfOk result (λ reply. option_map string_bytes reply
         ≡ cond (is_ended h.past r)

@@ -106,7 +106,8 @@ fn events_after(
     cursor: &Cursor,
 ) -> Result<Vec<JcrEvent>, AllocError>
     ensures { let h = history_of journal.now in IfOk result (λ shown. shown.items
-        ≡ observed_events cursor.now.filter (changes_between h.begin h.past cursor.now.at base.now)) }
+        ≡ observed_events cursor.now.filter
+        (changes_between h.begin h.past cursor.now.at base.now)) }
 {
     let past = journal.events.as_slice();
     let changes = changes_between(alloc, &journal.start, past, &cursor.at, base)?;

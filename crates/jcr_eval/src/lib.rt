@@ -1,5 +1,5 @@
 //! Whether the law lets a text be said, by plain calls that go over a whole journal for each of its
-//! events. They are slow, and say exactly what the law says: tests of sessions and of the law
+//! events. The calls are slow, and say exactly what the law says: tests of sessions and of the law
 //! itself stand on them.
 #![tactic(auto)]
 

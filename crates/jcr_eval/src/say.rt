@@ -26,8 +26,8 @@ use oak_machine::Journal;
 use oak_past::{base_of, drawn_since, is_attached, is_committed, is_drawing};
 use std::alloc::{AllocError, Global};
 
-/// Whether the law lets a text be said as the reply of that index of a session at a journal. It
-/// goes over the whole journal for each of its events.
+/// Whether the law lets a text be said as the reply of that index of a session at a journal. The
+/// whole journal is gone over for each of its events.
 #[tactic(auto, using(crate::proofs::Causes::says_by_command, crate::proofs::Causes::says_nothing))]
 pub fn eval(
     alloc: Global,
@@ -292,8 +292,8 @@ fn viewed_says(
     }
 }
 
-// Whether a text is a reply of a command's own, beside the view's, those of commits and those behind
-// the move of the base.
+// Whether a text is a reply of a command's own, beside the view's, those of commits and those
+// behind the move of the base.
 fn own_says(
     alloc: Global,
     law: &JcrLaw,

@@ -1,5 +1,5 @@
-// What the commands of the cluster, queries and those of observation may be answered with, where the
-// base hasn't moved.
+// What the commands of the cluster, queries and those of observation may be answered with, where
+// the base hasn't moved.
 ghost use Rattle.std.specs.Prelude.{◌≡◌, ◌↔◌, ◌+◌, ◌||◌, IfErr, IfOk, IsTrue, None, OnOk, false, reverse, slice_get};
 ghost use Rattle.std.specs.Option.{option_map_or};
 ghost use Rattle.jr_items.specs.Refusals.{IsTheRefusal, no_checkpoint, unsupported};

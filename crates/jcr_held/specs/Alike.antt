@@ -17,8 +17,8 @@ pub record AreAlike (x y : Held) : Type 0 where
   pub tokens : y.tokens ≡ x.tokens
   pub cursor : y.cursor ≡ x.cursor
 
--- only what is pending changes, and whether it is kept from an earlier base; of the references of the
--- tree at the base it may be asked, where it wasn't yet
+-- only what is pending changes, and whether it is kept from an earlier base; of the references of
+-- the tree at the base it may be asked, where it wasn't yet
 pub record Readies (old new : Held) : Type 0 where
   pub types : new.types ≡ old.types
   pub who : new.who ≡ old.who
@@ -27,8 +27,8 @@ pub record Readies (old new : Held) : Type 0 where
   pub tokens : new.tokens ≡ old.tokens
   pub cursor : new.cursor ≡ old.cursor
 
--- the base is at a vector, of whose tree nothing is known, nor of its references; what is pending is
--- kept
+-- the base is at a vector, of whose tree nothing is known, nor of its references; what is pending
+-- is kept
 abbrev pub moved_to : Held → RevVec → Held
 moved_to x v = record x {
   who = record x.who { base = v };
@@ -37,6 +37,6 @@ moved_to x v = record x {
   references = references.Unasked;
 }
 
--- so many identifiers more, up to the limit
+-- what is held where the session has drawn a number of identifiers more, up to the limit
 abbrev pub with_drawn : Held → ℕ → Held
 with_drawn x n = record x { who = record x.who { ids = min (x.who.ids + n) 16777215 } }

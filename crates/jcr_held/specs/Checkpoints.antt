@@ -10,8 +10,8 @@ use Rattle.jcr_law.specs.State.{next_id}
 use Rattle.jcr_held.specs.declared.checkpoints.NextCheckpoint.{NextCheckpoint}
 use Rattle.jcr_held.specs.declared.checkpoints.NextCheckpoint.TheVariants as next
 
--- it has the next identifier of the session, which hasn't drawn all, and the reply that shows it;
--- or the reply that the session has drawn all its identifiers
+-- what a `checkpoint` begins with has the next identifier of the session, which hasn't drawn all,
+-- and the reply that shows it; or the reply that the session has drawn all its identifiers
 abbrev pub IsNextOf : Who → NextCheckpoint → Type 0
 IsNextOf who (next.Named id reply) =
     (too_many_ids (who.ids + 1) ≡ None) × (id ≡ next_id who)

@@ -8,7 +8,8 @@ use Rattle.jr_part.specs.Parts.{AgreesWith, Knowledge, LacksNothing, nothing_kno
 use Rattle.jr_part.specs.declared.need.Need.TheVariants as need
 
 -- what is known follows an edit by a revision: the whole tree is known still, or nothing is
-pub record FollowsEdit (old new : Knowledge) (by : Revision) (ws : List Write) (is_whole : Bool) : Type 0 where
+pub record FollowsEdit (old new : Knowledge) (by : Revision) (ws : List Write)
+    (is_whole : Bool) : Type 0 where
   pub whole : IsTrue is_whole → LacksNothing new need.All
   pub nothing : IsFalse is_whole → new ≡ nothing_known
   pub agrees : (t : Nodes) → IsTree t → IsProper t ws → AgreesWith t old

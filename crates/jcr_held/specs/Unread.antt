@@ -13,8 +13,8 @@ use Rattle.jcr_law.specs.State.{Call}
 use Rattle.jcr_held.specs.declared.held.Held.{Held}
 use Rattle.jcr_held.specs.Looking.{touched_paths}
 
--- the paths that may be read before what is kept from an earlier base is made again: those asked for,
--- and the touched ones with those above them
+-- the paths that may be read before what is kept from an earlier base is made again: those asked
+-- for, and the touched ones with those above them
 abbrev pub kept_paths : Held → List Path
 kept_paths x = cond x.is_kept
     (map need_path (needs_to_rebase (edit_of x.pending)) ++ touched_paths x.pending) []
@@ -23,8 +23,8 @@ kept_paths x = cond x.is_kept
 abbrev pub asked_paths : Call → Command → List Path
 asked_paths c m = cond (is_viewed m) (paths_named c.who (node_at c.state.view) m) ([] ∷ [])
 
--- all that may be loaded before the command: each node of the tree and its children, and the nodes at
--- these paths, there or not
+-- all that may be loaded before the command: each node of the tree and its children, and the nodes
+-- at these paths, there or not
 abbrev pub may_load : Call → Held → Command → List Need
 may_load c x m = loadable (kept_paths x ++ asked_paths c m) c.base
 

@@ -22,8 +22,8 @@ pub enum NextCheckpoint {
 }
 
 impl Held {
-    /// What a `checkpoint` of the session begins with (Oak, DocumentNodeStore: "Checkpoints"). It
-    /// draws no identifier yet: an accepted reply does.
+    /// What a `checkpoint` of the session begins with (Oak, DocumentNodeStore: "Checkpoints"). No
+    /// identifier is drawn yet: an accepted reply draws it.
     pub fn next_checkpoint(&self) -> Result<NextCheckpoint, AllocError>
         ensures { IfOk result (IsNextOf self.now.who) }
     {

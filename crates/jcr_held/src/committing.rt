@@ -27,10 +27,11 @@ use std::alloc::AllocError;
 impl Held {
     /// What a command that commits, and for which all is read, comes to before its commit: a reply,
     /// or a plan and its accepted reply (JSR 283, 10.11 Saving; 15 Versioning; 17 Locking). What is
-    /// pending is due for `save`. The tree at the base meets the rules of its types, so that its plan
-    /// goes over those nodes alone that the edit touches (3.7 Node Types); and over no REFERENCE that
-    /// the edit can't change, where each is known to name a node (3.8 Referential Integrity): as
-    /// `next_load` asked once at this base, or as the plan told of the edit that `follow` took.
+    /// pending is due for `save`. The tree at the base meets the rules of its types, so that its
+    /// plan goes over those nodes alone that the edit touches (3.7 Node Types); and over no
+    /// REFERENCE that the edit can't change, where each is known to name a node (3.8 Referential
+    /// Integrity): as `next_load` asked once at this base, or as the plan told of the edit that
+    /// `follow` took.
     pub fn come(&self, command: &Command) -> Result<Coming, AllocError>
         requires ready { IsReady self.now command.now }
         requires commits { IsTrue (commits command.now) }
@@ -67,8 +68,8 @@ impl Held {
         Ok(Some(Due::Edited(edit)))
     }
 
-    // What commands that commit are run on. Of the tree it is assured that it is one and meets the rules
-    // of its types, and that each REFERENCE names a node where that is known.
+    // What commands that commit are run on. Of the tree it is assured that it is one and meets the
+    // rules of its types, and that each REFERENCE names a node where that is known.
     fn footing(&self) -> Footing<'_>
         requires settled { IsFalse self.now.is_kept }
         requires known { LacksNothing self.now.part need.All }

@@ -45,7 +45,7 @@ pub struct Held {
     // What is known of the REFERENCEs of the tree at the base.
     pub(crate) references: References,
     pub(crate) tokens: List<Text>,
-    // Its cursor over the changes, where it observes.
+    // The session's cursor over the changes, where it observes.
     pub(crate) cursor: Option<Cursor>,
     // What is still to be looked at by loading, the next last.
     pub(crate) left: Vec<Place>,
@@ -77,7 +77,7 @@ impl Drop for Held {
 
 impl Held {
     /// What a session holds when it begins, with its number, how many sessions there were before
-    /// this run, and its base. It takes no memory.
+    /// this run, and its base. No memory is taken.
     pub fn new(alloc: Global, session: u32, earlier: u32, base: RevVec, types: Registry) -> Held
         ensures new { IsNewHeld result }
         ensures types { result.types ≡ types }
@@ -114,9 +114,9 @@ impl Held {
         self.who.base
     }
 
-    /// Moves the base to a vector, of whose tree and references nothing is known yet. What is pending is
-    /// kept, and made again over that tree before the next command that asks for something (JSR 283,
-    /// 10.11.4 Refresh). It takes no memory.
+    /// Moves the base to a vector, of whose tree and references nothing is known yet. What is
+    /// pending is kept, and made again over that tree before the next command that asks for
+    /// something (JSR 283, 10.11.4 Refresh). No memory is taken.
     pub fn move_to(&mut self, base: RevVec)
         ensures begins { (c : Call) → IsNewHeld self.old → IsFirstCall self.old base c
             → Holds c self.new }
@@ -131,11 +131,12 @@ impl Held {
         self.left.clear();
     }
 
-    /// Moves the base to a vector at which the tree is the one at the old base with an edit, as an own
-    /// commit by that revision leaves it, of which its plan told that each REFERENCE names a node. What
-    /// is known of the tree follows the edit, so that nothing is loaded again, and what is pending is
-    /// kept as by `move_to` (JSR 283, 10.11 Saving; 3.8 Referential Integrity). It answers whether the
-    /// whole tree is known still; where it wasn't, or memory is refused, no node of it is known.
+    /// Moves the base to a vector at which the tree is the one at the old base with an edit, as an
+    /// own commit by that revision leaves it, of which its plan told that each REFERENCE names a
+    /// node. What is known of the tree follows the edit, so that nothing is loaded again, and what
+    /// is pending is kept as by `move_to` (JSR 283, 10.11 Saving; 3.8 Referential Integrity).
+    /// Answers whether the whole tree is known still; where it wasn't, or memory is refused, no
+    /// node of it is known.
     pub fn follow(&mut self, base: RevVec, by: Revision, edit: &Edit) -> bool
         ensures whole { IsTrue result → LacksNothing self.new.part need.All }
         ensures nothing { IsFalse result → self.new.part ≡ nothing_known }
@@ -192,7 +193,7 @@ impl Held {
 
     /// A command that the view doesn't answer was accepted: `save`, and `refresh` with false, drop
     /// what is pending; `events` moves the cursor to the base. The tokens are those given, or else
-    /// they stay. It takes no memory.
+    /// they stay. No memory is taken.
     pub fn accept(&mut self, command: &Command, drew: bool, tokens: Option<List<Text>>)
         requires { IsFalse (is_viewed command.now) }
         ensures { (c : Call) → Holds c self.old → AcceptsAs self.old tokens c command.now
@@ -245,7 +246,7 @@ impl Held {
         }
     }
 
-    /// A command was refused, or memory was refused for it. It takes no memory.
+    /// A command was refused, or memory was refused for it. No memory is taken.
     pub fn refuse(&mut self, command: &Command, drew: bool)
         ensures { (c : Call) → Holds c self.old
             → Holds (call_after false drew c command.now) self.new }

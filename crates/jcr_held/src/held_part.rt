@@ -14,8 +14,8 @@ use jr_tree::{Edit, Node, Tree};
 use std::alloc::{AllocError, Global};
 use std::marker::Model;
 
-/// A part of the tree, with a note where nothing of the whole tree lacks, so that a command that asks
-/// for all of it goes over nothing. The note may be missing though nothing lacks.
+/// A part of the tree, with a note where nothing of the whole tree lacks, so that a command that
+/// asks for all of it goes over nothing. The note may be missing though nothing lacks.
 pub(crate) struct HeldPart {
     part: Part,
     is_whole: bool,
@@ -41,7 +41,7 @@ impl Model for HeldPart {
 }
 
 impl HeldPart {
-    // Nothing is known. It takes no memory.
+    // Nothing is known. No memory is taken.
     pub(crate) fn new(alloc: Global) -> HeldPart
         ensures { result ≡ nothing_known }
     {
@@ -67,15 +67,15 @@ impl HeldPart {
         self.part.whole()
     }
 
-    // Its nodes stand in path order. It does nothing: callers learn the fact.
+    // The nodes of a part stand in path order. The call does nothing: callers learn the fact.
     pub(crate) fn in_order(&self)
         ensures nodes { IsTrue (is_sorted path_cmp self.now.nodes) }
     {
         self.part.in_order();
     }
 
-    // Puts the node at a path, or that none is there. A refusal leaves all as it was. Where no node was
-    // known to be there and none is, the note stays.
+    // Puts the node at a path, or that none is there. A refusal leaves all as it was. Where no node
+    // was known to be there and none is, the note stays.
     pub(crate) fn put_node(&mut self, path: &Path, node: Option<Node>) -> Result<(), AllocError>
         ensures ok { OnOk result (self.new ≡ with_node self.old path.now node) }
         ensures err { OnErr result (self.new ≡ self.old) }
@@ -148,8 +148,8 @@ impl HeldPart {
         self.is_whole = true;
     }
 
-    // It follows an edit by a revision, where the whole tree is known. It answers whether that is known
-    // still; else nothing is.
+    // Follows an edit by a revision, where the whole tree is known. Answers whether the whole tree
+    // is known still; else nothing is.
     pub(crate) fn follow(&mut self, alloc: Global, edit: &Edit, by: Revision) -> bool
         ensures follows { FollowsEdit self.old self.new by edit.now.writes result }
         ensures order { IsTrue (is_sorted path_cmp self.new.nodes) }
@@ -172,7 +172,7 @@ impl HeldPart {
         }
     }
 
-    // The same where nothing lacks.
+    // Follows an edit by a revision, where nothing of the tree lacks.
     fn follow_whole(&mut self, edit: &Edit, by: Revision) -> bool
         requires { LacksNothing self.old need.All }
         ensures { FollowsEdit self.old self.new by edit.now.writes result }

@@ -207,8 +207,8 @@ impl Held {
         }
     }
 
-    // What to read next of some needs; None where nothing of them lacks. Where something lacks, they are
-    // left to be looked at.
+    // What to read next of some needs; None where nothing of them lacks. Where something lacks,
+    // they are left to be looked at.
     fn load_of(&mut self, needs: Vec<Need>) -> Result<Option<Need>, AllocError>
         ensures known { IfOk result (λ load. load ≡ None
             → All (LacksNothing self.new.part) needs.items) }

@@ -17,11 +17,12 @@ use std::alloc::{AllocError, Global};
 pub(crate) enum Place {
     // The node at a path.
     Node(Path),
-    // The children of the node at a path, from a place in their list on, and all that is below them.
+    // The children of the node at a path, from a place in their list on, and all that is below
+    // them.
     Below(Path, usize),
 }
 
-/// These needs are left to be looked at, and nothing else.
+/// Leaves needs to be looked at, and nothing else.
 pub(crate) fn leave_needs(
     alloc: Global,
     left: &mut Vec<Place>,
@@ -48,11 +49,11 @@ fn leave_place(left: &mut Vec<Place>, place: Place) -> Result<(), AllocError> {
     Ok(())
 }
 
-/// The next load of what is left to be looked at, of which it looks at the last first; None where none
-/// is left. A subtree is left until its node and its children are known, and then the subtrees of
-/// these are: each known node is looked at once. Where what is pending is kept, the touched nodes are
-/// looked at, and those above them. It looks at no more than 2^64 - 1 places; what is left by then is
-/// asked for anew.
+/// The next load of what is left to be looked at, of which it looks at the last first; None where
+/// none is left. A subtree is left until its node and its children are known, and then the subtrees
+/// of these are: each known node is looked at once. Where what is pending is kept, the touched
+/// nodes are looked at, and those above them. A load looks at no more than 2^64 - 1 places; what is
+/// left by then is asked for anew.
 pub(crate) fn load_left(
     part: &Part,
     pending: &Pending,

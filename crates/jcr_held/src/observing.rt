@@ -29,7 +29,7 @@ impl Held {
     }
 
     /// An `observe` was accepted: the session's cursor stands at the base, and lets the events pass
-    /// that the command asks for (JSR 283, 12.5 Asynchronous Observation). It takes no memory.
+    /// that the command asks for (JSR 283, 12.5 Asynchronous Observation). No memory is taken.
     pub fn observe(&mut self, command: &Command, filter: Filter)
         requires { IsFilterOf command.now filter }
         ensures { (c : Call) → Holds c self.old
@@ -40,8 +40,8 @@ impl Held {
         self.count(used(command, true, false));
     }
 
-    /// The reply that shows the events of these commits which the cursor lets pass; without a cursor
-    /// there are none.
+    /// The reply that shows the events of these commits which the cursor lets pass; without a
+    /// cursor there are none.
     pub fn events_reply(&self, commits: &[CommitChanges]) -> Result<String, AllocError>
         ensures { IfOk result (λ reply. string_bytes reply ≡ events_reply (option_map_or
             (λ (x : Standing). observed_events x.filter commits.now) self.now.cursor [])) }

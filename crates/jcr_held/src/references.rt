@@ -26,7 +26,7 @@ pub(crate) fn are_named(known: References) -> bool
     }
 }
 
-// Asks whether a REFERENCE of a tree dangles. It goes over all of the tree.
+// Asks whether a REFERENCE of a tree dangles. All of the tree is gone over.
 pub(crate) fn ask(alloc: Global, tree: &Tree) -> Result<References, AllocError>
     ensures { IfOk result (λ known. known ≡ references_by (dangling tree.now)) }
 {

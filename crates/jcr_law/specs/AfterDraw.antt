@@ -16,16 +16,18 @@ use Rattle.jcr_law.specs.Since.{stop_position}
 use Rattle.jcr_law.specs.State.{Call, call_of}
 use Rattle.jcr_law.specs.Tasks.{stopped_at}
 
--- once the draw d was made for the command m of s, its reply accepts the commit that was made, tells
--- of the clash for which it was refused, of the stop of the cluster node, or, where nothing was
--- committed, of want of memory
-pub data AfterDraw (law : JcrLaw) (h : History) (s : ℕ) (m : Command) (d : Draw) : List ℕ → Type 0 where
+-- once the draw d was made for the command m of s, its reply accepts the commit that was made,
+-- tells of the clash for which it was refused, of the stop of the cluster node, or, where nothing
+-- was committed, of want of memory
+pub data AfterDraw (law : JcrLaw) (h : History) (s : ℕ) (m : Command) (d : Draw) : List ℕ
+    → Type 0 where
   accepted : (c : Call) → IsTrue (is_committed h.past d.revision)
       → call_of law h.begin h.past s ≡ Some c → AfterDraw law h s m d
       (answer_text (committed_answer c (tree_at h.begin h.past d.base) d.revision m))
   clash_told : (item : Item) (o : Revision) → refusal_of h.past d.revision ≡ Some (item, o)
       → AfterDraw law h s m d (no_text (clash_refusal item o))
   stop_told : (k position : ℕ) → slice_get h.sessions s ≡ Some k
-      → stop_position h.past k ≡ Some position → AfterDraw law h s m d (no_text (stopped_at position))
+      → stop_position h.past k ≡ Some position
+      → AfterDraw law h s m d (no_text (stopped_at position))
   unmade : IsFalse (is_committed h.past d.revision)
       → AfterDraw law h s m d (no_text out_of_memory)

@@ -7,7 +7,7 @@ use Rattle.jcr_trans.specs.declared.command.Command.{Command}
 use Rattle.jcr_law.specs.declared.state.State.{State}
 use Rattle.jcr_law.specs.State.{Call, state_answered, moved}
 
--- the same with another state, whose count of identifiers the session then has
+-- a call with another state, whose count of identifiers the session then has
 abbrev pub with_state : Call → State → Call
 with_state c state = record c { who = record c.who { ids = state.ids }; state = state }
 

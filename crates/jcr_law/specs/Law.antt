@@ -76,7 +76,7 @@ pub record MayStart (law : JcrLaw) (h : History) (s : ℕ) (edit : Edit) (marks 
 abbrev pub no_text : Refusal → List ℕ
 no_text r = answer_text (refused r)
 
--- that a command isn't built, or lacks what it needs
+-- the text that refuses a command which isn't built, or which lacks what it needs
 abbrev pub no_support : Command → List ℕ
 no_support m = no_text (unsupported (word_of m))
 
@@ -150,12 +150,12 @@ pub data MaySay (law : JcrLaw) (h : History) (s : ℕ) : Asked → List ℕ → 
       → IsTrue (came s (λ earlier e. is_out k r e) h.past)
       → IsTrue (is_at_most (local h.begin (before_turn h.past s) k) r)
       → IsUnmoved h s → MaySay law h s (Allowed command.BackWrite) (answer_text (ShowsRevision r))
-  -- it learned at least what the others had published when the command began
+  -- the cluster node learned at least what the others had published when the command began
   learned : (k : ℕ) (v : RevVec) → slice_get h.sessions s ≡ Some k
       → Contains (since h.past s) (event.In k v)
       → IsTrue (knows_published h.clusters h.begin (before_turn h.past s) k v)
       → IsUnmoved h s → MaySay law h s (Allowed command.BackRead) (answer_text (ShowsVector v))
-  -- it swept at least up to what it had published when the command began
+  -- the cluster node swept at least up to what it had published when the command began
   swept : (k : ℕ) (r : Revision) → slice_get h.sessions s ≡ Some k
       → IsTrue (came s (λ earlier e. is_sweep k r e) h.past)
       → IsTrue (is_at_most (published h.begin (before_turn h.past s) k) r)

@@ -32,7 +32,8 @@ unknown_selector types q = find (λ n. is_none (type_named types n)) q.types
 
 -- what a query answers, in this order of causes: it is none, a CAST has no value, a type of a
 -- selector is unknown; else the rows
-pub data QueryAnswers (c : Call) (text : List ℕ) (vars : List (Name × Value)) : List ℕ → Type 0 where
+pub data QueryAnswers (c : Call) (text : List ℕ) (vars : List (Name × Value)) : List ℕ
+    → Type 0 where
   wrong : (offset : ℕ) → IsParsed text vars (Err (fault.InvalidQuery offset))
       → QueryAnswers c text vars (answer_text (refused (no_query offset)))
   cast : (asked given : Kind) → IsParsed text vars (Err (fault.Cast asked given))

@@ -18,7 +18,8 @@ abbrev pub before_turn : Past → ℕ → Past
 before_turn [] s = []
 before_turn (e ∷ past) s = cond (is_beginning s e) (e ∷ past) (before_turn past s)
 
--- since the command of s began some event came that passes the test, which is told what lay behind it
+-- since the command of s began some event came that passes the test, which is told what lay behind
+-- it
 abbrev pub came : ℕ → (Past → Event → Bool) → Past → Bool
 came s test [] = false
 came s test (e ∷ past) = not (is_beginning s e) && (test past e || came s test past)
@@ -66,7 +67,8 @@ is_stopping s _ = false
 -- where the base of s stood when it was detached, if it was detached after its base moved
 abbrev pub detached_among : Past → ℕ → Option RevVec
 detached_among [] s = None
-detached_among (event.Detach t ∷ past) s = cond (t == s) (refreshed_among past s) (detached_among past s)
+detached_among (event.Detach t ∷ past) s =
+    cond (t == s) (refreshed_among past s) (detached_among past s)
 detached_among (_ ∷ past) s = detached_among past s
 
 -- the position in the journal, from 0 on, at which cluster node k was stopped

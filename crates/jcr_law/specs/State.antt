@@ -1,4 +1,5 @@
--- What a history says of a session: the view over its base, its lock tokens, its cursor, and its identifiers.
+-- What a history says of a session: the view over its base, its lock tokens, its cursor, and its
+-- identifiers.
 use Rattle.std.specs.Prelude.{ℕ, ◌+◌, min, Bool, false, true, cond, not, ◌==◌, nat_eq, List, [], ◌∷◌, slice_get, codes, Option, None, Some, is_some, option_and_then, option_map}
 use Rattle.std.specs.List.{filter, list_any, starts_with}
 use Rattle.std.specs.Option.{option_map_or}
@@ -97,7 +98,8 @@ accepted c (command.DropToken t) = record c.state { tokens = without_token c.sta
 accepted c (command.Lock p deep) =
     record c.state { tokens = with_token c.state.tokens (next_id c.who) }
 accepted c (command.Observe p deep mask) = record c.state {
-  cursor = Some (record { at = c.who.base; filter = record { path = p; deep = deep; mask = mask } });
+  cursor =
+      Some (record { at = c.who.base; filter = record { path = p; deep = deep; mask = mask } });
 }
 accepted c command.Events = record c.state {
   cursor = option_map {T = Cursor} (λ x. record x { at = c.who.base }) c.state.cursor;
@@ -116,7 +118,8 @@ state_answered ok drew c m = counted ok drew m (cond ok (accepted c m) c.state)
 -- what a reply of s leaves, if there is such a command and s has a base
 abbrev pub state_replied : JcrLaw → Begin → Past → (s i : ℕ) → Text → State → State
 state_replied law begin past s i text state = option_map_or (λ m. option_map_or (λ v.
-    state_answered (is_ok_text text) (is_some (drawn_since past s)) (call_at law begin past s v state) m)
+    state_answered (is_ok_text text) (is_some (drawn_since past s))
+    (call_at law begin past s v state) m)
     (base_of past s) state) (command_at law s i) state
 
 -- what a history says of a session, event by event
@@ -131,7 +134,8 @@ session_state law begin (event.Attach t id ∷ past) s = cond (t == s)
     (moved (base_tree begin past s) (base_tree begin (event.Attach t id ∷ past) s)
     (session_state law begin past s)) (session_state law begin past s)
 session_state law begin (event.Said t i text ∷ past) s = cond (t == s)
-    (state_replied law begin past s i text (session_state law begin past s)) (session_state law begin past s)
+    (state_replied law begin past s i text (session_state law begin past s))
+    (session_state law begin past s)
 session_state law begin (_ ∷ past) s = session_state law begin past s
 
 -- what the next command of s is run with, where s has a base

@@ -1,4 +1,5 @@
--- What the commands of the cluster answer: background work, checkpoints, splits, collections, stops.
+-- What the commands of the cluster answer: background work, checkpoints, splits, collections,
+-- stops.
 use Rattle.std.specs.Prelude.{ℕ, Bool, true, false, ◌==◌, ◌||◌, ◌&&◌, not, nat_eq, List, [], ◌∷◌, codes, Option, None, Some, is_none, is_some, map}
 use Rattle.std.specs.List.{list_all, range_with_len}
 use Rattle.std.specs.Option.{option_map_or}
@@ -56,7 +57,8 @@ finds_stopped s k earlier e = is_stopping s e && is_stopped earlier k
 -- the vector has of each other cluster node at least what it had published
 abbrev pub knows_published : ℕ → Begin → Past → (k : ℕ) → RevVec → Bool
 knows_published clusters begin past k v = list_all (λ m. (m == k)
-    || option_map_or (is_at_most (published begin past m)) (entry v m) false) (range_with_len 1 clusters)
+    || option_map_or (is_at_most (published begin past m)) (entry v m) false)
+    (range_with_len 1 clusters)
 
 -- why a document can't be split: the path's limits, or there is no node
 abbrev pub split_refusal : Nodes → Path → Option Refusal

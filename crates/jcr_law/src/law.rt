@@ -9,10 +9,10 @@ use jr_path::List;
 use jr_types::Registry;
 use oak_machine::Law;
 
-/// The law of the product, of the node types of a script, how many sessions there were before it, and its sessions with
-/// their commands in order. An edit may start where it is due for the session's next command and a plan on the tree at its
-/// base (JSR 283, 10.11 Saving); a text may be said where it has one of the causes of `MaySay`; a command asks for the events
-/// of `Makes`.
+/// The law of the product, of the node types of a script, how many sessions there were before it,
+/// and its sessions with their commands in order. An edit may start where it is due for the
+/// session's next command and a plan on the tree at its base (JSR 283, 10.11 Saving); a text may be
+/// said where it has one of the causes of `MaySay`; a command asks for the events of `CommandAsks`.
 #[derive(Drop)]
 pub struct JcrLaw {
     pub types: Registry,

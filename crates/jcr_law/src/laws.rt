@@ -16,8 +16,9 @@ ghost use Rattle.jcr_law.specs.Law.{MayStart, SaysBy};
 ghost use Rattle.jcr_law.specs.Since.{draw_since};
 ghost use Rattle.jcr_law.specs.State.{base_tree, command_at, tokens_of};
 
-/// What the law lets start is a plan on the tree at the base of its session, for the types of the script and the lock tokens
-/// that the session holds. So it is proper there, with the marks of its writes.
+/// What the law lets start is a plan on the tree at the base of its session, for the types of the
+/// script and the lock tokens that the session holds. The plan is proper there, with the marks of
+/// its writes.
 pub fn starts_are_plans()
     ensures plan { (law : JcrLaw) (h : History) (s : ℕ) (edit : Edit) (marks : List MarkAt)
         → MayStart law h s edit marks → PlanOk law.types (base_tree h.begin h.past s)
@@ -25,9 +26,9 @@ pub fn starts_are_plans()
     ensures proper { (law : JcrLaw) → StartsProper (λ h s edit marks. MayStart law h s edit marks) }
 {}
 
-/// In each run, once a commit was drawn for a session's command, the next reply of the session accepts the commit that was
-/// made, tells of the clash for which it was refused, of the stop of its cluster node, or, where nothing was committed, of
-/// want of memory.
+/// In each run, once a commit was drawn for a session's command, the next reply of the session
+/// accepts the commit that was made, tells of the clash for which it was refused, of the stop of
+/// its cluster node, or, where nothing was committed, of want of memory.
 pub fn drawn_commands_are_answered()
     ensures { (law : JcrLaw) (h : History) (s : ℕ) (m : Command) (d : Draw) (text : List ℕ)
         → IsRunOf (starts_of law) (says_of law) h.clusters h.sessions h.begin h.past

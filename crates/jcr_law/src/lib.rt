@@ -1,5 +1,5 @@
-//! The law of the product, as definitions over a history: what a session's state is, which edits it may start to commit, and
-//! which texts its commands may be answered with.
+//! The law of the product, as definitions over a history: what a session's state is, which edits it
+//! may start to commit, and which texts its commands may be answered with.
 #![tactic(auto)]
 
 mod law;

@@ -11,8 +11,9 @@ pub struct Cursor {
     pub filter: Filter,
 }
 
-/// What a session has beside its base: its view, which is the tree at the base with its pending edits; the lock tokens that
-/// it holds; its cursor; and how many identifiers it has drawn, at most 16,777,215.
+/// What a session has beside its base: its view, which is the tree at the base with its pending
+/// edits; the lock tokens that it holds; its cursor; and how many identifiers it has drawn, at most
+/// 16,777,215.
 #[derive(Drop)]
 pub struct State {
     pub view: Tree,

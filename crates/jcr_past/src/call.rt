@@ -20,8 +20,8 @@ pub struct Call {
     pub state: State,
 }
 
-/// What the next command of a session is run with, where the session has a base. It takes memory,
-/// and goes over all events for each of them.
+/// What the next command of a session is run with, where the session has a base. Memory is taken,
+/// and all events are gone over for each of them.
 pub fn call_of(
     alloc: Global,
     law: &JcrLaw,

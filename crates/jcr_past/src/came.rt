@@ -285,7 +285,7 @@ pub fn detached_since(events: &[Event], session: u32) -> Option<RevVec>
 
 /// Whether the cluster node learned since the last reply of the session a vector that the text
 /// shows, with what the others had published when the command began (Oak, Background Operations).
-/// It takes memory.
+/// Memory is taken.
 #[tactic(auto, using(oak_machine::proofs::Forward::past_more))]
 pub fn has_in(
     alloc: Global,
@@ -340,7 +340,7 @@ fn knows_published(journal: &Journal, before: &[Event], cluster: u32, v: &RevVec
     knows
 }
 
-// The same of one cluster node.
+// Whether a vector has of one other cluster node at least what it had published.
 fn knows_one(journal: &Journal, before: &[Event], cluster: u32, other: u32, v: &RevVec) -> bool
     ensures { result ≡ ((other == cluster) || option_map_or
         (is_at_most (published journal.now.start (reverse before.now) other))
@@ -361,7 +361,7 @@ fn has_published(journal: &Journal, before: &[Event], other: u32, v: &RevVec) ->
 }
 
 /// Whether a split that the session asked for at the path ended since its last reply as the text
-/// shows (Oak, Previous Documents). It takes memory.
+/// shows (Oak, Previous Documents). Memory is taken.
 #[tactic(auto, using(oak_machine::proofs::Forward::past_more))]
 pub fn has_split(
     alloc: Global,
@@ -400,7 +400,7 @@ fn shows_split(
 }
 
 /// Whether a collection that the session asked for did since its last reply what the text shows
-/// (Oak, Revision Garbage Collection). It takes memory.
+/// (Oak, Revision Garbage Collection). Memory is taken.
 #[tactic(auto, using(oak_machine::proofs::Forward::past_more))]
 pub fn has_collection(
     alloc: Global,

@@ -32,7 +32,7 @@ pub(crate) fn is_revision(text: &str, revision: &Revision) -> bool
     text == reply.as_str()
 }
 
-/// Whether a text is `ok` with the vector. It takes memory.
+/// Whether a text is `ok` with the vector. Memory is taken.
 pub fn is_vector(alloc: Global, text: &str, vector: &RevVec) -> Result<bool, AllocError>
     ensures { IfOk result (λ is. is ≡ is_answer text.now (ShowsVector vector.now)) }
 {
@@ -40,7 +40,7 @@ pub fn is_vector(alloc: Global, text: &str, vector: &RevVec) -> Result<bool, All
     Ok(text == reply.as_str())
 }
 
-/// Whether a text is `ok` with what is to be shown, as a JSON string. It takes memory.
+/// Whether a text is `ok` with what is to be shown, as a JSON string. Memory is taken.
 pub fn is_text(alloc: Global, text: &str, shown: &str) -> Result<bool, AllocError>
     ensures { IfOk result (λ is. is ≡ is_answer text.now (ShowsText shown.now)) }
 {
@@ -48,7 +48,7 @@ pub fn is_text(alloc: Global, text: &str, shown: &str) -> Result<bool, AllocErro
     Ok(text == reply.as_str())
 }
 
-/// Whether a text refuses so. It takes memory; and where memory was wanted for the refusal, it is
+/// Whether a text refuses so. Memory is taken; and where memory was wanted for the refusal, it is
 /// wanted here.
 pub fn is_refusal(alloc: Global, text: &str, refusal: &Refusal) -> Result<bool, AllocError>
     ensures { IfOk result (λ is. ¬ (refusal.now ≡ out_of_memory)

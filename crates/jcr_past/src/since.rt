@@ -1,5 +1,5 @@
-// What the events of a journal say of the draw of a command, of the moves of a base and a cursor, and
-// of the stop of a cluster node.
+// What the events of a journal say of the draw of a command, of the moves of a base and a cursor,
+// and of the stop of a cluster node.
 ghost use Rattle.std.specs.Prelude.{◌≡◌, reverse};
 ghost use Rattle.std.specs.Option.{option_copied};
 ghost use Rattle.jcr_law.specs.Since.{draw_since, is_unmoved, is_unpinned, stop_position};

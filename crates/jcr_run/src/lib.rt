@@ -1,5 +1,5 @@
 //! A session of a script: where it stands (`SessionRun`), what is to be done for its next command
-//! (`Due`), what it reads before that, and what it answers. Its turns are
+//! (`Due`), what it reads before that, and what it answers. The session's turns are
 //! `jcr_session`'s.
 #![tactic(auto)]
 

@@ -10,9 +10,9 @@ use jcr_trans::Command;
 /// What is to be done for the next command.
 #[derive(Clone, Copy, PartialEq, Eq)]
 pub enum Due {
-    /// There is none: the session leaves.
+    /// No command is left: the session leaves.
     Leave,
-    /// The session may not run it, or it isn't built: it is refused.
+    /// The session may not run the command, or it isn't built: the command is refused.
     Bar,
     /// `head`: the base is shown.
     ShowBase,
@@ -20,7 +20,7 @@ pub enum Due {
     Refresh,
     /// A query is answered by the tree at the base.
     Query,
-    /// What is due for it is committed.
+    /// What is due for the command is committed.
     Commit,
     /// Background work is done, or a checkpoint is made or released.
     Errand,
@@ -28,9 +28,9 @@ pub enum Due {
     Attach,
     /// The session leaves its checkpoint: the base moves to the head.
     Detach,
-    /// Its cursor over the changes is set at the base.
+    /// The session's cursor over the changes is set at the base.
     Observe,
-    /// What changed since its cursor is shown.
+    /// What changed since the session's cursor is shown.
     Events,
     /// Another command is answered by the view.
     See,

@@ -75,7 +75,8 @@ pub enum Phase {
     /// A task of the cluster node, of the settings or of the cursor is under way; its reply has a
     /// place.
     Working(Errand),
-    /// That task has ended so, and is not answered yet; its reply has a place.
+    /// A task of the cluster node, of the settings or of the cursor has ended so, and is not
+    /// answered yet; its reply has a place.
     Told(Told),
     /// The session has left.
     Over,

@@ -37,7 +37,8 @@ use oak_port::{Port, Task};
 use std::alloc::{AllocError, Global};
 use std::mem;
 
-// What such a task begins with, or the reply of a command for which none begins.
+// What a task of the cluster node, of the settings or of the cursor begins with, or the reply of a
+// command for which none begins.
 #[derive(Drop)]
 pub(crate) enum Start {
     Begun(Task, Errand),

@@ -2,8 +2,8 @@
 //! others step too: what the next command asks of the tree at the session's base is read
 //! (`jcr_run`), the command is answered or committed, and each reply is said. A turn makes one
 //! reading step, where one is due. Else it makes one counted step, in the order of the stages of
-//! the next command, or none where the session waits or has ended. It leaves the session where the
-//! history says that it stands (`SessionRun` of `jcr_run`).
+//! the next command, or none where the session waits or has ended. A turn leaves the session where
+//! the history says that it stands (`SessionRun` of `jcr_run`).
 #![tactic(auto)]
 
 mod commit;

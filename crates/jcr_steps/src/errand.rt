@@ -29,7 +29,7 @@ pub enum Errand {
     Events(String),
 }
 
-/// How such a task has ended.
+/// How a task of the cluster node, of the settings or of the cursor has ended.
 #[derive(Drop)]
 pub enum Told {
     /// What was local is published, up to this revision.

@@ -10,7 +10,7 @@ ghost use Rattle.jcr_steps.specs.declared.limits.TheConstants.{VECTOR_REPLY_BYTE
 use arrayvec::ArrayString;
 use jr_rev::{RevVec, Revision, revision_text};
 
-/// The reply that shows a session's base, as `ok "r1-0-1,r0-0-2"`. It takes no memory, so that a
+/// The reply that shows a session's base, as `ok "r1-0-1,r0-0-2"`. No memory is taken, so that a
 /// base that has moved is always told.
 pub fn shown_vector(vector: &RevVec) -> ArrayString<292>
     requires eight { length vector.now ≡ 8 }

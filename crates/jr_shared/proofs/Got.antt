@@ -138,9 +138,6 @@ module _ {L : Type 0} (law : Ghosts L) (old : PassKnown L) (got : WorldOf L) (g 
       pub others : AreOthers s more (reverse old.seen)
       others = are_others got.history.clusters got.history.sessions nodes None (law.may_start got.law) (law.may_say got.law) s more (reverse old.seen) run_got (sym (ap (λ (xs : Past). own_events xs s) past_got) ∙ same_events)
 
-      beside : OnlyOthersActed (law.may_start got.law) (law.may_say got.law) s before more
-      beside = record { nodes = nodes; run = run_old; later = run_got; others = others }
-
       login_same : has_login (more ++ reverse old.seen) s ≡ has_login (reverse old.seen) s
       login_same = login_left s more (reverse old.seen) others
 
@@ -153,6 +150,9 @@ module _ {L : Type 0} (law : Ghosts L) (old : PassKnown L) (got : WorldOf L) (g 
       -- the history seen, by the fields of the world that was got
       abbrev before : History
       before = record { clusters = got.history.clusters; sessions = got.history.sessions; begin = None; past = reverse old.seen }
+
+      beside : OnlyOthersActed (law.may_start got.law) (law.may_say got.law) s before more
+      beside = record { nodes = nodes; run = run_old; later = run_got; others = others }
 
       before_is : history_by old ≡ before
       before_is = ap (λ (n : ℕ). record (history_by old) { clusters = n }) clusters_old ∙ ap (λ (xs : List ℕ). record before { sessions = xs }) sessions_old

@@ -1,4 +1,5 @@
--- What a pass of a world knows, and what a call of the world under one hold of the lock makes of both.
+-- What a pass of a world knows, and what a call of the world under one hold of the lock makes of
+-- both.
 use Rattle.std.specs.Prelude.{◌≡◌, ◌≢◌, ◌↔◌, ◌⊎◌, ◌<◌, ◌==◌, ℕ, ◌++◌, Bool, [], length, map, is_some, reverse, IfSome, IsFalse, IsSome, OnErr, OnOk, Option, Some, Result}
 use Rattle.std.specs.Borrow.{GName}
 use Rattle.std.specs.List.{range_with_len}
@@ -41,11 +42,12 @@ module _ {L : Type 0} where
   abbrev pub owned_by : PassKnown L → ℕ → Option Owned
   owned_by v s = lookup (λ a. a == s) v.parts
 
-  -- what it does, and what is kept for it, where it is one of the world's
+  -- what session s does, and what is kept for it, where it is one of the world's
   abbrev pub seat_by : PassKnown L → ℕ → Option ActorState
   seat_by v s = option_and_then (λ part. part.seat) (owned_by v s)
 
-  -- the same; for one that the pass doesn't know, what a session has that does nothing
+  -- what session s does, and what is kept for it; for one that the pass doesn't know, what a
+  -- session has that does nothing
   abbrev pub actor_by : PassKnown L → ℕ → ActorState
   actor_by v s = unwrap_or (seat_by v s) idle
 
@@ -53,7 +55,8 @@ module _ {L : Type 0} where
   abbrev pub has_seat : PassKnown L → ℕ → Bool
   has_seat v s = is_some (seat_by v s)
 
-  -- what the first pass of a world knows: it has each session and all the weight, and has seen the whole journal
+  -- what the first pass of a world knows: it has each session and all the weight, and has seen the
+  -- whole journal
   abbrev pub first_known : WorldOf L → PassKnown L
   first_known w = record {
     round = round.Idle;
@@ -66,8 +69,9 @@ module _ {L : Type 0} where
     parts = map (λ s. (s, owned_of w s)) (range_with_len 0 (length w.history.sessions));
   }
 
-  -- what a pass knows that got one world and gave back another: it has seen all of its journal, has the places of the events that were added meanwhile,
-  -- and has for each of its sessions what that owns of the world
+  -- what a pass knows that got one world and gave back another: it has seen all of its journal, has
+  -- the places of the events that were added meanwhile, and has for each of its sessions what that
+  -- owns of the world
   abbrev pub known_after : WorldOf L → WorldOf L → PassKnown L → PassKnown L
   known_after got left v = record v {
     round = round.Idle;
@@ -77,8 +81,9 @@ module _ {L : Type 0} where
     parts = map (λ y. (y.0, owned_of left y.0)) v.parts;
   }
 
-  -- between two worlds only session s acted: events were added; the law, the cluster nodes and the sessions stay, and so does what another session owns; and the documents
-  -- and the memories stay, if no event was added
+  -- between two worlds only session s acted: events were added; the law, the cluster nodes and the
+  -- sessions stay, and so does what another session owns; and the documents and the memories stay,
+  -- if no event was added
   pub record OneActed (s : ℕ) (old new : WorldOf L) : Type 0 where
     pub longer : IsPrefix (journal_of old) (journal_of new)
     pub frame_is : frame_of new ≡ frame_of old
@@ -96,8 +101,9 @@ module _ {L : Type 0} where
   abbrev pub IsTold : PassKnown L → Type 0
   IsTold v = (s : ℕ) → IfSome (owned_by v s) (λ part. part.events ≡ own_events (reverse v.seen) s)
 
-  -- a pass that knew this got this world: it is whole, it goes on from what the pass had seen, and the pass's sessions own what they did when the pass last had it; and the documents
-  -- and the memories are as they were then, if no event was added since
+  -- a pass that knew this got this world: it is whole, it goes on from what the pass had seen, and
+  -- the pass's sessions own what they did when the pass last had it; and the documents and the
+  -- memories are as they were then, if no event was added since
   pub record IsGot (law : Ghosts L) (old : PassKnown L) (got : WorldOf L) : Type 0 where
     pub whole : IsWhole law got
     pub frame_is : old.frame ≡ Some (frame_of got)
@@ -106,7 +112,8 @@ module _ {L : Type 0} where
     pub steady_is : old.seen ≡ journal_of got → old.steady ≡ Some (steady_of got)
 
   -- under one hold of the lock one call of the world was made for session s
-  pub record OneHold (law : Ghosts L) (old new : PassKnown L) (s : ℕ) (made : WorldOf L → WorldOf L → Type 0) : Type 0 where
+  pub record OneHold (law : Ghosts L) (old new : PassKnown L) (s : ℕ)
+      (made : WorldOf L → WorldOf L → Type 0) : Type 0 where
     -- the world that was got, and the world that was given back, which is whole
     pub got : WorldOf L
     pub left : WorldOf L
@@ -121,18 +128,22 @@ module _ {L : Type 0} where
   -- ---- the calls of a world
 
   -- session s is told a task; where memory is refused nothing changes
-  pub record Begun (w : WorldOf L) (s : ℕ) (t : Task) (r : Result Unit AllocError) (u : WorldOf L) : Type 0 where
+  pub record Begun (w : WorldOf L) (s : ℕ) (t : Task) (r : Result Unit AllocError)
+      (u : WorldOf L) : Type 0 where
     pub ok : OnOk r ((v : Work) × Begins (actor_pin (state_of w) s) t v × (u ≡ with_work w s v))
     pub err : OnErr r (u ≡ w)
 
-  -- session s makes a step, of which a port tells what it may tell, and which lowers the number of steps that are left of its task, or it waits
-  pub record Stepped (law : Ghosts L) (w : WorldOf L) (s : ℕ) (o : StepOut) (u : WorldOf L) : Type 0 where
+  -- session s makes a step, of which a port tells what it may tell, and which lowers the number of
+  -- steps that are left of its task, or it waits
+  pub record Stepped (law : Ghosts L) (w : WorldOf L) (s : ℕ) (o : StepOut)
+      (u : WorldOf L) : Type 0 where
     pub made : StepsIn w s u o
-    pub told : (name : GName) → Steps (law.may_start w.law) (law.may_say w.law) (shown_at name w s) (shown_at name u s) o
+    pub told : (name : GName)
+        → Steps (law.may_start w.law) (law.may_say w.law) (shown_at name w s) (shown_at name u s) o
     pub lowers : IsWait o ⊎ (left_in u s < left_in w s)
 
-  -- the kind of the session's next step was told, and the world is as it was; where no step is left,
-  -- the session does nothing
+  -- the kind of the session's next step was told, and the world is as it was; where no step is
+  -- left, the session does nothing
   pub record DueIs (w : WorldOf L) (s : ℕ) (r : Option StepKind) (u : WorldOf L) : Type 0 where
     pub same : u ≡ w
     pub due : r ≡ kind_due (work_in w.actors s)
@@ -143,10 +154,13 @@ module _ {L : Type 0} where
   pub record PinIs (w : WorldOf L) (s : ℕ) (r : Option Pin) (u : WorldOf L) : Type 0 where
     pub same : u ≡ w
     pub pin : r ≡ actor_pin (state_of w) s
-    pub base : IsFalse (has_left w.history.past s) → option_map (λ pin. pin.base) r ≡ base_of w.history.past s
+    pub base : IsFalse (has_left w.history.past s)
+        → option_map (λ pin. pin.base) r ≡ base_of w.history.past s
 
-  -- so many bytes, and a place of the journal, are kept for its next reply; where memory is refused nothing changes
-  pub record Reserved (w : WorldOf L) (s bytes : ℕ) (r : Result Unit AllocError) (u : WorldOf L) : Type 0 where
+  -- a number of bytes, and a place of the journal, are kept for its next reply; where memory is
+  -- refused nothing changes
+  pub record Reserved (w : WorldOf L) (s bytes : ℕ) (r : Result Unit AllocError)
+      (u : WorldOf L) : Type 0 where
     pub ok : OnOk r (u ≡ with_reply w s (Some bytes))
     pub err : OnErr r (u ≡ w)
 

@@ -1,4 +1,5 @@
--- What a world means under the lock: its journal, what each session owns of it, what never changes of it, and what changes only with the journal.
+-- What a world means under the lock: its journal, what each session owns of it, what never changes
+-- of it, and what changes only with the journal.
 use Rattle.std.specs.Prelude.{ℕ, cond, List, [], ◌∷◌, reverse, slice_get, Option}
 use Rattle.oak_machine.specs.declared.event.Event.{Event}
 use Rattle.oak_machine.specs.History.{Past}
@@ -9,9 +10,11 @@ use Rattle.jr_shared.specs.declared.locked.WorldFrame.{WorldFrame}
 -- the events of session s, the newest first
 abbrev pub own_events : Past → ℕ → Past
 own_events [] s = []
-own_events (e ∷ past) s = cond (is_event_of (e ∷ past) s e) (e ∷ own_events past s) (own_events past s)
+own_events (e ∷ past) s =
+    cond (is_event_of (e ∷ past) s e) (e ∷ own_events past s) (own_events past s)
 
--- what a session owns of a world: what it does and what is kept for it, where it is one of the world's, and its events
+-- what a session owns of a world: what it does and what is kept for it, where it is one of the
+-- world's, and its events
 pub record Owned : Type 0 where
   pub seat : Option ActorState
   pub events : Past

@@ -32,9 +32,15 @@ module _ {L : Type 0} where
 
   -- the history that the pass has seen
   abbrev pub history_by : PassKnown L → History
-  history_by v = record { clusters = clusters_by v; sessions = sessions_by v; begin = None; past = reverse v.seen }
+  history_by v = record {
+    clusters = clusters_by v;
+    sessions = sessions_by v;
+    begin = None;
+    past = reverse v.seen;
+  }
 
-  -- what session s is shown through a pass to which a reference of this name leads; others may step the world
+  -- what session s is shown through a pass to which a reference of this name leads; others may step
+  -- the world
   abbrev pub shown_through : GName → PassKnown L → ℕ → Shown
   shown_through name v s = record {
     history = history_by v;
@@ -45,7 +51,8 @@ module _ {L : Type 0} where
     beside = record { name = name; seats = None };
   }
 
-  -- the state of the world as the pass last saw it, if no event was added since; but for what the other sessions do
+  -- the state of the world as the pass last saw it, if no event was added since; but for what the
+  -- other sessions do
   abbrev pub state_by : PassKnown L → State
   state_by v = record {
     clusters = clusters_by v;

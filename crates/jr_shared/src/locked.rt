@@ -16,8 +16,8 @@ pub struct WorldFrame<L> {
     pub sessions: LinkedList<u32>,
 }
 
-/// What a session owns of a world: what it does, what is kept for it, and its events. No value of it
-/// is made.
+/// What a session owns of a world: what it does, what is kept for it, and its events. No value of
+/// it is made.
 pub struct SessionPart {
     of: PhantomData<u32>,
 }
@@ -65,7 +65,7 @@ impl<L: Law + Drop> Counted for LockedWorld<L> {
     }
 }
 
-// A world is whole. It does nothing: callers learn the fact.
+// A world is whole. The call does nothing: callers learn the fact.
 pub(crate) fn is_whole<L: Law + Drop>(world: &World<L>)
     ensures { IsWhole L.Law world.now }
 {

@@ -16,8 +16,8 @@ use std::alloc::AllocError;
 use std::marker::{Brand, PhantomData};
 use std::sync::Wait;
 
-/// The lock of a pass, and what the pass knew, as a port took it. The call that makes the port picks
-/// them, so that what the port leaves of the pass can be told by them.
+/// The lock of a pass, and what the pass knew, as a port took it. The call that makes the port
+/// picks them, so that what the port leaves of the pass can be told by them.
 pub trait Taken<L: Law> {
     ghost use Rattle.atomic_table.specs.Seated.{TableId};
     ghost use Rattle.jr_shared.specs.Holds.{PassKnown};
@@ -44,8 +44,9 @@ impl<L: Law> Taken<L> for Brand {
     ghost view = { spent_view };
 }
 
-/// The port of a session over a pass that has it. Each call holds the lock once; others may step the
-/// world between two calls. Of the pass its other sessions and its weight stay as the port took them.
+/// The port of a session over a pass that has it. Each call holds the lock once; others may step
+/// the world between two calls. Of the pass its other sessions and its weight stay as the port took
+/// them.
 #[derive(Drop)]
 pub struct SharedPort<'a, R: Wait, L: Law + Drop, J: Taken<L>>
 where

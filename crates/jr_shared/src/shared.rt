@@ -19,8 +19,8 @@ use seat_lock::{Pass, SeatLock};
 use std::alloc::{AllocError, Global};
 use std::sync::Wait;
 
-/// A world that threads share. Its passes are those of the lock round it: a pass has some of the sessions, and the calls of
-/// the world for them.
+/// A world that threads share. The world's passes are those of the lock round it: a pass has some
+/// of the sessions, and the calls of the world for them.
 #[derive(Drop)]
 pub struct SharedWorld<L: Law + Drop> {
     pub(crate) lock: SeatLock<LockedWorld<L>>,
@@ -43,7 +43,8 @@ impl<L: Law + Drop> SharedWorld<L> {
         Ok((SharedWorld { lock }, pass))
     }
 
-    /// Makes a pass that has seen as much, and hands to it 1 of the weight and those of the pass's sessions that are named.
+    /// Makes a pass that has seen as much, and hands to it 1 of the weight and those of the pass's
+    /// sessions that are named.
     pub fn split(&self, pass: &mut Pass<LockedWorld<L>>, sessions: &[u32]) -> Pass<LockedWorld<L>>
         requires own { IsOf self.now.lock pass.old }
         requires weight { 1 < weight_of pass.old }
@@ -60,8 +61,8 @@ impl<L: Law + Drop> SharedWorld<L> {
         self.lock.split(pass, sessions)
     }
 
-    /// Takes in another pass, by which no call is under way: its weight, its sessions, its places, and the longer of the
-    /// journals seen.
+    /// Takes in another pass, by which no call is under way: its weight, its sessions, its places,
+    /// and the longer of the journals seen.
     pub fn join(&self, pass: &mut Pass<LockedWorld<L>>, other: Pass<LockedWorld<L>>)
         requires own { IsOf self.now.lock pass.old × IsOf self.now.lock other }
         requires rest { IsAtRest other }
@@ -87,8 +88,8 @@ impl<L: Law + Drop> SharedWorld<L> {
         world
     }
 
-    /// Tells a session of the pass that does nothing what to do; its next command asks for the events
-    /// of the task. Where memory is refused nothing changes.
+    /// Tells a session of the pass that does nothing what to do; its next command asks for the
+    /// events of the task. Where memory is refused nothing changes.
     pub fn start<R: Wait>(
         &self,
         rt: &R,
@@ -153,8 +154,9 @@ impl<L: Law + Drop> SharedWorld<L> {
         due
     }
 
-    /// The pin at which a session of the pass reads: while it is attached to a checkpoint that which
-    /// the settings keep for it, else that of its node's memory, where it has come and not left.
+    /// The pin at which a session of the pass reads: while it is attached to a checkpoint that
+    /// which the settings keep for it, else that of its node's memory, where it has come and not
+    /// left.
     pub fn pin<R: Wait>(&self, rt: &R, pass: &mut Pass<LockedWorld<L>>, actor: u32) -> Option<Pin>
         requires own { IsOf self.now.lock pass.old }
         requires seat { IsTrue (has_seat (view_of pass.old) actor) }
@@ -169,7 +171,8 @@ impl<L: Law + Drop> SharedWorld<L> {
         pin
     }
 
-    /// The position in the journal, from 0, of the stop of the cluster node of that number; None where it isn't stopped.
+    /// The position in the journal, from 0, of the stop of the cluster node of that number; None
+    /// where it isn't stopped.
     pub fn stopped<R: Wait>(
         &self,
         rt: &R,
@@ -189,7 +192,8 @@ impl<L: Law + Drop> SharedWorld<L> {
         None
     }
 
-    /// Keeps a place for the next reply of a session of the pass, of this many bytes. Where memory is refused nothing changes.
+    /// Keeps a place for the next reply of a session of the pass, of this many bytes. Where memory
+    /// is refused nothing changes.
     pub fn reserve_say<R: Wait>(
         &self,
         rt: &R,
@@ -211,7 +215,8 @@ impl<L: Law + Drop> SharedWorld<L> {
         result
     }
 
-    /// Says the next reply of a session of the pass. It has a place, so this takes no memory.
+    /// Says the next reply of a session of the pass. The reply has a place, and so saying takes no
+    /// memory.
     pub fn say<R: Wait>(
         &self,
         rt: &R,

@@ -19,7 +19,7 @@ is_undecided past s d =
     not (is_committed past d.revision) && not (is_refused past d.revision)
     && not (list_any (is_undo_of s) (since_draw past s))
 
--- it is kept of the last draw of s, which alone of its draws is in flight
+-- what is kept of the last draw of s, which alone of its draws is in flight
 pub record IsFlightOf (past : Past) (s : ℕ) (f : Flight) : Type 0 where
   pub draw : Draw
   pub last : slice_get (draws_of past s) 0 ≡ Some draw

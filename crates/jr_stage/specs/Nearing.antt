@@ -20,28 +20,28 @@ use Rattle.jr_stage.specs.Awaited.{KeepsWaiting}
 abbrev pub phase_at : Stage → ℕ → Option Phase
 phase_at stage s = option_map (λ seat. seat.run.phase) (slice_get stage.seats.items s)
 
--- a commit or another task of its next command is under way
+-- a commit or another task of the next command of session s is under way
 abbrev pub works_at : Stage → ℕ → Bool
 works_at stage s = option_map_or is_working (phase_at stage s) false
 
--- it has drawn, and has not replied yet
+-- session s has drawn for its next command, and has not replied yet
 abbrev pub saves_at : Stage → ℕ → Bool
 saves_at stage s = option_map_or is_saving (phase_at stage s) false
 
--- a node, or the names of the children of one, are being read for it
+-- a node, or the names of the children of one, are being read for session s
 abbrev pub reads_at : Stage → ℕ → Bool
 reads_at stage s =
     option_map_or (λ seat. is_some seat.run.fetch) (slice_get stage.seats.items s) false
 
--- how many replies it has not said yet, and how near it is to the next one
+-- how many replies session s has not said yet, and how near the session is to the next one
 abbrev pub left_at : Stage → ℕ → ℕ
 left_at stage s = option_map_or (λ seat. turns_left seat.run) (slice_get stage.seats.items s) 0
 
--- how many steps are left of what is being done for it
+-- how many steps are left of what is being done for session s
 abbrev pub steps_at : Stage → ℕ → ℕ
 steps_at stage s = left_in stage.world s
 
--- what its next command is run with
+-- what the next command of session s is run with
 abbrev pub next_call : Stage → ℕ → Option Call
 next_call stage s =
     call_of stage.world.law (live stage.world.history).begin (live stage.world.history).past s
@@ -65,8 +65,8 @@ abbrev pub ReadsThrough : (old new : Stage) → ℕ → Type 0
 ReadsThrough old new s = (unread_at new s ≤ unread_at old s)
     × (IsTrue (reads_at old s) → unread_at new s < unread_at old s)
 
--- s has less left; or a task of its next command is under way as it was, and fewer steps of that are
--- left
+-- s has less left; or a task of its next command is under way as it was, and fewer steps of that
+-- are left
 abbrev pub StepsNearer : (still : Bool) → (old new : Stage) → ℕ → Type 0
 StepsNearer true old new s = (left_at new s ≡ left_at old s) × (steps_at new s < steps_at old s)
 StepsNearer false old new s = left_at new s < left_at old s

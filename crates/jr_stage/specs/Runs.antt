@@ -47,9 +47,9 @@ pub record AreApart (past : Past) : Type 0 where
       → IsTrue (is_committed past r) ⊎ Wanted past r
 
 -- the history is a run of the machine by the law of the script, over its cluster nodes and its
--- sessions and from no tree before it; each event is one for which the command asks that its session
--- hasn't answered yet; each command of a session is answered once, in order, and at the end the
--- session has left; its commits are apart; at each time it obeyed the types, the locks and the
+-- sessions and from no tree before it; each event is one for which the command asks that its
+-- session hasn't answered yet; each command of a session is answered once, in order, and at the end
+-- the session has left; its commits are apart; at each time it obeyed the types, the locks and the
 -- references; and each reply had its reason
 pub record AnswersScript (script : Script) (h : History) : Type 0 where
   pub clusters : h.clusters ≡ script.clusters
@@ -65,7 +65,7 @@ pub record AnswersScript (script : Script) (h : History) : Type 0 where
   pub obeys : ObeysThroughout (law_of script) h
   pub reasons : AnswersThroughout (law_of script) h
 
--- it answers the script, and the script's schedule cuts it
+-- the history answers the script, and the script's schedule cuts it
 pub record FollowsScript (script : Script) (h : History) : Type 0 where
   pub answers : AnswersScript script h
   pub scheduled : Scheduled script h

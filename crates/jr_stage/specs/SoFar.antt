@@ -54,8 +54,8 @@ pub record IsDouble (script : Script) (past : Past) (s : ℕ) (own : Past) : Typ
   pub idle : IsFalse (is_drawing (event.End revision ∷ past) s)
   pub awake : IsFalse (is_resting script (event.End revision ∷ past) s)
 
--- the events of one step of session s, the newest first, which doesn't rest: a Write, a Mark or what
--- tells of no session where no last write is due, a Commit where it is
+-- the events of one step of session s, the newest first, which doesn't rest: a Write, a Mark or
+-- what tells of no session where no last write is due, a Commit where it is
 pub record IsStepAt (script : Script) (past : Past) (s : ℕ) (due : Option StepKind) (own : Past)
     : Type 0 where
   pub events : IsSingle script past s own ⊎ IsDouble script past s own

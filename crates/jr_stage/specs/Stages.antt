@@ -119,7 +119,7 @@ pub record HasCome (old new : Stage) (s : ℕ) (answer : Turn) : Type 0 where
   pub nears : TurnsNearer old new s answer
   pub kept : IsKeptBack (past_of old) s answer
 
--- the same of a session's own turn, in the world that it was shown through some reference
+-- what a turn of a session's own makes, in the world that it was shown through some reference
 pub record IsTurnedIn (s : ℕ) (old new : WorldOf JcrLaw) (run now : SessionRun) (answer : Turn)
     : Type 0 where
   pub name : GName
@@ -132,7 +132,8 @@ pub record IsTurnedIn (s : ℕ) (old new : WorldOf JcrLaw) (run now : SessionRun
       (turns_left run) (turns_left now) answer
 
 -- a reading step of session s, where one is due
-abbrev pub MakesReading : GName → ℕ → WorldOf JcrLaw → WorldOf JcrLaw → SessionRun → SessionRun → Type 0
+abbrev pub MakesReading : GName → ℕ → WorldOf JcrLaw → WorldOf JcrLaw → SessionRun → SessionRun
+    → Type 0
 MakesReading n s old new run now =
     (new.law ≡ old.law) × HasLooked old.law (shown_at n old s) (shown_at n new s) run now
 
@@ -174,7 +175,7 @@ abbrev pub flight_behind : Past → Option Flight → Option Flight
 flight_behind [] o = o
 flight_behind (e ∷ past) o = flight_with e o
 
--- the same behind a turn, which may be a step
+-- what is kept of a commit behind a turn, which may be a step
 abbrev pub flight_by : Turn → Past → Option Flight → Option Flight
 flight_by (turn.Stepped k) past o = flight_behind past o
 flight_by _ past o = o

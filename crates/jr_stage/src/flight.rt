@@ -21,8 +21,8 @@ pub(crate) struct Flight {
 }
 
 impl Flight {
-    // Whether it has come to where an entry waits for it: its revision is drawn, so many documents
-    // are written, or only the last write is left, and due.
+    // Whether a commit has come to where an entry waits for it: the revision is drawn, the number
+    // of documents is written, or only the last write is left, and due.
     pub(crate) fn has_come(&self, due: Option<StepKind>, entry: Entry) -> bool
         ensures { result ≡ has_come_by self.now due entry }
     {

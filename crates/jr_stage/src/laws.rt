@@ -13,7 +13,8 @@ ghost use Rattle.jr_stage.specs.Growing.{LookBack, StayParts, knows_next};
 /// always, of others where no Write or Mark of their sessions is next.
 pub fn cuts_grow()
     ensures under_way { (script : Script) (rule : Rule) (before part : Past) (e : Event)
-        → knows_next (part_session rule) before part ≡ true → goes_on script rule before part [] ≡ true
+        → knows_next (part_session rule) before part ≡ true
+        → goes_on script rule before part [] ≡ true
         → must_end script rule before part (e ∷ []) ≡ false
         → is_of_turn script (part ++ before) (part_session rule) e ≡ true
         → goes_on script rule before (e ∷ part) [] ≡ true }

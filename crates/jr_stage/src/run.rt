@@ -15,15 +15,15 @@ use oak_world::World;
 use std::alloc::{AllocError, Global};
 
 /// Runs a script turn by turn as its schedule says; then the commits in flight in ascending order
-/// of their revisions, each to its reply; then the sessions in order, each to its end. It answers
-/// the world with which the script ended: its law, its cluster nodes and its sessions are the
-/// script's, its journal is a run of the machine by that law in which each event is made for a
-/// command that asks for it, each command is answered once and in order, and each session leaves
-/// behind its last reply, the schedule cuts the journal, no two commits clash unseen, each refusal
-/// names its cause, what clashes with no other is made or wanted memory, at each time the tree of
-/// all commits met the node types of the script, its locks and, where identifiers stood once, its
-/// references, and each reply had its reason: what was planned and clashed with no other commit
-/// outside its base was accepted, but for want of memory and a stop of its cluster node.
+/// of their revisions, each to its reply; then the sessions in order, each to its end. Answers the
+/// world with which the script ended: its law, its cluster nodes and its sessions are the script's,
+/// its journal is a run of the machine by that law in which each event is made for a command that
+/// asks for it, each command is answered once and in order, and each session leaves behind its last
+/// reply, the schedule cuts the journal, no two commits clash unseen, each refusal names its cause,
+/// what clashes with no other is made or wanted memory, at each time the tree of all commits met
+/// the node types of the script, its locks and, where identifiers stood once, its references, and
+/// each reply had its reason: what was planned and clashed with no other commit outside its base
+/// was accepted, but for want of memory and a stop of its cluster node.
 pub fn run_steps(alloc: Global, script: Script) -> Result<World<JcrLaw>, AllocError>
     requires { IsWithin script }
     ensures { IfOk result (HasRun script) }
@@ -52,8 +52,8 @@ impl Stage {
         Ok(())
     }
 
-    // The turns of some sessions, one after another, each to its next reply. These have a commit in
-    // flight, and no other has: none of them is kept waiting by a later one.
+    // The turns of some sessions, one after another, each to its next reply. The sessions have a
+    // commit in flight, and no other has: none of them is kept waiting by a later one.
     fn reply_all(&mut self, sessions: &[u32]) -> Result<(), AllocError>
         requires stage { IsStage self.old }
         requires there { All (λ s. s < length self.old.seats.items) sessions.now }

@@ -75,7 +75,7 @@ impl Drop for Seat {
 }
 
 impl Stage {
-    // Gives its world back.
+    // Gives back the world of the stage.
     pub(crate) fn into_world(self) -> World<JcrLaw>
         ensures { result ≡ self.world }
     {
@@ -212,8 +212,9 @@ impl Stage {
         Ok(())
     }
 
-    // Turns of a session to its next reply. Its commit is in flight, and none of another session
-    // keeps it waiting: so the head sees the commit once it has ended, and the session never waits.
+    // Turns of a session to its next reply. The session's commit is in flight, and none of another
+    // session keeps it waiting: so the head sees the commit once it has ended, and the session
+    // never waits.
     pub(crate) fn reply(&mut self, s: u32) -> Result<(), AllocError>
         requires stage { IsStage self.old }
         requires there { s < length self.old.seats.items }
@@ -370,7 +371,8 @@ pub fn session_of(
 fn read_one(world: &mut World<JcrLaw>, run: &mut SessionRun, s: u32) -> Result<bool, AllocError>
     requires there { IsTrue (is_some (slice_get world.old.history.sessions s)) }
     requires stands { (name : GName) → Stands world.old.law (shown_at name world.old s) run.old }
-    ensures { OnOk result ((name : GName) × MakesReading name s world.old world.new run.old run.new) }
+    ensures { OnOk result
+        ((name : GName) × MakesReading name s world.old world.new run.old run.new) }
 {
     let mut port = SoloPort::new(world, s);
     read(run, &mut port)

@@ -17,9 +17,9 @@ use oak_world::{SoloPort, World};
 use std::alloc::{AllocError, Global};
 
 impl Stage {
-    // A turn of a session, and where a commit or another task of its next command is under way behind
-    // it, the turns of that: until it has ended, waits, or has come to where an entry, if one is
-    // given, waits for it.
+    // A turn of a session, and where a commit or another task of its next command is under way
+    // behind it, the turns of that: until it has ended, waits, or has come to where an entry, if
+    // one is given, waits for it.
     pub(crate) fn go_on(&mut self, s: u32, until: Option<Entry>) -> Result<Turn, AllocError>
         requires stage { IsStage self.old }
         requires there { s < length self.old.seats.items }
@@ -33,7 +33,8 @@ impl Stage {
         }
     }
 
-    // The turns of a commit or another task that is under way, if one is, behind a step of this kind.
+    // The turns of a commit or another task that is under way, if one is, behind a step of this
+    // kind.
     fn work_on(&mut self, s: u32, until: Option<Entry>, kind: StepKind) -> Result<Turn, AllocError>
         requires stage { IsStage self.old }
         requires there { s < length self.old.seats.items }
@@ -49,8 +50,8 @@ impl Stage {
         Ok(Turn::Stepped(kind))
     }
 
-    // Whether a commit or another task of a session is under way, and has not come to where an entry
-    // waits for it.
+    // Whether a commit or another task of a session is under way, and has not come to where an
+    // entry waits for it.
     fn is_under_way(&self, s: u32, until: Option<Entry>) -> bool
         requires there { s < length self.now.seats.items }
         requires seats { length self.now.seats.items ≡ length self.now.world.history.sessions }

@@ -11,8 +11,9 @@ hand_from workers worker s (x ∷ xs) =
     then x.commands ∷ hand_from workers worker (s + 1) xs
     else hand_from workers worker (s + 1) xs
 
--- so many workers have the commands of all these sessions in hand
-pub record AreDealt (sessions : List SessionScript) (workers : ℕ) (hands : List (List (List Command)))
+-- a number of workers have the commands of all these sessions in hand
+pub record AreDealt (sessions : List SessionScript) (workers : ℕ)
+    (hands : List (List (List Command)))
     : Type 0 where
   pub many : length hands ≡ workers
   pub each : (w : ℕ) (hand : List (List Command)) → slice_get hands w ≡ Some hand

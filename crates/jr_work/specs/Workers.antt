@@ -54,9 +54,9 @@ pub record KnowsScript (script : Script) (v : PassKnown JcrLaw) : Type 0 where
   -- no call by it is under way
   pub rest : v.round ≡ round.Idle
   pub frame : v.frame ≡ Some (frame_for script)
-  -- of its sessions it knows just the events that it has seen
+  -- of its sessions the pass knows just the events that it has seen
   pub told : IsTold v
-  -- what it has seen is a run by the law of the script
+  -- what the pass has seen is a run by the law of the script
   pub run : IsRun (starts_of (law_of script)) (says_of (law_of script)) (history_by v)
 
 -- session s is one of the pass's, and has not begun
@@ -108,8 +108,10 @@ pub record HasWorked (script : Script) (workers worker : ℕ) (v : PassKnown Jcr
   pub weight : v.weight ≡ 1
   pub over : (s : ℕ) → s < length script.sessions → s % workers ≡ worker → HasOver script v s
 
--- a worker begins with a pass of the lock that is handed out to it, and the commands of its sessions
-abbrev pub IsJob : Script → ℕ → SeatLock (LockedWorld JcrLaw) Event Owned (WorldFrame JcrLaw) (WorldOf JcrLaw)
+-- a worker begins with a pass of the lock that is handed out to it, and the commands of its
+-- sessions
+abbrev pub IsJob : Script → ℕ
+    → SeatLock (LockedWorld JcrLaw) Event Owned (WorldFrame JcrLaw) (WorldOf JcrLaw)
     → Job → Type 0
 IsJob script workers lock job =
     IsOf lock job.pass × IsHandedOut script workers job.worker (view_of job.pass)
@@ -121,16 +123,24 @@ AreInOrder jobs = (i : ℕ) (job : Job) → slice_get jobs i ≡ Some job → jo
 
 module _ {law : Ghosts (LockedWorld JcrLaw) Event Owned (WorldFrame JcrLaw) (WorldOf JcrLaw)} where
   -- a worker gives back its pass of the lock, where it didn't want memory
-  abbrev pub IsGivenBack : Script → ℕ → SeatLock (LockedWorld JcrLaw) Event Owned (WorldFrame JcrLaw) (WorldOf JcrLaw)
-      → ℕ → Result (Pass (LockedWorld JcrLaw) Event Owned (WorldFrame JcrLaw) (WorldOf JcrLaw) law) AllocError → Type 0
+  abbrev pub IsGivenBack : Script → ℕ
+      → SeatLock (LockedWorld JcrLaw) Event Owned (WorldFrame JcrLaw) (WorldOf JcrLaw)
+      → ℕ
+      → Result (Pass (LockedWorld JcrLaw) Event Owned (WorldFrame JcrLaw) (WorldOf JcrLaw) law)
+      AllocError → Type 0
   IsGivenBack script workers lock worker pass =
       IfOk pass (λ pass. IsOf lock pass × HasWorked script workers worker (view_of pass))
 
   -- and so do all of them, in order
-  abbrev pub AreGivenBack : Script → ℕ → SeatLock (LockedWorld JcrLaw) Event Owned (WorldFrame JcrLaw) (WorldOf JcrLaw)
-      → List (Result (Pass (LockedWorld JcrLaw) Event Owned (WorldFrame JcrLaw) (WorldOf JcrLaw) law) AllocError) → Type 0
+  abbrev pub AreGivenBack : Script → ℕ
+      → SeatLock (LockedWorld JcrLaw) Event Owned (WorldFrame JcrLaw) (WorldOf JcrLaw)
+      → List (Result
+      (Pass (LockedWorld JcrLaw) Event Owned (WorldFrame JcrLaw) (WorldOf JcrLaw) law) AllocError)
+      → Type 0
   AreGivenBack script workers lock passes =
-      (i : ℕ) (pass : Result (Pass (LockedWorld JcrLaw) Event Owned (WorldFrame JcrLaw) (WorldOf JcrLaw) law) AllocError)
+      (i : ℕ)
+      (pass : Result
+      (Pass (LockedWorld JcrLaw) Event Owned (WorldFrame JcrLaw) (WorldOf JcrLaw) law) AllocError)
       → slice_get passes i ≡ Some pass → IsGivenBack script workers lock i pass
 
 -- ---- the first pass
@@ -149,8 +159,8 @@ pub record HasAll (script : Script) (v : PassKnown JcrLaw) : Type 0 where
   pub weight : v.weight ≡ 1024
   pub over : (s : ℕ) → s < length script.sessions → HasOver script v s
 
--- the script was run to its end by workers, whatever its schedule: the world is of its law, and what
--- its journal tells answers the script
+-- the script was run to its end by workers, whatever its schedule: the world is of its law, and
+-- what its journal tells answers the script
 pub record HasRunByWorkers (script : Script) (w : WorldOf JcrLaw) : Type 0 where
   pub law : w.law ≡ law_of script
   pub answers : AnswersScript script (live w.history)

@@ -5,9 +5,11 @@ ghost use Rattle.oak_port.specs.Ports.{Idle, LastsLess, Steps};
 use oak_machine::StepKind;
 use oak_port::{Port, StepOut};
 
-/// What a worker calls before each step of a session, outside the lock of the world: tests hold workers by it, and measure.
+/// What a worker calls before each step of a session, outside the lock of the world: tests hold
+/// workers by it, and measure.
 pub trait Gate {
-    /// Called before a step of the session, reading steps among them, with the kind that is due, or with `Say` before a reply is said.
+    /// Called before a step of the session, reading steps among them, with the kind that is due, or
+    /// with `Say` before a reply is said.
     fn before(&self, session: u32, kind: StepKind);
 }
 

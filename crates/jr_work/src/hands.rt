@@ -75,7 +75,7 @@ pub(crate) fn deal(
     Ok(hands)
 }
 
-// So many hands with nothing in them.
+// A hand with nothing in it for each worker.
 fn hands_of(alloc: Global, workers: u32) -> Result<Vec<Hand>, AllocError>
     ensures { IfOk result (λ hands. hands.items ≡ replicate workers []) }
 {

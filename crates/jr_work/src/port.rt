@@ -38,7 +38,7 @@ impl Took for Brand {
     ghost view = { spent_view };
 }
 
-// What a port took that has these.
+// What a port took that has this table and this view.
 pub(crate) struct TakenBy<K> {
     of: PhantomData<K>,
 }
@@ -49,7 +49,8 @@ impl<K: Took> Taken<JcrLaw> for TakenBy<K> {
     ghost view = { K.view };
 }
 
-// The shared port of a session at the law of the product. It makes the calls of the port that it has.
+// The shared port of a session at the law of the product. Each of its calls makes that of the port
+// inside.
 #[derive(Drop)]
 pub(crate) struct ScriptPort<'a, R: Wait, K: Took>
 where

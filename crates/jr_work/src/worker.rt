@@ -77,7 +77,7 @@ pub(crate) fn work<R: Wait, G: Gate>(
     Ok(pass)
 }
 
-// Runs the sessions of a worker, one after another. Their commands are in hand.
+// Runs the sessions of a worker, one after another. The sessions' commands are in hand.
 fn run_sessions<R: Wait, G: Gate>(
     crew: &Crew<'_, R, G>,
     pass: &mut WorldPass,
@@ -87,7 +87,8 @@ fn run_sessions<R: Wait, G: Gate>(
     requires crew { IsCrewOf crew.now.script.now.value crew.now.types.now crew.now.sessions }
     requires some { 1 ≤ crew.now.workers }
     requires own { IsOf crew.now.shared.now.lock pass.old }
-    requires out { IsHandedOut crew.now.script.now.value crew.now.workers worker (view_of pass.old) }
+    requires out { IsHandedOut crew.now.script.now.value crew.now.workers worker
+        (view_of pass.old) }
     requires hand { AreInHandOf crew.now.script.now.value.sessions crew.now.workers worker 0 hand }
     ensures own { OnOk result (IsOf crew.now.shared.now.lock pass.new) }
     ensures worked { OnOk result (HasWorked crew.now.script.now.value crew.now.workers worker

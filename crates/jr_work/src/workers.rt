@@ -24,10 +24,11 @@ use std::sync::Wait;
 use std::thread;
 use std::thread::Threads;
 
-/// Runs a script by so many workers, 1 to 16, on threads of their own: worker w runs sessions w, w + N, w + 2N and so on, each to its
-/// end, and calls the gate before each step. The schedule is ignored. It answers the world once the last worker has returned.
-/// Where a worker's run ends for want of memory the others go on to their end, and no world is answered. It waits for the lock
-/// of the world, and nothing is said of when it returns.
+/// Runs a script by a number of workers, 1 to 16, on threads of their own: worker w runs sessions
+/// w, w + N, w + 2N and so on, each to its end, and calls the gate before each step. The schedule
+/// is ignored. Answers the world once the last worker has returned. Where a worker's run ends for
+/// want of memory the others go on to their end, and no world is answered. Waits for the lock of
+/// the world, and nothing is said of when it returns.
 pub fn run_workers<R: Threads + Wait + Sync, G: Gate + Sync>(
     rt: &R,
     alloc: Global,
@@ -156,7 +157,8 @@ fn job_of<R, G>(
     requires few { crew.now.workers ≤ 16 }
     requires below { worker < crew.now.workers }
     requires own { IsOf crew.now.shared.now.lock main.old }
-    requires out { HasHandedOut crew.now.script.now.value crew.now.workers worker (view_of main.old) }
+    requires out { HasHandedOut crew.now.script.now.value crew.now.workers worker
+        (view_of main.old) }
     requires hand { AreInHandOf crew.now.script.now.value.sessions crew.now.workers worker 0 hand }
     ensures own { IsOf crew.now.shared.now.lock main.new }
     ensures out { IfOk result (λ job. HasHandedOut crew.now.script.now.value crew.now.workers
@@ -205,7 +207,8 @@ fn run_jobs<R: Threads + Wait + Sync, G: Gate + Sync>(
         crew.rt,
         jobs,
         &|job: Job| -> Result<WorldPass, AllocError>
-            requires crew { IsCrewOf crew.now.script.now.value crew.now.types.now crew.now.sessions }
+            requires crew { IsCrewOf crew.now.script.now.value crew.now.types.now
+                crew.now.sessions }
             requires some { 1 ≤ crew.now.workers }
             requires job { IsJob crew.now.script.now.value crew.now.workers
                 crew.now.shared.now.lock job }

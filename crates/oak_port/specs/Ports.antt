@@ -319,9 +319,9 @@ LastsOn before now old new = (new.history ≡ old.history) → now ≡ before
 -- ---- what a task asks
 
 -- a task may start: a login first, the others of a session that has logged in and not left; an edit
--- that the law lets start; a detaching where the session is attached, and others only where it isn't;
--- what changed since a vector where the session's cursor is there. No world does these yet: splits,
--- sweeps, collections, stops and recoveries
+-- that the law lets start; a detaching where the session is attached, and others only where it
+-- isn't; what changed since a vector where the session's cursor is there. No world splits, sweeps,
+-- collects, stops or recovers yet
 abbrev pub MayBegin : Starts → History → ℕ → Task → Type 0
 MayBegin starts h s task.Login = IsFalse (has_login h.past s)
 MayBegin starts h s (task.Commit edit marks) =

@@ -21,8 +21,8 @@ pub trait Port {
     /// kind of its next step, and what stands beside it.
     ghost shown: { Self → Shown };
 
-    /// How many steps are left of what is being done, where nobody else acts; only others' events may
-    /// raise it.
+    /// How many steps are left of what is being done, where nobody else acts; only others' events
+    /// may raise it.
     ghost left: { Self → ℕ };
 
     /// Begins a task, for whose events the session's next command asks. Memory may be refused, and
@@ -51,7 +51,8 @@ pub trait Port {
         ensures lowers { LastsLess (left self.old) (left self.new)
             (shown self.old) (shown self.new) result };
 
-    /// The kind of the next step; None where nothing is being done. Where no step is left nothing is.
+    /// The kind of the next step; None where nothing is being done. Where no step is left nothing
+    /// is.
     fn due(&mut self) -> Option<StepKind>
         ensures law { law self.new ≡ law self.old }
         ensures same { StaysSo (Self.L.may_start (law self.old)) (Self.L.may_say (law self.old))
@@ -95,7 +96,7 @@ pub trait Port {
         ensures left { LastsOn (left self.old) (left self.new)
             (shown self.old) (shown self.new) };
 
-    /// Says the session's next reply. It has a place, so this takes no memory.
+    /// Says the session's next reply. The reply has a place, and so saying takes no memory.
     fn say(&mut self, index: u32, text: &str)
         requires idle { (shown self.old).work ≡ Idle }
         requires place { HasRoom (shown self.old).room (length text.now) }

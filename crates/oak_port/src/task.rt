@@ -14,7 +14,7 @@ pub enum Task {
     Login,
     /// The session leaves.
     End,
-    /// Its base moves to the head.
+    /// The session's base moves to the head.
     Refresh,
     /// The node at a path is read at its base.
     Load(Path),
@@ -98,12 +98,12 @@ pub enum TaskEnd {
 /// What a step answers.
 #[derive(Drop)]
 pub enum StepOut {
-    /// It was made, and its task goes on.
+    /// The step was made, and its task goes on.
     Went(StepKind),
-    /// It was made, and its task has ended.
+    /// The step was made, and its task has ended.
     Ready(TaskEnd),
-    /// It waits for the head to see what the session committed, named by an earlier revision in
-    /// flight.
+    /// The session waits for the head to see what the session committed, named by an earlier
+    /// revision in flight.
     Wait(Revision),
     /// Memory was refused, and it had no effect. The task has ended; a commit that has drawn turns
     /// to undoing instead.

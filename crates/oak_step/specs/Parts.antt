@@ -284,7 +284,7 @@ EndsSo c v (answers.Ready (ends.Commit e)) =
     (c.outcome ≡ Some e) × (is_past c.outcome ≡ false) × (v ≡ work.Rest)
 EndsSo c v _ = ⊥
 
--- its revision ends
+-- the revision of a commit ends
 abbrev pub EndsCommit : ℕ → Parts → Committing → Parts → Work → StepOut → Type 0
 EndsCommit k p c q v o = (stage_of c ≡ stage.Finish) × (q ≡ parts_ended k p c.revision)
     × EndsSo c v o

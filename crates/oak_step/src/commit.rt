@@ -206,7 +206,7 @@ fn mark_by(
     match oak_acts::update(table, op) {
         Ok(before) => {
             events.push_kept(Event::Went(s, StepKind::Mark));
-            // It takes memory for what is found in a document that is written, and this is a mark.
+            // Memory is taken for what is found in a document that is written, and this is a mark.
             let _ = committer.feed(Reply::Updated(before));
             Ok(())
         }
@@ -225,7 +225,7 @@ fn mark_by(
     }
 }
 
-// Its own item and the other revision of the mark that is due.
+// The committer's own item and the other revision of the mark that is due.
 fn met(committer: &Committer) -> Result<(Item, Revision), AllocError>
     requires { IsSome (slice_get committer.now.writer.due 0) }
     ensures { IfOk result
@@ -321,7 +321,7 @@ pub(crate) fn last(
     match oak_acts::update(table, &op) {
         Ok(before) => {
             events.push_kept(Event::Commit(r));
-            // It takes memory for what is found in a document that is written, and all are.
+            // Memory is taken for what is found in a document that is written, and all are.
             let _ = committer.feed(Reply::Updated(before));
             drop(op);
             Ok(())
@@ -363,7 +363,7 @@ fn refused_last(
     }
 }
 
-// The undoing of a document, with a place that is kept for it. It takes no memory.
+// The undoing of a document, with a place that is kept for it. No memory is taken.
 pub(crate) fn undo(table: &mut DocTable, events: &mut Events, committer: &mut Committer, s: u32)
     requires table { IsTable table.old.documents }
     requires stage { stage_of committer.old ≡ stage.Undo }
@@ -380,7 +380,7 @@ pub(crate) fn undo(table: &mut DocTable, events: &mut Events, committer: &mut Co
     let _ = committer.feed(Reply::Undone);
 }
 
-// The end of a revision of a node, with two places that are kept for it. It takes no memory.
+// The end of a revision of a node, with two places that are kept for it. No memory is taken.
 pub(crate) fn end(memory: &mut NodeMem, events: &mut Events, node: u32, r: Revision)
     requires flying { IsInFlight memory.old r }
     requires places { 2 ≤ events.old.places }

@@ -31,8 +31,8 @@ pub enum Upkeep {
     Noted(Pending),
     /// A background write that has told some documents, and has still to tell the root's.
     Publish(BackWrite),
-    /// A background read. Its stage tells whether it reads the root, or the memory is to learn what
-    /// that told.
+    /// A background read. The stage of the read tells whether it reads the root, or the memory is
+    /// to learn what that told.
     Read(BackRead),
     Checkpoint(Text),
     Release(Text),

@@ -67,7 +67,7 @@ impl Work {
             Task::Attach(name) => Ok(Work::Upkeep(Upkeep::Attach(name))),
             Task::Detach => Ok(Work::Upkeep(Upkeep::Detach)),
             Task::Observe => Ok(Work::Upkeep(Upkeep::Observe)),
-            // No world does these yet.
+            // No world splits, sweeps, collects, stops or recovers yet.
             Task::Split(_path) => unreachable!(),
             Task::Sweep | Task::Collect | Task::Stop(_) | Task::Recover(_) => unreachable!(),
         }

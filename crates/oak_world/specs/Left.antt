@@ -140,7 +140,7 @@ abbrev pub looked_in : Table → Path → Option Document
 looked_in t p = whole p (nodes_in t p) (moved_in t p)
 
 module _ (r : Revision) where
-  -- marks on these commit roots, and what is left behind them
+  -- marks on the commit roots of a list, and what is left behind them
   abbrev pub marks_left : (Table → ℕ) → List Met → List Path → Table → ℕ
   marks_left behind [] roots t = behind t
   marks_left behind (f ∷ fs) roots t =
@@ -175,8 +175,8 @@ updates_left t c =
     (writes_left c.revision c.base c.edit.writes c.marks c.writer.left) c.writer.due c.roots t
     + length c.writer.written + length c.writer.left + 4
 
--- before its commit point its look, and then its updates with the marks that are to come; behind it
--- its end, and the move of the base
+-- a commit has left, before its commit point, its look, and then its updates with the marks that are
+-- to come; behind that its end, and the move of the base
 abbrev pub commit_left : Table → Committing → Option CommitEnd → ℕ
 commit_left t c None = looks_left c.looking + updates_left t (once_looked t c)
 commit_left t c (Some e) = suc (suc (length c.writer.written))

@@ -293,7 +293,7 @@ abbrev pub Turns : {L : Type 0} → WorldOf L → ℕ → WorldOf L → Type 0
 Turns w s v = ((o : StepOut) × StepsIn w s v o)
     ⊎ ((v ≡ w) × ((slice_get w.history.sessions s ≡ None) ⊎ (kind_due (work_in w.actors s) ≡ None)))
 
--- those that are named take their turns, one after another
+-- the sessions of a list take their turns, one after another
 abbrev pub Plays : {L : Type 0} → WorldOf L → List ℕ → WorldOf L → Type 0
 Plays w [] u = u ≡ w
 Plays {L} w (s ∷ ss) u = (v : WorldOf L) × Turns w s v × Plays v ss u

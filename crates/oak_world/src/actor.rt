@@ -27,13 +27,13 @@ pub(crate) struct Actor {
     pub(crate) work: Work,
     // How many events the journal had when it was told what to do.
     pub(crate) began: usize,
-    // Room for its next reply, where that is reserved.
+    // Room for the session's next reply, where that is reserved.
     pub(crate) reply: Option<Room>,
     // How many of the journal's places are kept for it.
     pub(crate) places: usize,
     // How many documents its loads and lists have read.
     pub(crate) reads: u64,
-    // Whether it is attached to a checkpoint.
+    // Whether the session is attached to a checkpoint.
     pub(crate) attached: bool,
 }
 
@@ -108,7 +108,7 @@ impl Actor {
         Ok(())
     }
 
-    // Says a reply for which room is kept. It takes no memory.
+    // Says a reply for which room is kept. No memory is taken.
     pub(crate) fn say(&mut self, events: &mut Events, s: u32, index: u32, text: &str)
         requires room { IsSomeAnd self.old.reply (λ bytes. length text.now ≤ bytes) }
         requires placed { IsPlaced self.old }
@@ -174,7 +174,7 @@ pub(crate) fn step_actor(
     out
 }
 
-// Whether it is a load or a list.
+// Whether what a session does is a load or a list.
 fn is_read(work: &Work) -> bool
     ensures { (out : _) (reads : _)
         → reads_after work.now out reads ≡ cond result (reads_of_load out reads) reads }

@@ -50,8 +50,8 @@ use std::marker::Model;
 use std::snapshot::Snapshot;
 
 /// The law, which clauses alone read and which takes no memory; the journal, the documents, the
-/// memories of one to eight cluster nodes, and what each session does. Its steps are those of Oak's
-/// DocumentNodeStore (Oak, DocumentNodeStore): one operation on one document or on one node's
+/// memories of one to eight cluster nodes, and what each session does. A world's steps are those of
+/// Oak's DocumentNodeStore (Oak, DocumentNodeStore): one operation on one document or on one node's
 /// memory, in any order of the sessions.
 pub struct World<L: Law> {
     alloc: Global,
@@ -165,7 +165,7 @@ impl<L: Law + Drop> World<L> {
         &self.journal
     }
 
-    /// All that `journal` tells of the world is so. It does nothing: callers learn the facts.
+    /// All that `journal` tells of the world is so. The call does nothing: callers learn the facts.
     pub fn is_kept(&self)
         ensures run { IsRun (L.may_start self.now.law) (L.may_say self.now.law)
             (live self.now.history) }
@@ -204,9 +204,9 @@ impl<L: Law + Drop> World<L> {
     }
 
     /// The pin at which the session reads: while it is attached to a checkpoint that which the
-    /// settings keep for it, else that of its node's memory, where it has come and not left. It is
-    /// at the base that the journal tells, which is settled and closed and at least its sweep
-    /// vector, and at it the documents show at each path the node of the journal's tree.
+    /// settings keep for it, else that of its node's memory, where it has come and not left. The
+    /// pin is at the base that the journal tells, which is settled and closed and at least its
+    /// sweep vector, and at it the documents show at each path the node of the journal's tree.
     pub fn pin(&self, actor: u32) -> Option<Pin>
         requires { IsTrue (is_some (slice_get self.now.history.sessions actor)) }
         ensures pin { result ≡ actor_pin (state_of self.now) actor }
@@ -297,7 +297,7 @@ impl<L: Law + Drop> World<L> {
         )
     }
 
-    /// The kind of the session's next step; None where it has no task. It takes no memory. Where no
+    /// The kind of the session's next step; None where it has no task. No memory is taken. Where no
     /// step is left it has none.
     pub fn due(&self, actor: u32) -> Option<StepKind>
         requires { IsTrue (is_some (slice_get self.now.history.sessions actor)) }
@@ -329,8 +329,8 @@ impl<L: Law + Drop> World<L> {
         seat.reserve(&mut self.journal.events, room)
     }
 
-    /// Says the session's next reply, which the law lets it say, and whose bytes are reserved. It
-    /// can't be refused.
+    /// Says the session's next reply, which the law lets it say, and whose bytes are reserved. The
+    /// reply can't be refused.
     pub fn say(&mut self, actor: u32, index: u32, text: &str)
         requires idle { IsIdle self.old actor }
         requires may { HasReplyPlace (L.may_say self.old.law) (live self.old.history)
@@ -375,7 +375,8 @@ impl<L: Law + Drop> World<L> {
     }
 }
 
-// Events are fewer than 2^63, since memory holds no more. It does nothing: callers learn the fact.
+// Events are fewer than 2^63, since memory holds no more. The call does nothing: callers learn the
+// fact.
 fn are_few(events: &[Event])
     ensures { length events.now < 2 ^ 63 }
 {

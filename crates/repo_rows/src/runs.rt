@@ -40,7 +40,8 @@ pub(crate) fn add_status(rest: &str, out: &mut Out) {
     add_call(words, input.as_bytes(), 1000, out);
 }
 
-// READ WRITE INPUT: the same of the words `steps --documents`.
+// READ WRITE INPUT: the status, whether a world is left, and what is written, by the words
+// `steps --documents`.
 pub(crate) fn add_documents(rest: &str, out: &mut Out) {
     let (read, rest) = cut(rest);
     let (write, input) = cut(rest);
@@ -52,15 +53,15 @@ pub(crate) fn add_documents(rest: &str, out: &mut Out) {
     );
 }
 
-// WORD READ WRITE BYTES: the same of an input whose bytes are these, each by two hexadecimal
-// digits, with spaces between them.
+// WORD READ WRITE BYTES: the status, whether a world is left, and what is written, of an input
+// whose bytes are given, each by two hexadecimal digits, with spaces between them.
 pub(crate) fn add_octets(rest: &str, out: &mut Out) {
     let (words, input) = cut_words(rest);
     let bytes = bytes_of(input, out);
     add_call(words, bytes.as_slice(), 1000, out);
 }
 
-// WORDS: the same of words that read nothing; a read would fail.
+// WORDS: a call of words that read nothing; a read would fail.
 pub(crate) fn add_unread(words: &str, out: &mut Out) {
     add_call((words, "0", "-"), &[], 1000, out);
 }
@@ -87,7 +88,8 @@ fn byte(word: &str) -> u8 {
     u8::from_str_radix(word, 16).unwrap_or(0)
 }
 
-// The words, and which calls fail to read and to write; the input; and how many bytes may be written.
+// The words, and which calls fail to read and to write; the input; and how many bytes may be
+// written.
 fn add_call(words: (&str, &str, &str), input: &[u8], room: usize, out: &mut Out) {
     let (word, read, write) = words;
     let fails_to_read = fails(read, out);

@@ -14,7 +14,7 @@ pub struct Repo {
 }
 
 impl Repo {
-    /// Before any line. It takes no memory.
+    /// Before any line. No memory is taken.
     pub fn new() -> Repo {
         Repo { is_of_laws: false }
     }

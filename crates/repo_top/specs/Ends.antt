@@ -54,7 +54,8 @@ input_of S source = record {
   faults = S.fault_count source;
 }
 
--- what a sink tells: the bytes that were written, how many of them were passed on, and how often it failed
+-- what a sink tells: the bytes that were written, how many of them were passed on, and how often it
+-- failed
 pub record Output : Type 0 where
   pub written : Option (List ℕ)
   pub passed : Option ℕ
@@ -134,7 +135,8 @@ pub record IsReadWhole (before now : Input) (bytes : List ℕ) : Type 0 where
 
 -- a source was read to its end, and its bytes are this script
 abbrev pub IsInputRead : Input → Input → Script → Type 0
-IsInputRead before now script = (bytes : List ℕ) × IsReadWhole before now bytes × SpellsScript bytes script
+IsInputRead before now script =
+    (bytes : List ℕ) × IsReadWhole before now bytes × SpellsScript bytes script
 
 -- the bytes have the fault: they break a rule of scripts, or are no text of node types
 abbrev pub HasFault : SourceKind → List ℕ → Unrun → Type 0
@@ -204,7 +206,8 @@ told_of meaning script world = printed_of (has_documents meaning) world
 
 -- ---- writing
 
--- some first bytes of a text were written, or all, and none of them was passed on by a flush that succeeded
+-- some first bytes of a text were written, or all, and none of them was passed on by a flush that
+-- succeeded
 pub record GrowsUpTo (before now : Output) (text : List ℕ) : Type 0 where
   pub size : ℕ
   pub within : size ≤ length text
@@ -216,14 +219,15 @@ pub record IsDelivered (before now : Output) (text : List ℕ) : Type 0 where
   pub whole : TakesFirst before.written now.written text (length text)
   pub passed : IsPassedOn now.written now.passed
 
--- the whole text was written, all was passed on, and this status is answered; or else the sink failed behind
--- some first bytes
+-- the whole text was written, all was passed on, and this status is answered; or else the sink
+-- failed behind some first bytes
 abbrev pub Delivers : Output → Output → List ℕ → Status → Status → Type 0
 Delivers before now text answer result =
     ((result ≡ answer) × IsDelivered before now text)
     ⊎ ((result ≡ status.WriteFault) × Rose before.faults now.faults × GrowsUpTo before now text)
 
--- memory was refused, and the sink is as it was: nothing was written or passed on, and it didn't fail
+-- memory was refused, and the sink is as it was: nothing was written or passed on, and it didn't
+-- fail
 abbrev pub IsRefused : Output → Output → Status → Type 0
 IsRefused before now result = (result ≡ status.Memory) × (now ≡ before)
 
@@ -259,8 +263,8 @@ pub record IsUnrun (meaning : Words) (e : Effect) (result : Status) : Type 0 whe
   pub none : e.left ≡ None
   pub faults : Faults e.sink e.sink_now why result
 
--- there is a script; with a world that is left it was run to its end, and what is told of the run is
--- written
+-- there is a script; with a world that is left it was run to its end, and what is told of the run
+-- is written
 pub record RunsScript (meaning : Words) (e : Effect) (result : Status) : Type 0 where
   pub script : Script
   pub given : IsScriptFor meaning e script
@@ -312,7 +316,8 @@ IsCause c unrun.Words = (meaning : Words) → ¬ AsksFor c meaning
 IsCause c why = (meaning : Words) × AsksFor c meaning
     × IsMissing (source_kind meaning) c.does.source c.does.source_now why
 
--- a script was run to its end, its world is left, and what is told of the run is written and passed on
+-- a script was run to its end, its world is left, and what is told of the run is written and passed
+-- on
 pub record IsScriptRun (c : Invocation) : Type 0 where
   pub world : WorldOf JcrLaw
   pub left : c.does.left ≡ Some world
@@ -358,8 +363,8 @@ pub record IsWrittenInPart (c : Invocation) : Type 0 where
   pub fault : Rose c.does.sink.faults c.does.sink_now.faults
   pub part : IsPart c c.does.left
 
--- memory was refused, the sink is as it was, and the source didn't fail; a world that is left is one
--- with which a script was run to its end
+-- memory was refused, the sink is as it was, and the source didn't fail; a world that is left is
+-- one with which a script was run to its end
 pub record IsStopped (c : Invocation) : Type 0 where
   pub asked : (meaning : Words) × AsksFor c meaning
   pub ran : IfSome c.does.left (HasRunAll c)

@@ -27,7 +27,8 @@ abbrev pub offset_text : Option ℕ → List ℕ
 offset_text None = []
 offset_text (Some offset) = codes " " ++ decimal offset
 
--- the line of a broken script: the rule, the pointer as JSON text, and the offset where there is one
+-- the line of a broken script: the rule, the pointer as JSON text, and the offset where there is
+-- one
 abbrev pub script_line : ℕ → List ℕ → Option ℕ → List ℕ
 script_line rule pointer offset =
     codes "bad script " ++ decimal rule ++ codes " " ++ compact_text (string pointer)

@@ -32,7 +32,8 @@ row_option o = record { name = o.name.now; takes = o.takes; required = o.require
 
 -- a row of the table of words, without where its parts lie in memory
 abbrev pub table_row : Row → TableRow
-table_row r = record { command = r.command.now; verb = r.verb; options = map row_option r.options.now }
+table_row r =
+    record { command = r.command.now; verb = r.verb; options = map row_option r.options.now }
 
 -- 1 to 20 decimal digits spell a number
 pub record IsNumber (digits : List ℕ) (n : ℕ) : Type 0 where
@@ -45,17 +46,20 @@ abbrev pub option_word : List ℕ → Option (List ℕ) → List ℕ
 option_word name None = 45 ∷ (45 ∷ name)
 option_word name (Some value) = 45 ∷ (45 ∷ (name ++ (61 ∷ value)))
 
--- how an option is given by the value in its word and by the words behind it, which go on with the rest: a flag has no value, and a
--- number's digits are the value or the next word
+-- how an option is given by the value in its word and by the words behind it, which go on with the
+-- rest: a flag has no value, and a number's digits are the value or the next word
 abbrev pub IsGivenBy : Given → Option (List ℕ) → List (List ℕ) → List (List ℕ) → Type 0
 IsGivenBy given.Flag None words rest = words ≡ rest
 IsGivenBy given.Flag (Some value) words rest = ⊥
-IsGivenBy (given.Number n) None words rest = (digits : List ℕ) × IsNumber digits n × (words ≡ digits ∷ rest)
+IsGivenBy (given.Number n) None words rest =
+    (digits : List ℕ) × IsNumber digits n × (words ≡ digits ∷ rest)
 IsGivenBy (given.Number n) (Some value) words rest = IsNumber value n × (words ≡ rest)
 
 -- words begin with an option that is given so, and go on with the rest
 abbrev pub Begins : List ℕ → Given → List (List ℕ) → List (List ℕ) → Type 0
-Begins name given words rest = (value : Option (List ℕ)) × (behind : List (List ℕ)) × (words ≡ option_word name value ∷ behind) × IsGivenBy given value behind rest
+Begins name given words rest =
+    (value : Option (List ℕ)) × (behind : List (List ℕ)) × (words ≡ option_word name value ∷ behind)
+    × IsGivenBy given value behind rest
 
 -- what an option takes: a flag, or a number in its range
 abbrev pub FitsOption : Takes → Given → Type 0
@@ -77,16 +81,21 @@ pub record IsOption (options : List RowOption) (name : List ℕ) (given : Given)
 -- words are options as they are given, one after the other
 abbrev pub AreGiven : List RowOption → List (List ℕ × Given) → List (List ℕ) → Type 0
 AreGiven options [] words = words ≡ []
-AreGiven options (g ∷ more) words = (rest : List (List ℕ)) × IsOption options g.0 g.1 × Begins g.0 g.1 words rest × AreGiven options more rest
+AreGiven options (g ∷ more) words =
+    (rest : List (List ℕ)) × IsOption options g.0 g.1 × Begins g.0 g.1 words rest
+    × AreGiven options more rest
 
 -- words are options: in any order, none twice, the required ones among them
-pub record AreOptions (options : List RowOption) (given : List (List ℕ × Given)) (words : List (List ℕ)) : Type 0 where
+pub record AreOptions (options : List RowOption) (given : List (List ℕ × Given))
+    (words : List (List ℕ)) : Type 0 where
   pub each : AreGiven options given words
   pub once : IsDistinct bytes_eq (keys_of given)
-  pub needed : AllByRecursion (λ o. IsTrue o.required → IsSome (lookup (bytes_eq o.name) given)) options
+  pub needed : AllByRecursion
+      (λ o. IsTrue o.required → IsSome (lookup (bytes_eq o.name) given)) options
 
 -- words spell a row of a table: its command, and then options of it
-pub record IsRow (table : List TableRow) (row : TableRow) (given : List (List ℕ × Given)) (words : List (List ℕ)) : Type 0 where
+pub record IsRow (table : List TableRow) (row : TableRow) (given : List (List ℕ × Given))
+    (words : List (List ℕ)) : Type 0 where
   pub rest : List (List ℕ)
   pub command : words ≡ row.command ∷ rest
   pub first : find (λ r. bytes_eq r.command row.command) table ≡ Some row
@@ -134,7 +143,7 @@ seed_option = record {
 abbrev pub sessions_option : RowOption
 sessions_option = record { name = codes "sessions"; takes = takes.Number 1 64; required = true }
 
--- it is run
+-- the script that was made is run
 abbrev pub run_option : RowOption
 run_option = record { name = codes "run"; takes = takes.Nothing; required = false }
 
@@ -182,7 +191,9 @@ MakesMeaning verb.Gen all _ = ⊥
 
 -- words have this meaning: they spell a row, and the options that they give make the meaning
 abbrev pub WordsMean : List (List ℕ) → Words → Type 0
-WordsMean words meaning = (row : TableRow) × (given : List (List ℕ × Given)) × IsRow rows row given words × MakesMeaning row.verb given meaning
+WordsMean words meaning =
+    (row : TableRow) × (given : List (List ℕ × Given)) × IsRow rows row given words
+    × MakesMeaning row.verb given meaning
 
 -- words have a meaning
 abbrev pub HasMeaning : List (List ℕ) → Type 0

@@ -1,6 +1,6 @@
-//! The top calls: reads a script, runs it by its schedule or by worker threads, and writes the replies;
-//! makes a script, and writes it or runs it and writes what came of it; or reads node types and writes
-//! their canonical text; and answers a status.
+//! The top calls: reads a script, runs it by its schedule or by worker threads, and writes the
+//! replies; makes a script, and writes it or runs it and writes what came of it; or reads node
+//! types and writes their canonical text; and answers a status.
 #![tactic(auto)]
 
 mod made;

@@ -20,8 +20,8 @@ use jr_work::run_steps;
 use oak_world::World;
 use std::alloc::{AllocError, Global};
 
-// Makes the script of a seed for so many sessions, and writes its text; or runs it, and writes the line
-// that counts what came of it. Whatever the source tells, it is as it was.
+// Makes the script of a seed for so many sessions, and writes its text; or runs it, and writes the
+// line that counts what came of it. Whatever the source tells, it is as it was.
 pub(crate) fn made<K: Sink>(
     alloc: Global,
     seed: u64,

@@ -28,9 +28,9 @@ use std::thread::Threads;
 /// The greatest number of bytes of an input.
 pub const LONGEST_INPUT: usize = 16_777_216;
 
-/// All that the program does: takes the words of the command line, a source and a sink, the gate of the
-/// worker threads, and answers the status. `Ends` says what each status says of the words, of what was
-/// read, written and passed on, and of the world that is left.
+/// All that the program does: takes the words of the command line, a source and a sink, the gate of
+/// the worker threads, and answers the status. `Ends` says what each status says of the words, of
+/// what was read, written and passed on, and of the world that is left.
 pub fn repo_main<R: Threads + Wait + Sync, S: Source, K: Sink, G: Gate + Sync>(
     rt: &R,
     alloc: Global,
@@ -166,8 +166,8 @@ fn script_of<S: Source>(alloc: Global, source: &mut S) -> Result<Script, Unrun>
     Ok(read_script(alloc, bytes.as_slice())?)
 }
 
-// Leaves the world with which a run ended, and writes what is printed of it; or writes the line that
-// says why no script is run.
+// Leaves the world with which a run ended, and writes what is printed of it; or writes the line
+// that says why no script is run.
 fn told<K: Sink>(
     alloc: Global,
     ran: Result<World<JcrLaw>, Unrun>,
@@ -229,7 +229,7 @@ fn leave_none(left: &mut Option<World<JcrLaw>>)
     drop(before);
 }
 
-// This world is left.
+// A world is left, in place of what was left before.
 pub(crate) fn leave(world: World<JcrLaw>, left: &mut Option<World<JcrLaw>>)
     ensures { left.new ≡ Some world }
 {
@@ -284,7 +284,8 @@ fn untyped<K: Sink>(alloc: Global, sink: &mut K, offset: usize) -> Status
     }
 }
 
-// Writes the bytes, passes on all that was written, and answers the status, or that the sink failed.
+// Writes the bytes, passes on all that was written, and answers the status, or that the sink
+// failed.
 pub(crate) fn written<K: Sink>(sink: &mut K, bytes: &[u8], status: Status) -> Status
     ensures { Delivers (output_of K.Sink sink.old) (output_of K.Sink sink.new) bytes.now status
         result }

@@ -9,21 +9,21 @@ ghost use Rattle.repo_top.specs.declared.words.Words.TheVariants.{Gen, Run, Step
 /// What a list of words means.
 #[derive(Clone, Copy, PartialEq, Eq)]
 pub enum Words {
-    /// `steps`: reads a script from the source, runs it on one thread, prints the replies, and behind
-    /// them the documents where these are asked for.
+    /// `steps`: reads a script from the source, runs it on one thread, prints the replies, and
+    /// behind them the documents where these are asked for.
     Steps {
         documents: bool,
     },
     /// `types`: reads a text of node types from the source, prints its canonical form.
     Types,
-    /// `run`: reads a script from the source, runs it by so many worker threads, 1 to 16, prints the
-    /// replies, and behind them the documents where these are asked for.
+    /// `run`: reads a script from the source, runs it by so many worker threads, 1 to 16, prints
+    /// the replies, and behind them the documents where these are asked for.
     Run {
         workers: u32,
         documents: bool,
     },
-    /// `gen`: makes a script from a seed for so many sessions, 1 to 64, and prints it; or runs it on
-    /// one thread and prints one line that counts what came of it. The source isn't read.
+    /// `gen`: makes a script from a seed for so many sessions, 1 to 64, and prints it; or runs it
+    /// on one thread and prints one line that counts what came of it. The source isn't read.
     Gen {
         seed: u64,
         sessions: u32,
@@ -43,7 +43,7 @@ pub enum Verb {
 /// What an option takes.
 #[derive(Clone, Copy)]
 pub enum Takes {
-    /// Nothing: it is a flag.
+    /// Nothing: the option is a flag.
     Nothing,
     /// A number in this range.
     Number { least: u64, most: u64 },
@@ -150,7 +150,8 @@ pub fn words_meant(words: &[String]) -> Option<Words>
 // What a command means with the options that words give it.
 fn meaning_of(row: &Row, words: &[String]) -> Words
     requires row { table_row row.now ≡ verb_row row.now.verb }
-    requires given { SpellOptions (map row_option row.now.options.now) (map string_bytes words.now) }
+    requires given { SpellOptions (map row_option row.now.options.now)
+        (map string_bytes words.now) }
     ensures { (given : List (List ℕ × Given))
         → AreGiven (map row_option row.now.options.now) given (map string_bytes words.now)
         → MakesMeaning row.now.verb given result }
@@ -216,7 +217,12 @@ pub fn meaning_of_gen()
 
 /// The row of a table that a list of words spells.
 pub fn row_meant<'t>(table: &'t [Row<'t>], words: &[String]) -> Option<&'t Row<'t>>
-    ensures { MatchOption result ((row : TableRow) (given : List (List ℕ × Given)) → ¬ IsRow (map table_row table.now) row given (map string_bytes words.now)) (λ row. (given : List (List ℕ × Given)) × IsRow (map table_row table.now) (table_row row.now) given (map string_bytes words.now)) }
+    ensures { MatchOption result
+        ((row : TableRow) (given : List (List ℕ × Given))
+        → ¬ IsRow (map table_row table.now) row given (map string_bytes words.now))
+        (λ row. (given : List (List ℕ × Given))
+        × IsRow (map table_row table.now) (table_row row.now) given
+        (map string_bytes words.now)) }
 {
     let [command, rest @ ..] = words else {
         return None;
@@ -238,7 +244,9 @@ fn row_named<'t>(table: &'t [Row<'t>], command: &str) -> Option<&'t Row<'t>>
 
 /// How words give an option of this name, where they do.
 pub fn option_given(options: &[WordOption], words: &[String], name: &str) -> Option<Given>
-    ensures { (given : List (List ℕ × Given)) → AreGiven (map row_option options.now) given (map string_bytes words.now) → result ≡ lookup (bytes_eq name.now) given }
+    ensures { (given : List (List ℕ × Given))
+        → AreGiven (map row_option options.now) given (map string_bytes words.now)
+        → result ≡ lookup (bytes_eq name.now) given }
 {
     let first = first_given(options, words)?;
     if name == first.name {
@@ -250,7 +258,10 @@ pub fn option_given(options: &[WordOption], words: &[String], name: &str) -> Opt
 
 // Words are options, one after the other, and none twice.
 fn are_given(options: &[WordOption], words: &[String]) -> bool
-    ensures { IsTrue result ↔ ((given : List (List ℕ × Given)) × AreGiven (map row_option options.now) given (map string_bytes words.now) × IsDistinct bytes_eq (keys_of given)) }
+    ensures { IsTrue result
+        ↔ ((given : List (List ℕ × Given))
+        × AreGiven (map row_option options.now) given (map string_bytes words.now)
+        × IsDistinct bytes_eq (keys_of given)) }
 {
     if words.is_empty() {
         return true;
@@ -266,7 +277,9 @@ fn are_given(options: &[WordOption], words: &[String]) -> bool
 
 // Words spell options.
 fn spells(options: &[WordOption], words: &[String]) -> bool
-    ensures { IsTrue result ↔ ((given : List (List ℕ × Given)) × AreOptions (map row_option options.now) given (map string_bytes words.now)) }
+    ensures { IsTrue result
+        ↔ ((given : List (List ℕ × Given))
+        × AreOptions (map row_option options.now) given (map string_bytes words.now)) }
 {
     if !are_given(options, words) {
         return false;
@@ -281,14 +294,23 @@ fn spells(options: &[WordOption], words: &[String]) -> bool
 
 // An option that is required is given.
 fn is_met(option: &WordOption, options: &[WordOption], words: &[String]) -> bool
-    ensures { (given : List (List ℕ × Given)) → AreGiven (map row_option options.now) given (map string_bytes words.now) → IsTrue result ↔ (IsTrue option.now.required → IsSome (lookup (bytes_eq option.now.name.now) given)) }
+    ensures { (given : List (List ℕ × Given))
+        → AreGiven (map row_option options.now) given (map string_bytes words.now)
+        → IsTrue result ↔
+        (IsTrue option.now.required → IsSome (lookup (bytes_eq option.now.name.now) given)) }
 {
     !option.required || option_given(options, words, option.name).is_some()
 }
 
 // The option with which words begin.
 fn first_given<'w>(options: &[WordOption], words: &'w [String]) -> Option<FirstGiven<'w>>
-    ensures { MatchOption result ((name : List ℕ) (given : Given) (rest : List (List ℕ)) → IsOption (map row_option options.now) name given → ¬ Begins name given (map string_bytes words.now) rest) (λ r. IsOption (map row_option options.now) r.name.now r.given × Begins r.name.now r.given (map string_bytes words.now) (map string_bytes r.rest.now)) }
+    ensures { MatchOption result
+        ((name : List ℕ) (given : Given) (rest : List (List ℕ))
+        → IsOption (map row_option options.now) name given
+        → ¬ Begins name given (map string_bytes words.now) rest)
+        (λ r. IsOption (map row_option options.now) r.name.now r.given
+        × Begins r.name.now r.given (map string_bytes words.now)
+        (map string_bytes r.rest.now)) }
 {
     let [word, behind @ ..] = words else {
         return None;
@@ -299,13 +321,20 @@ fn first_given<'w>(options: &[WordOption], words: &'w [String]) -> Option<FirstG
     Some(FirstGiven { name, given, rest })
 }
 
-// How an option is given by the value in its word and by the words behind it, and the rest of these.
+// How an option is given by the value in its word and by the words behind it, and the rest of
+// these.
 fn how_given<'w>(
     takes: Takes,
     value: Option<&str>,
     words: &'w [String],
 ) -> Option<(Given, &'w [String])>
-    ensures { MatchOption result ((given : Given) (rest : List (List ℕ)) → FitsOption takes given → ¬ IsGivenBy given (option_map (λ v. v.now) value.entry) (map string_bytes words.now) rest) (λ r. FitsOption takes r.0 × IsGivenBy r.0 (option_map (λ v. v.now) value.entry) (map string_bytes words.now) (map string_bytes r.1.now)) }
+    ensures { MatchOption result
+        ((given : Given) (rest : List (List ℕ)) → FitsOption takes given
+        → ¬ IsGivenBy given (option_map (λ v. v.now) value.entry)
+        (map string_bytes words.now) rest)
+        (λ r. FitsOption takes r.0
+        × IsGivenBy r.0 (option_map (λ v. v.now) value.entry) (map string_bytes words.now)
+        (map string_bytes r.1.now)) }
 {
     match (takes, value) {
         (Takes::Nothing, None) => Some((Given::Flag, words)),
@@ -333,7 +362,10 @@ fn option_named<'t>(options: &'t [WordOption<'t>], name: &str) -> Option<&'t Wor
 
 // The name of the option whose word this is, and the value in it.
 fn named(word: &str) -> Option<(&str, Option<&str>)>
-    ensures { MatchOption result ((name : List ℕ) (value : Option (List ℕ)) → word.now ≢ option_word name value) (λ r. HasNoEquals r.0.now × (word.now ≡ option_word r.0.now (option_map (λ v. v.now) r.1))) }
+    ensures { MatchOption result
+        ((name : List ℕ) (value : Option (List ℕ)) → word.now ≢ option_word name value)
+        (λ r. HasNoEquals r.0.now
+        × (word.now ≡ option_word r.0.now (option_map (λ v. v.now) r.1))) }
 {
     Some(at_equals(behind_dash(behind_dash(word)?)?))
 }
@@ -341,7 +373,8 @@ fn named(word: &str) -> Option<(&str, Option<&str>)>
 // What stands in front of the first `=` of a text, and what behind it.
 fn at_equals(text: &str) -> (&str, Option<&str>)
     ensures plain { HasNoEquals result.0.now }
-    ensures parts { MatchOption result.1 (text.now ≡ result.0.now) (λ value. text.now ≡ result.0.now ++ (61 ∷ value.now)) }
+    ensures parts { MatchOption result.1 (text.now ≡ result.0.now)
+        (λ value. text.now ≡ result.0.now ++ (61 ∷ value.now)) }
 {
     match text.split_once('=') {
         Some((name, value)) => (name, Some(value)),
@@ -351,14 +384,16 @@ fn at_equals(text: &str) -> (&str, Option<&str>)
 
 // What stands behind the dash with which a text begins.
 fn behind_dash(text: &str) -> Option<&str>
-    ensures { MatchOption result ((more : List ℕ) → text.now ≢ 45 ∷ more) (λ behind. text.now ≡ 45 ∷ behind.now) }
+    ensures { MatchOption result ((more : List ℕ) → text.now ≢ 45 ∷ more)
+        (λ behind. text.now ≡ 45 ∷ behind.now) }
 {
     text.strip_prefix('-')
 }
 
 // The number that digits spell, where it is in the range.
 fn number_within(least: u64, most: u64, digits: &str) -> Option<u64>
-    ensures { MatchOption result ((n : ℕ) → IsNumber digits.now n → least ≤ n → ¬ (n ≤ most)) (λ n. IsNumber digits.now n × (least ≤ n) × (n ≤ most)) }
+    ensures { MatchOption result ((n : ℕ) → IsNumber digits.now n → least ≤ n → ¬ (n ≤ most))
+        (λ n. IsNumber digits.now n × (least ≤ n) × (n ≤ most)) }
 {
     if digits.len() > 20 || digits.as_bytes().first() == Some(&b'+') {
         return None;

@@ -3,7 +3,7 @@ use Rattle.serde_json.specs.View.{items_view}
 use Rattle.serde_json.specs.declared.value.Value as json
 use Rattle.jr_args.specs.Words.{fit_kinds}
 use Rattle.jr_args.specs.declared.word.Kind.{Kind}
-use Rattle.jr_args.proofs.word.+fit_kinds.Goals as goal
+use Rattle.jr_args.proofs.word.+fits.Goals as goal
 
 none_left : (ks : List Kind) (vs : List json.Value) → length ks < 1 → (length vs == 0) ≡ fit_kinds ks (items_view vs)
 none_left [] [] h = refl
