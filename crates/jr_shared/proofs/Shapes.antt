@@ -73,10 +73,6 @@ swept : (h : History) (s : ℕ) (r : Revision) (k : StepKind) (own : Past) (now 
 swept h s r k own now (is, inl m) = inl (event.Went s kind.Sweep, m.0, refl)
 swept h s r k own now (is, inr m) = inl (event.Sweep m.0 r, m.2, refl)
 
-swept : (h : History) (s : ℕ) (r : Revision) (k : StepKind) (own : Past) (now : Shows) → SweepsOn h s r k own now → IsAdded own
-swept h s r k own now (is, inl m) = inl (event.Went s kind.Sweep, m.0, refl)
-swept h s r k own now (is, inr m) = inl (event.Sweep m.0 r, m.2, refl)
-
 pub shaped : (h : History) (s : ℕ) (w : Shows) (o : StepOut) (own : Past) (now : Shows) → Makes h s w o own now → IsShaped (adds w o) own
 shaped h s (Starting task.Login) (out.Ready (end.Pinned pin)) own now m = inl (event.Login s pin.base, m.0, refl)
 shaped h s (Starting task.Refresh) (out.Ready (end.Pinned pin)) own now m = inl (event.Refresh s pin.base, m.0, refl)
