@@ -120,12 +120,20 @@ module _ (past : Past) (s : ℕ) (r : Revision) where
       by : (now ≡ Writing r) ⊎ (now ≡ Undoing r commit.Memory) → IsCommitting (e ++ past) s now
       by (inl work) = wrote (Writing r) (drawn_went kind.Write refl has, unmade) work
       by (inr work) = wrote (Undoing r commit.Memory) (drawn_went kind.Write refl has, unmade, tt) work
-  committing_write k e now (has, unmade) (inr (inl (a, same, work))) =
+  committing_write k e now (has, unmade) (inr (inl (a, same, work))) = by work
+    where
+      read : (w : Work) → IsCommitting past s w → now ≡ w → IsCommitting (e ++ past) s now
+      read w is work = subst (λ (w : Work). IsCommitting (e ++ past) s w) (sym work) (subst (λ (p : Past). IsCommitting (p ++ past) s w) (sym same) is)
+
+      by : (now ≡ Writing r) ⊎ (now ≡ Undoing r commit.Memory) → IsCommitting (e ++ past) s now
+      by (inl work) = read (Writing r) (has, unmade) work
+      by (inr work) = read (Undoing r commit.Memory) (has, unmade, tt) work
+  committing_write k e now (has, unmade) (inr (inr (inl (a, same, work)))) =
       subst (λ (w : Work). IsCommitting (e ++ past) s w) (sym work)
       (subst (λ (p : Past). IsCommitting (p ++ past) s (Writing r)) (sym same) (drawn_went kind.Mark refl has, unmade))
-  committing_write k e now (has, unmade) (inr (inr (inl (a, same, work)))) =
+  committing_write k e now (has, unmade) (inr (inr (inr (inl (a, same, work))))) =
       subst (λ (w : Work). IsCommitting (e ++ past) s w) (sym work) (subst (λ (p : Past). IsCommitting (p ++ past) s (Deciding r)) (sym same) (drawn_commit has, made))
-  committing_write k e now (has, unmade) (inr (inr (inr (item, o, same, work)))) =
+  committing_write k e now (has, unmade) (inr (inr (inr (inr (item, o, mark, same, work))))) =
       subst (λ (w : Work). IsCommitting (e ++ past) s w) (sym work) (subst (λ (p : Past). IsCommitting (p ++ past) s (Undoing r (commit.Clash item o))) (sym same) (drawn_refuse item o has, unmade, refused item o))
 
   pub committing_undo : (f : CommitEnd) (e : Past) (now : Work) → IsCommitting past s (Undoing r f) → (e ≡ event.Went s kind.Undo ∷ []) → now ≡ Undoing r f → IsCommitting (e ++ past) s now

@@ -186,23 +186,35 @@ quiet_finish s r e (inr (k, v, same)) = quiet_by s e (event.Head k v ∷ event.E
 
 pub quiet_write : (s : ℕ) (r : Revision) (k : StepKind) (e : Past) (now : Work) → WritesOn s r k e now → IsQuiet s e
 quiet_write s r k e now (inl (a, same, work)) = quiet_by s e (event.Went s kind.Write ∷ []) same record { left = λ q. refl; next = λ q. refl; attached = λ q. refl; begins = λ q. refl; calls = refl; draws = λ q. refl; pins = λ q h. h; cursor = λ q h. refl }
-quiet_write s r k e now (inr (inl (a, same, work))) = quiet_by s e (event.Went s kind.Mark ∷ []) same record { left = λ q. refl; next = λ q. refl; attached = λ q. refl; begins = λ q. refl; calls = refl; draws = λ q. refl; pins = λ q h. h; cursor = λ q h. refl }
-quiet_write s r k e now (inr (inr (inl (a, same, work)))) = quiet_by s e (event.Commit r ∷ []) same record { left = λ q. refl; next = λ q. refl; attached = λ q. refl; begins = λ q. refl; calls = refl; draws = λ q. refl; pins = λ q h. h; cursor = λ q h. refl }
-quiet_write s r k e now (inr (inr (inr (item, o, same, work)))) = quiet_by s e (event.Refuse r item o ∷ []) same record { left = λ q. refl; next = λ q. refl; attached = λ q. refl; begins = λ q. refl; calls = refl; draws = λ q. refl; pins = λ q h. h; cursor = λ q h. refl }
+quiet_write s r k e now (inr (inl (a, same, work))) = quiet_by s e [] same record { left = λ q. refl; next = λ q. refl; attached = λ q. refl; begins = λ q. refl; calls = refl; draws = λ q. refl; pins = λ q h. h; cursor = λ q h. refl }
+quiet_write s r k e now (inr (inr (inl (a, same, work)))) = quiet_by s e (event.Went s kind.Mark ∷ []) same record { left = λ q. refl; next = λ q. refl; attached = λ q. refl; begins = λ q. refl; calls = refl; draws = λ q. refl; pins = λ q h. h; cursor = λ q h. refl }
+quiet_write s r k e now (inr (inr (inr (inl (a, same, work))))) = quiet_by s e (event.Commit r ∷ []) same record { left = λ q. refl; next = λ q. refl; attached = λ q. refl; begins = λ q. refl; calls = refl; draws = λ q. refl; pins = λ q h. h; cursor = λ q h. refl }
+quiet_write s r k e now (inr (inr (inr (inr (item, o, mark, same, work))))) = quiet_by s e (event.Refuse r item o ∷ []) same record { left = λ q. refl; next = λ q. refl; attached = λ q. refl; begins = λ q. refl; calls = refl; draws = λ q. refl; pins = λ q h. h; cursor = λ q h. refl }
 
 -- ---- the events of a step of a commit
 
-pub one_write : (s : ℕ) (r : Revision) (k : StepKind) (e : Past) (now : Work) → WritesOn s r k e now → IsOneStep e
-one_write s r k e now (inl (a, same, work)) = inl (event.Went s kind.Write, same, refl)
-one_write s r k e now (inr (inl (a, same, work))) = inl (event.Went s kind.Mark, same, refl)
-one_write s r k e now (inr (inr (inl (a, same, work)))) = inl (event.Commit r, same, refl)
-one_write s r k e now (inr (inr (inr (item, o, same, work)))) = inl (event.Refuse r item o, same, refl)
+-- a step of a commit that writes is counted, but where it reads
+pub one_write : (s : ℕ) (r : Revision) (k : StepKind) (e : Past) (now : Work) → (k ≡ kind.Read → ⊥) → WritesOn s r k e now → IsOneStep e
+one_write s r k e now counted (inl (a, same, work)) = inl (event.Went s kind.Write, same, refl)
+one_write s r k e now counted (inr (inl (a, same, work))) = absurd (counted a)
+one_write s r k e now counted (inr (inr (inl (a, same, work)))) = inl (event.Went s kind.Mark, same, refl)
+one_write s r k e now counted (inr (inr (inr (inl (a, same, work))))) = inl (event.Commit r, same, refl)
+one_write s r k e now counted (inr (inr (inr (inr (item, o, mark, same, work))))) = inl (event.Refuse r item o, same, refl)
+
+-- and where it reads nothing is added
+pub none_read : (s : ℕ) (r : Revision) (e : Past) (now : Work) → WritesOn s r kind.Read e now → e ≡ []
+none_read s r e now (inl m) = let never : kind.Read ≡ kind.Write = m.0 in cc
+none_read s r e now (inr (inl m)) = m.1
+none_read s r e now (inr (inr (inl m))) = let never : kind.Read ≡ kind.Mark = m.0 in cc
+none_read s r e now (inr (inr (inr (inl m)))) = let never : kind.Read ≡ kind.Last = m.0 in cc
+none_read s r e now (inr (inr (inr (inr m)))) = elim m.2 [ inl e ↦ (let never : kind.Read ≡ kind.Mark = e in cc) | inr e ↦ (let never : kind.Read ≡ kind.Last = e in cc) ]
 
 pub awaited_write : (s : ℕ) (r : Revision) (k : StepKind) (e : Past) (now : Work) (past : Past) → WritesOn s r k e now → HasAwaited past e now
 awaited_write s r k e now past (inl (a, same, work)) = subst (λ (p : Past). HasAwaited past p now) (sym same) tt
 awaited_write s r k e now past (inr (inl (a, same, work))) = subst (λ (p : Past). HasAwaited past p now) (sym same) tt
 awaited_write s r k e now past (inr (inr (inl (a, same, work)))) = subst (λ (p : Past). HasAwaited past p now) (sym same) tt
-awaited_write s r k e now past (inr (inr (inr (item, o, same, work)))) = subst (λ (p : Past). HasAwaited past p now) (sym same) tt
+awaited_write s r k e now past (inr (inr (inr (inl (a, same, work))))) = subst (λ (p : Past). HasAwaited past p now) (sym same) tt
+awaited_write s r k e now past (inr (inr (inr (inr (item, o, mark, same, work))))) = subst (λ (p : Past). HasAwaited past p now) (sym same) tt
 
 pub one_finish : (r : Revision) (e : Past) → IsFinish r e → IsOneStep e
 one_finish r e (inl same) = inl (event.End r, same, refl)

@@ -8,7 +8,7 @@ use Rattle.jcr_law.specs.declared.law.JcrLaw.{JcrLaw}
 use Rattle.jcr_law.specs.State.{Call}
 use Rattle.jcr_held.specs.Unread.{unread}
 use Rattle.jr_rev.specs.declared.revision.Revision.{Revision}
-use Rattle.jcr_run.specs.Standing.{IsCalled, is_working, lacks_changes}
+use Rattle.jcr_run.specs.Standing.{IsCalled, is_committing, is_working, lacks_changes}
 use Rattle.jcr_run.specs.declared.run.Phase.{Phase}
 use Rattle.jcr_run.specs.declared.run.Phase.TheVariants as phase
 use Rattle.jcr_run.specs.declared.run.SessionRun.{SessionRun}
@@ -78,9 +78,16 @@ abbrev pub ComesNearer : (sooner : Type 0) → (before now : ℕ) → Turn → T
 ComesNearer sooner before now (turn.Said i) = now < before
 ComesNearer sooner before now t = StepsOn sooner before now t
 
--- a reading step brings nearer what the next command asks for
+-- a reading step brings nearer what the next command asks for; inside a commit it ends sooner
+abbrev pub BringsNearer : (commits : Bool) → (sooner : Type 0) → JcrLaw → Shown
+    → (old new : SessionRun) → Type 0
+BringsNearer true sooner law p old new = sooner
+BringsNearer false sooner law p old new = HasNeared sooner law p old new
+
+-- what a reading step brings nearer
 abbrev pub ReadsOn : (sooner : Type 0) → JcrLaw → Shown → (old new : SessionRun) → Turn → Type 0
-ReadsOn sooner law p old new turn.Read = HasNeared sooner law p old new
+ReadsOn sooner law p old new turn.Read =
+    BringsNearer (is_committing old.phase) sooner law p old new
 ReadsOn sooner law p old new _ = ⊤
 
 -- what session s has drawn it had drawn before

@@ -33,7 +33,7 @@ use Rattle.oak_machine.specs.Steps.{is_appended_by, is_kind}
 use Rattle.oak_port.specs.Ports.{Awaiting, Deciding, Detaching, Grows, HasRoom, HoldsBack, Idle}
 use Rattle.oak_port.specs.Ports.{IsSessionOn}
 use Rattle.oak_port.specs.Ports.{Learning, Publishing, Shown, Starting, Undoing, Work, Writing}
-use Rattle.oak_port.specs.Ports.{is_by_due}
+use Rattle.oak_port.specs.Ports.{is_by_due, is_due}
 use Rattle.oak_port.specs.declared.task.Task.TheVariants as task
 use Rattle.oak_commit.specs.declared.outcome.CommitEnd.{CommitEnd}
 use Rattle.oak_commit.specs.declared.outcome.CommitEnd.TheVariants as commit
@@ -804,9 +804,21 @@ abbrev pub HasCounted : JcrLaw → Shown → Shown → SessionRun → SessionRun
 HasCounted law old new run now turn.Memory = ⊤
 HasCounted law old new run now answer = IsTurned law old new run now answer
 
--- a reading step was made; or memory was refused, or another turn was made
+-- a reading step inside the session's commit: a previous document of one that it wrote was looked
+-- at, where that was due; the session stands in its commit
+pub record HasLookedBack (law : JcrLaw) (old new : Shown) (run now : SessionRun) : Type 0 where
+  pub commits : IsTrue (is_committing run.phase)
+  pub writes : IsTrue (is_revision_written old.work)
+  pub due : IsTrue (is_due kind.Read old.due)
+  pub stands : Stands law new now
+  pub same : now ≡ run
+  pub beside : IsBeside law old new
+
+-- a reading step was made, before a command that reads or inside a commit; or memory was refused,
+-- or another turn was made
 abbrev pub HasTurned : JcrLaw → Shown → Shown → SessionRun → SessionRun → Turn → Type 0
-HasTurned law old new run now turn.Read = HasLooked law old new run now × IsTrue (may_read run)
+HasTurned law old new run now turn.Read =
+    (HasLooked law old new run now × IsTrue (may_read run)) ⊎ HasLookedBack law old new run now
 HasTurned law old new run now answer = HasCounted law old new run now answer
 
 -- from the draw of its commit until its reply

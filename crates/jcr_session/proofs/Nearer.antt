@@ -4,6 +4,7 @@ use Rattle.std.proofs.Common.{refl, sym, ap, ◌∙◌, subst, arith}
 use mathlib.Core.Bool.{false≢true}
 use Rattle.oak_machine.specs.declared.event.Event.TheVariants as event
 use Rattle.oak_machine.specs.declared.event.StepKind.{StepKind}
+use Rattle.oak_machine.specs.declared.event.StepKind.TheVariants as kind
 use Rattle.oak_machine.specs.History.{History, Past}
 use Rattle.oak_machine.specs.Laws.{Says, Starts, after}
 use Rattle.oak_machine.specs.Sessions.{next_index}
@@ -28,10 +29,11 @@ use Rattle.jcr_steps.specs.declared.errand.Told.{Told}
 use Rattle.jcr_steps.specs.declared.errand.Told.TheVariants as told
 use Rattle.jcr_steps.specs.Answered.{IsErrandAnswer, told_by}
 use Rattle.jcr_session.specs.Phases.{phase_by, phase_came, turn_by, turn_came}
-use Rattle.jcr_run.specs.Nearing.{ComesNearer, EndsOrStays, EndsSooner, IsReply, ReadsOn, StaysBehindStep, StepsOn, WorksSooner}
+use Rattle.jcr_run.specs.Nearing.{BringsNearer, ComesNearer, EndsOrStays, EndsSooner, HasNeared, IsReply, ReadsOn, StaysBehindStep, StepsOn, WorksSooner}
 use Rattle.jcr_run.specs.Nearing.{turns_left, stages_left}
-use Rattle.jcr_run.specs.Standing.{HasCounted, HasTurned, IsSame, Stands, is_committing, is_detaching, is_on_errand, is_working}
+use Rattle.jcr_run.specs.Standing.{HasCounted, HasTurned, IsSame, Stands, is_committing, is_detaching, is_on_errand, is_working, may_read}
 use Rattle.jcr_run.proofs.Nearing.{memory_sooner, sooner_by}
+use Rattle.jcr_run.proofs.Nexts.{reads_between}
 
 -- ---- what is left
 
@@ -198,6 +200,7 @@ module _ (run : SessionRun) (a : Pledge) (sooner : Type 0) where
 
   -- it goes on in its phase, or ends
   goes : (answer : StepOut) → IsWait answer ⊎ sooner → Goes answer
+  goes (out.Went kind.Read) h = tt
   goes (out.Went k) (inr soon) = inr (refl, soon)
   goes (out.Went k) (inl wait) = absurd wait
   goes (out.Ready (end.Commit e)) h =
@@ -217,6 +220,18 @@ module _ (old new : Shown) (run now : SessionRun) (a : Pledge) (commits : run.ph
       (subst (λ (x : SessionRun). StepsOn sooner (turns_left run) (turns_left x) (turn_by answer)) (sym (is ∙ ap (λ (f : Phase). record run { phase = phase_by answer f }) commits))
       (subst (λ (x : SessionRun). StepsOn sooner (turns_left x) (turns_left (record run { phase = phase_by answer (phase.Committing a) })) (turn_by answer)) same_run (goes run a sooner answer soon)))
 
+  -- a look ends sooner
+  reads_so : (law : JcrLaw) (sooner : Type 0) (answer : StepOut) (t : Turn) → t ≡ turn_by answer → IsWait answer ⊎ sooner → ReadsOn sooner law old run now t
+  reads_so law sooner answer t turns soon = subst (λ (x : Turn). ReadsOn sooner law old run now x) (sym turns) (by answer soon)
+    where
+      by : (x : StepOut) → IsWait x ⊎ sooner → ReadsOn sooner law old run now (turn_by x)
+      by (out.Went kind.Read) (inr soon) = subst (λ (f : Phase). BringsNearer (is_committing f) sooner law old run now) (sym commits) soon
+      by (out.Went kind.Read) (inl wait) = absurd wait
+      by (out.Went k) h = tt
+      by (out.Ready (end.Commit e)) h = tt
+      by (out.Wait q) h = tt
+      by x h = tt
+
   -- it commits
   by_commit : (before later : ℕ) (answer : StepOut) → IsWait answer ⊎ EndsSooner before later old → IsWait answer ⊎ WorksSooner before
       later old run
@@ -232,14 +247,11 @@ module _ (old new : Shown) (run now : SessionRun) (a : Pledge) (commits : run.ph
         told_so (WorksSooner before later old run) answer t is turns
         (by_commit before later answer (sooner_by starts says old new answer steps before later lowers))
 
-    -- a step for which memory was refused, and one more
-    pub twice_nearer : (starts_later : Starts) (says_later : Says) (before between later : ℕ) (mid : Shown) (first answer : StepOut) (t : Turn) → first ≡ out.Memory → Steps starts says old mid first → LastsLess before between old mid first
-        → Steps starts_later says_later mid new answer → LastsLess between later mid new answer → now ≡ record run
-        { phase = phase_by answer run.phase } → t ≡ turn_by answer → StepsOn (WorksSooner before later old run) (turns_left run)
-        (turns_left now) t
-    twice_nearer starts_later says_later before between later mid first answer t memory once lowers twice lowers_later is turns =
-        told_so (WorksSooner before later old run) answer t is turns
-        (by_commit before later answer (both (sooner_by starts_later says_later mid new answer twice between later lowers_later)))
+    -- of a step for which memory was refused, and one more, what is left is less
+    twice_sooner : (starts_later : Starts) (says_later : Says) (before between later : ℕ) (mid : Shown) (first answer : StepOut) → first ≡ out.Memory → Steps starts says old mid first → LastsLess before between old mid first
+        → Steps starts_later says_later mid new answer → LastsLess between later mid new answer → IsWait answer ⊎ EndsSooner before later old
+    twice_sooner starts_later says_later before between later mid first answer memory once lowers twice lowers_later =
+        both (sooner_by starts_later says_later mid new answer twice between later lowers_later)
       where
         then : (z y x : ℕ) → y < x → z < y → z < x
         then z y x h k = omega arith
@@ -249,6 +261,24 @@ module _ (old new : Shown) (run now : SessionRun) (a : Pledge) (commits : run.ph
         both (inr soon) = inr (λ alone.
             then later between before (memory_sooner starts says old mid first once before between memory lowers alone)
             (soon (subst (λ (b : Beside). is_some b.seats ≡ true) (sym once.beside) alone)))
+
+    -- a step for which memory was refused, and one more
+    pub twice_nearer : (starts_later : Starts) (says_later : Says) (before between later : ℕ) (mid : Shown) (first answer : StepOut) (t : Turn) → first ≡ out.Memory → Steps starts says old mid first → LastsLess before between old mid first
+        → Steps starts_later says_later mid new answer → LastsLess between later mid new answer → now ≡ record run
+        { phase = phase_by answer run.phase } → t ≡ turn_by answer → StepsOn (WorksSooner before later old run) (turns_left run)
+        (turns_left now) t
+    twice_nearer starts_later says_later before between later mid first answer t memory once lowers twice lowers_later is turns =
+        told_so (WorksSooner before later old run) answer t is turns
+        (by_commit before later answer (twice_sooner starts_later says_later before between later mid first answer memory once lowers twice lowers_later))
+
+    -- a look ends sooner
+    pub once_reads : (law : JcrLaw) (before later : ℕ) (answer : StepOut) (t : Turn) → Steps starts says old new answer → LastsLess before later old new answer → t ≡ turn_by answer → ReadsOn (EndsSooner before later old) law old run now t
+    once_reads law before later answer t steps lowers turns = reads_so law (EndsSooner before later old) answer t turns (sooner_by starts says old new answer steps before later lowers)
+
+    pub twice_reads : (law : JcrLaw) (starts_later : Starts) (says_later : Says) (before between later : ℕ) (mid : Shown) (first answer : StepOut) (t : Turn) → first ≡ out.Memory → Steps starts says old mid first → LastsLess before between old mid first
+        → Steps starts_later says_later mid new answer → LastsLess between later mid new answer → t ≡ turn_by answer → ReadsOn (EndsSooner before later old) law old run now t
+    twice_reads law starts_later says_later before between later mid first answer t memory once lowers twice lowers_later turns =
+        reads_so law (EndsSooner before later old) answer t turns (twice_sooner starts_later says_later before between later mid first answer memory once lowers twice lowers_later)
 
 -- ---- a turn
 
@@ -286,6 +316,19 @@ turn_nearer law old new run now sooner (turn.Waiting q) stands turned h = tt
 turn_nearer law old new run now sooner turn.Read stands turned h = tt
 turn_nearer law old new run now sooner turn.Ended stands turned h = tt
 turn_nearer law old new run now sooner turn.Memory stands turned h = tt
+
+-- a turn of a commit brings nearer what its step does
+pub commit_nearer : (law : JcrLaw) (old new : Shown) (run now : SessionRun) (sooner : Type 0) (t : Turn) → Stands law old run → HasTurned law old new run now t → StepsOn sooner (turns_left run) (turns_left now) t → ComesNearer sooner (turns_left run) (turns_left now) t
+commit_nearer law old new run now sooner (turn.Said j) stands turned h = said_less law old new run now j stands turned
+commit_nearer law old new run now sooner (turn.Stepped k) stands turned h = h
+commit_nearer law old new run now sooner (turn.Waiting q) stands turned h = tt
+commit_nearer law old new run now sooner turn.Read stands turned h = tt
+commit_nearer law old new run now sooner turn.Ended stands turned h = tt
+commit_nearer law old new run now sooner turn.Memory stands turned h = tt
+
+-- a reading step before a command is none inside a commit
+pub reads_nearer : (law : JcrLaw) (old : Shown) (run now : SessionRun) (sooner : Type 0) → may_read run ≡ true → HasNeared sooner law old run now → ReadsOn sooner law old run now turn.Read
+reads_nearer law old run now sooner reads nears = subst (λ (b : Bool). BringsNearer b sooner law old run now) (sym (ap is_committing (reads_between run reads))) nears
 
 -- a counted turn reads nothing
 pub counted_reads : (law : JcrLaw) (old new : Shown) (run now : SessionRun) (sooner : Type 0) (t : Turn) → HasCounted law old new run now t → ReadsOn sooner law old run now t

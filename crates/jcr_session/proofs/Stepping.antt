@@ -1,5 +1,5 @@
 -- Each step of a commit leaves its session where the history says.
-use Rattle.std.proofs.Common.{◌≡◌, ◌⊎◌, inl, inr, ℕ, ◌≤◌, true, false, cond, None, Some, Option, List, [], ◌∷◌, ◌++◌, refl, sym, ap, ◌∙◌, subst, arith}
+use Rattle.std.proofs.Common.{◌≡◌, ◌⊎◌, inl, inr, ℕ, ◌≤◌, Bool, true, false, cond, None, Some, Option, List, [], ◌∷◌, ◌++◌, refl, sym, ap, ◌∙◌, subst, arith}
 use Rattle.std.specs.Prelude.{reverse, slice_get}
 use Rattle.std.specs.List.{list_any}
 use mathlib.Core.Bool.{false≢true}
@@ -17,7 +17,7 @@ use Rattle.oak_machine.specs.Sessions.{base_of, has_left, has_login, is_attached
 use Rattle.oak_machine.specs.Steps.{is_appended_by, is_kind}
 use Rattle.oak_machine.proofs.Stays.{any_later}
 use Rattle.oak_port.specs.Ports.{AreOfStep, Awaiting, Deciding, Detaching, Grows, Idle, IsFinish, Learning, Makes, Publishing, Shown}
-use Rattle.oak_port.specs.Ports.{Starting, Steps, Undoing, Work, Writing, WritesOn, is_by_due}
+use Rattle.oak_port.specs.Ports.{ReadsAsDue, Starting, Steps, Undoing, Work, Writing, WritesOn, is_by_due, is_due}
 use Rattle.oak_commit.specs.declared.outcome.CommitEnd.{CommitEnd}
 use Rattle.oak_commit.specs.declared.outcome.CommitEnd.TheVariants as commit
 use Rattle.oak_port.specs.declared.task.StepOut.{StepOut}
@@ -40,13 +40,14 @@ use Rattle.jcr_run.specs.declared.turn.Turn.{Turn}
 use Rattle.jcr_run.specs.declared.turn.Turn.TheVariants as turn
 use Rattle.jcr_steps.specs.Answered.{kind_of_end}
 use Rattle.jcr_session.specs.Phases.{phase_by, turn_by}
-use Rattle.jcr_run.specs.Standing.{HasAwaited, HasCommitted, HasDrawnFor, HasCounted, IsBeside, IsCalled, IsCommitting, IsFor, IsIn, IsInCommit, AreInStageOrder, IsMade, IsMadeFor, IsPlace, IsSeenFor, IsStep, IsToldEnd, IsTurned, KeepsCursor, Stands, StandsAt, Tells, is_revision_written, stage_at, stage_of}
+use Rattle.jcr_run.specs.Standing.{HasAwaited, HasCommitted, HasDrawnFor, HasCounted, HasLookedBack, HasTurned, IsBeside, IsCalled, IsCommitting, IsFor, IsIn, IsInCommit, AreInStageOrder, IsMade, IsMadeFor, IsPlace, IsSeenFor, IsStep, IsToldEnd, IsTurned, KeepsCursor, Stands, StandsAt, Tells, is_between, is_committing, is_revision_written, may_read, stage_at, stage_of}
 use Rattle.jcr_run.proofs.Cursors.{cursor_moved, has_cursor_over}
 use Rattle.jcr_run.proofs.Committing.{clash_end, committing_finish, committing_undo, committing_write, own, still_moved, unmade_end}
 use Rattle.jcr_session.proofs.Drawing.{commit_commits}
 use Rattle.jcr_run.proofs.Reading.{tree_called}
-use Rattle.jcr_run.proofs.Stages.{commit_order, next_is, refusal_kind}
-use Rattle.jcr_run.proofs.Turning.{IsQuiet, Link, awaited_finish, awaited_write, due_finish, free, has_turned_later, is_awaiting, never_ends, one_finish, one_write, quiet_by, quiet_finish, quiet_write}
+use Rattle.jcr_run.proofs.Nexts.{reads_between}
+use Rattle.jcr_run.proofs.Stages.{commit_order, next_is}
+use Rattle.jcr_run.proofs.Turning.{IsQuiet, Link, awaited_finish, awaited_write, due_finish, free, has_turned_later, is_awaiting, never_ends, none_read, one_finish, one_write, quiet_by, quiet_finish, quiet_write}
 use Rattle.jcr_run.proofs.Waiting.{all_same, call_still, committing_still, in_beside}
 
 -- ---- a step
@@ -145,17 +146,17 @@ module _ (law : JcrLaw) (old new : Shown) (answer : StepOut) (run : SessionRun) 
         (subst (λ (x : Work). n ≤ stage_at f x) (sym is) before)
 
     -- a step that writes
-    write_order : (k : StepKind) (r : Revision) → old.work ≡ Writing r → WritesOn old.session r k steps.own new.work → is_appended_by moment old.session k (reverse steps.own) ≡ true → AreInStageOrder law old new run (record run { phase = phase.Committing a }) (turn.Stepped k)
-    write_order k r was (inl (is, mine, inl work)) told = subst (λ (x : StepKind). AreInStageOrder law old new run (record run { phase = phase.Committing a }) (turn.Stepped x)) (sym is)
+    write_order : (k : StepKind) (r : Revision) → (k ≡ kind.Read → ⊥) → old.work ≡ Writing r → WritesOn old.session r k steps.own new.work → is_appended_by moment old.session k (reverse steps.own) ≡ true → AreInStageOrder law old new run (record run { phase = phase.Committing a }) (turn.Stepped k)
+    write_order k r counted was (inl (is, mine, inl work)) told = subst (λ (x : StepKind). AreInStageOrder law old new run (record run { phase = phase.Committing a }) (turn.Stepped x)) (sym is)
         (ordered (phase.Committing a) kind.Write (Writing r) (Writing r) 1 (kind.Write ∷ kind.Mark ∷ []) was work refl refl (let le : 1 ≤ 1 = omega arith in le) (let le : 1 ≤ 1 = omega arith in le))
-    write_order k r was (inl (is, mine, inr work)) told = subst (λ (x : StepKind). AreInStageOrder law old new run (record run { phase = phase.Committing a }) (turn.Stepped x)) (sym is)
+    write_order k r counted was (inl (is, mine, inr work)) told = subst (λ (x : StepKind). AreInStageOrder law old new run (record run { phase = phase.Committing a }) (turn.Stepped x)) (sym is)
         (ordered (phase.Committing a) kind.Write (Writing r) (Undoing r commit.Memory) 1 (kind.Write ∷ kind.Mark ∷ []) was work refl refl (let le : 1 ≤ 1 = omega arith in le) (let le : 1 ≤ 3 = omega arith in le))
-    write_order k r was (inr (inl (is, mine, work))) told = subst (λ (x : StepKind). AreInStageOrder law old new run (record run { phase = phase.Committing a }) (turn.Stepped x)) (sym is)
+    write_order k r counted was (inr (inl (is, mine, work))) told = absurd (counted is)
+    write_order k r counted was (inr (inr (inl (is, mine, work)))) told = subst (λ (x : StepKind). AreInStageOrder law old new run (record run { phase = phase.Committing a }) (turn.Stepped x)) (sym is)
         (ordered (phase.Committing a) kind.Mark (Writing r) (Writing r) 1 (kind.Write ∷ kind.Mark ∷ []) was work refl refl (let le : 1 ≤ 1 = omega arith in le) (let le : 1 ≤ 1 = omega arith in le))
-    write_order k r was (inr (inr (inl (is, mine, work)))) told = subst (λ (x : StepKind). AreInStageOrder law old new run (record run { phase = phase.Committing a }) (turn.Stepped x)) (sym is)
+    write_order k r counted was (inr (inr (inr (inl (is, mine, work))))) told = subst (λ (x : StepKind). AreInStageOrder law old new run (record run { phase = phase.Committing a }) (turn.Stepped x)) (sym is)
         (ordered (phase.Committing a) kind.Last (Writing r) (Deciding r) 2 (kind.Last ∷ []) was work refl refl (let le : 1 ≤ 2 = omega arith in le) (let le : 2 ≤ 4 = omega arith in le))
-    write_order k r was (inr (inr (inr (item, o, mine, work)))) told =
-        by (refusal_kind moment old.session k r o item (subst (λ (p : Past). is_appended_by moment old.session k (reverse p) ≡ true) mine told))
+    write_order k r counted was (inr (inr (inr (inr (item, o, mark, mine, work))))) told = by mark
       where
         by : (k ≡ kind.Mark) ⊎ (k ≡ kind.Last) → AreInStageOrder law old new run (record run { phase = phase.Committing a }) (turn.Stepped k)
         by (inl is) = subst (λ (x : StepKind). AreInStageOrder law old new run (record run { phase = phase.Committing a }) (turn.Stepped x)) (sym is)
@@ -275,7 +276,7 @@ module _ (law : JcrLaw) (old new : Shown) (answer : StepOut) (run : SessionRun) 
       }
 
     abbrev Turned : StepOut → Type 0
-    Turned x = HasCounted law old new run (record run { phase = phase_by x (phase.Committing a) }) (turn_by x)
+    Turned x = HasTurned law old new run (record run { phase = phase_by x (phase.Committing a) }) (turn_by x)
 
     kind_undone : (past : Past) (r : Revision) (e f : CommitEnd) → f ≡ e → IsToldEnd past r e → kind.Finish ≡ kind_of_end f
     kind_undone past r e (commit.Clash item o) same told = refl
@@ -292,23 +293,42 @@ module _ (law : JcrLaw) (old new : Shown) (answer : StepOut) (run : SessionRun) 
       ended = ended;
     }
 
+    -- a look at a previous document
+    looks_back : (r : Revision) → old.work ≡ Writing r → IsCommitting old.history.past old.session (Writing r) → WritesOn old.session r kind.Read steps.own new.work → ReadsAsDue (is_due kind.Read old.due) (out.Went kind.Read) steps.own → HasLookedBack law old new run (record run { phase = phase.Committing a })
+    looks_back r at committing m reads =
+        let quiet = quiet_write old.session r kind.Read steps.own new.work m in
+        let none = none_read old.session r steps.own new.work m in record {
+          commits = ap is_committing commits;
+          writes = ap is_revision_written at;
+          due = as_due (is_due kind.Read old.due) reads;
+          stands = stands_quiet (phase.Committing a) (quiet.next moment.past) (goes_on quiet (committing_write moment.past old.session r kind.Read steps.own new.work (still (Writing r) committing) m));
+          same = ap (λ (f : Phase). record run { phase = f }) (sym commits);
+          beside = record { others = steps.others; grows = subst (λ (e : Past). Grows (starts_of law) (says_of law) old.session old.history new.history steps.others e) none steps.grows; session = steps.session; beside = steps.beside; alone = steps.alone };
+        }
+      where
+        as_due : (b : Bool) → ReadsAsDue b (out.Went kind.Read) steps.own → b ≡ true
+        as_due true h = refl
+        as_due false h = absurd h
+
     step_by : (work : Work) (x : StepOut) → old.work ≡ work → IsCommitting old.history.past old.session work
-        → Makes moment old.session work x steps.own new.work → AreOfStep moment old.session work x steps.own → Turned x
-    step_by (Writing r) (out.Went k) at committing m told =
+        → Makes moment old.session work x steps.own new.work → AreOfStep moment old.session work x steps.own → ((r : Revision) → work ≡ Writing r → ReadsAsDue (is_due kind.Read old.due) x steps.own) → Turned x
+    step_by (Writing r) (out.Went kind.Read) at committing m told reads = inr (looks_back r at committing m (reads r refl))
+    step_by (Writing r) (out.Went k) at committing m told reads =
         let quiet = quiet_write old.session r k steps.own new.work m in
-        turned_quiet (phase.Committing a) (turn.Stepped k) (told, one_write old.session r k steps.own new.work m)
+        turned_quiet (phase.Committing a) (turn.Stepped k) (told, one_write old.session r k steps.own new.work (λ e. cc) m)
         (made_by (Writing r) at tt (λ still. absurd (false≢true (sym still))) (awaited_write old.session r k steps.own new.work moment.past m))
-        (write_order k r at m told)
+        (write_order k r (λ e. cc) at m told)
         (quiet.next moment.past) (goes_on quiet (committing_write moment.past old.session r k steps.own new.work (still (Writing r) committing) m))
-    step_by (Writing r) out.Memory at committing m told = tt
-    step_by (Writing r) x at committing m told = absurd m
-    step_by (Undoing r e) (out.Went k) at committing (is, mine, work) told =
+    step_by (Writing r) out.Memory at committing m told reads = tt
+    step_by (Writing r) x at committing m told reads = absurd m
+    step_by (Undoing r e) (out.Went kind.Read) at committing m told reads = let never : kind.Read ≡ kind.Undo = m.0 in cc
+    step_by (Undoing r e) (out.Went k) at committing (is, mine, work) told reads =
         let quiet = quiet_by old.session steps.own (event.Went old.session kind.Undo ∷ []) mine record { left = λ q. refl; next = λ q. refl; attached = λ q. refl; begins = λ q. refl; calls = refl; draws = λ q. refl; pins = λ q h. h; cursor = λ q h. refl } in
         turned_quiet (phase.Committing a) (turn.Stepped k) (told, inl (event.Went old.session kind.Undo, mine, refl))
         (made_by (Undoing r e) at tt (λ still. subst (λ (p : Past). is_by_due None p ≡ true) (sym mine) refl) (subst (λ (p : Past). HasAwaited moment.past p new.work) (sym mine) tt))
         (ordered (phase.Committing a) k (Undoing r e) (Undoing r e) 3 (kind.Undo ∷ []) at work refl (subst (λ (x : StepKind). list_any (is_kind x) (kind.Undo ∷ []) ≡ true) (sym is) refl) (let le : 3 ≤ 3 = omega arith in le) (let le : 3 ≤ 3 = omega arith in le))
         (quiet.next moment.past) (goes_on quiet (committing_undo moment.past old.session r e steps.own new.work (still (Undoing r e) committing) mine work))
-    step_by (Undoing r e) (out.Ready (end.Commit f)) at committing (end_is, finish, idle) told =
+    step_by (Undoing r e) (out.Ready (end.Commit f)) at committing (end_is, finish, idle) told reads =
         let quiet = quiet_finish old.session r steps.own finish in
         let now = still (Undoing r e) committing in
         turned_quiet (phase.Committed f a) (turn.Stepped (kind_of_end f))
@@ -317,21 +337,22 @@ module _ (law : JcrLaw) (old new : Shown) (answer : StepOut) (run : SessionRun) 
         (ordered (phase.Committed f a) (kind_of_end f) (Undoing r e) Idle 4 (kind.Finish ∷ []) at idle refl (subst (λ (x : StepKind). list_any (is_kind x) (kind.Finish ∷ []) ≡ true) (kind_undone old.history.past r e f end_is committing.2) refl) (let le : 3 ≤ 4 = omega arith in le) (let le : 4 ≤ 6 = omega arith in le))
         (quiet.next moment.past)
         (has_ended f idle (inside_quiet quiet) (quiet.draws moment.past) (subst (λ (y : CommitEnd). HasCommitted law new c y) (sym end_is) (undone r e finish now)))
-    step_by (Undoing r e) x at committing m told = absurd m
-    step_by (Deciding r) (out.Went k) at committing (is, finish, work) told =
+    step_by (Undoing r e) x at committing m told reads = absurd m
+    step_by (Deciding r) (out.Went kind.Read) at committing m told reads = let never : kind.Read ≡ kind.Finish = m.0 in cc
+    step_by (Deciding r) (out.Went k) at committing (is, finish, work) told reads =
         let quiet = quiet_finish old.session r steps.own finish in
         turned_quiet (phase.Committing a) (turn.Stepped k) (told, one_finish r steps.own finish)
         (made_by (Deciding r) at tt (λ still. due_finish r steps.own finish) (awaited_finish r steps.own new.work moment.past finish (λ made. work)))
         (ordered (phase.Committing a) k (Deciding r) (Awaiting r) 4 (kind.Finish ∷ []) at work refl (subst (λ (x : StepKind). list_any (is_kind x) (kind.Finish ∷ []) ≡ true) (sym is) refl) (let le : 4 ≤ 4 = omega arith in le) (let le : 4 ≤ 5 = omega arith in le))
         (quiet.next moment.past) (goes_on quiet (committing_finish moment.past old.session r steps.own new.work (still (Deciding r) committing) finish work))
-    step_by (Deciding r) x at committing m told = absurd m
-    step_by (Awaiting r) (out.Wait q) at committing (mine, work, unseen, held) told =
+    step_by (Deciding r) x at committing m told reads = absurd m
+    step_by (Awaiting r) (out.Wait q) at committing (mine, work, unseen, held) told reads =
         let quiet = quiet_by old.session steps.own [] mine record { left = λ q. refl; next = λ q. refl; attached = λ q. refl; begins = λ q. refl; calls = refl; draws = λ q. refl; pins = λ q h. h; cursor = λ q h. refl } in
         let now = still (Awaiting r) committing in
         turned_quiet (phase.Committing a) (turn.Waiting q) mine (r, at, work, record { theirs = now.0.theirs; committed = now.1; ended = now.2; unseen = unseen }, held) tt (quiet.next moment.past)
         (goes_on quiet (subst (λ (w : Work). IsCommitting (steps.own ++ moment.past) old.session w) (sym work)
         (subst (λ (e : Past). IsCommitting (e ++ moment.past) old.session (Awaiting r)) (sym mine) now)))
-    step_by (Awaiting r) (out.Ready (end.Commit f)) at committing (end_is, head_sees, v, sees_it, mine, idle) told =
+    step_by (Awaiting r) (out.Ready (end.Commit f)) at committing (end_is, head_sees, v, sees_it, mine, idle) told reads =
         turned_quiet (phase.Committed f a) (turn.Stepped (kind_of_end f))
         (subst (λ (y : CommitEnd). is_appended_by moment old.session (kind_of_end y) (reverse steps.own) ≡ true) (sym end_is) told, inl (event.Refresh old.session v, mine, refl))
         (made_by (Awaiting r) at head_sees (λ still. subst (λ (p : Past). is_by_due None p ≡ true) (sym mine) refl) (subst (λ (p : Past). HasAwaited moment.past p new.work) (sym mine) tt))
@@ -339,24 +360,24 @@ module _ (law : JcrLaw) (old new : Shown) (answer : StepOut) (run : SessionRun) 
         (subst (λ (e : Past). next_index (e ++ moment.past) old.session ≡ next_index moment.past old.session) (sym mine) refl)
         (has_ended f idle (inside_moved v mine) (subst (λ (e : Past). draw_since (e ++ moment.past) old.session ≡ draw_since moment.past old.session) (sym mine) refl)
         (subst (λ (y : CommitEnd). HasCommitted law new c y) (sym end_is) (done v mine r (still (Awaiting r) committing) sees_it)))
-    step_by (Awaiting r) x at committing m told = absurd m
-    step_by Idle x at committing m told = absurd committing
-    step_by (Starting t) x at committing m told = absurd committing
-    step_by (Publishing r) x at committing m told = absurd committing
-    step_by (Learning u) x at committing m told = absurd committing
-    step_by (Detaching v) x at committing m told = absurd committing
+    step_by (Awaiting r) x at committing m told reads = absurd m
+    step_by Idle x at committing m told reads = absurd committing
+    step_by (Starting t) x at committing m told reads = absurd committing
+    step_by (Publishing r) x at committing m told reads = absurd committing
+    step_by (Learning u) x at committing m told reads = absurd committing
+    step_by (Detaching v) x at committing m told reads = absurd committing
 
     -- a step of a commit is a turn
     pub commit_turns : Turned answer
-    commit_turns = step_by old.work answer refl at_commit.commits steps.makes steps.of_step
+    commit_turns = step_by old.work answer refl at_commit.commits steps.makes steps.of_step steps.reads_due
 
     same_run : record run { phase = phase.Committing a } ≡ run
     same_run = ap (λ (f : Phase). record run { phase = f }) (sym commits)
 
-    pub commit_step : (now : SessionRun) (t : Turn) → now ≡ record run { phase = phase_by answer run.phase } → t ≡ turn_by answer → HasCounted law old new run now t
+    pub commit_step : (now : SessionRun) (t : Turn) → now ≡ record run { phase = phase_by answer run.phase } → t ≡ turn_by answer → HasTurned law old new run now t
     commit_step now t is told =
-        subst (λ (x : Turn). HasCounted law old new run now x) (sym told)
-        (subst (λ (x : SessionRun). HasCounted law old new run x (turn_by answer)) (sym (is ∙ ap (λ (f : Phase). record run { phase = phase_by answer f }) commits)) commit_turns)
+        subst (λ (x : Turn). HasTurned law old new run now x) (sym told)
+        (subst (λ (x : SessionRun). HasTurned law old new run x (turn_by answer)) (sym (is ∙ ap (λ (f : Phase). record run { phase = phase_by answer f }) commits)) commit_turns)
 
     -- a step for which memory was refused leaves the session in its commit
     pub record IsRefusedStep (work : Work) : Type 0 where
@@ -400,20 +421,40 @@ module _ (law : JcrLaw) (old new : Shown) (answer : StepOut) (run : SessionRun) 
           free r.undoing r.waitless r.unawaited r.further,
         )
 
+-- a commit for which memory was refused writes no more
+pub writes_no_more : (law : JcrLaw) (old new : Shown) (answer : StepOut) (run : SessionRun) (stands : Stands law old run) (inside : IsIn law old run.attached) (steps : Steps (starts_of law) (says_of law) old new answer) (a : Pledge) (commits : run.phase ≡ phase.Committing a) → answer ≡ out.Memory → is_revision_written new.work ≡ false
+writes_no_more law old new answer run stands inside steps a commits memory = (refused law old new answer run stands inside steps a commits memory).undoing
+
 pub inside_commit : (law : JcrLaw) (p : Shown) (run : SessionRun) (a : Pledge) → Stands law p run → run.phase ≡ phase.Committing a → IsIn law p run.attached
 inside_commit law p run a stands commits = (subst (λ (f : Phase). StandsAt law p run f) commits stands.at).0
 
 -- one step of a commit is its turn
 pub commit_once : (law : JcrLaw) (old new : Shown) (answer : StepOut) (run now : SessionRun) (t : Turn) (a : Pledge) → Stands law old run → run.phase ≡ phase.Committing a → Steps (starts_of law) (says_of law) old new answer
-    → now ≡ record run { phase = phase_by answer run.phase } → t ≡ turn_by answer → HasCounted law old new run now t
+    → now ≡ record run { phase = phase_by answer run.phase } → t ≡ turn_by answer → HasTurned law old new run now t
 commit_once law old new answer run now t a stands commits steps is told = commit_step law old new answer run stands (inside_commit law old run a stands commits) steps a commits now t is told
 
 -- a step for which memory was refused, and then one of undoing
 pub commit_twice : (law : JcrLaw) (old mid new : Shown) (answer : StepOut) (run now : SessionRun) (t : Turn) (a : Pledge) → Stands law old run → run.phase ≡ phase.Committing a → Steps (starts_of law) (says_of law) old mid out.Memory → Steps (starts_of law) (says_of law) mid new answer
-    → now ≡ record run { phase = phase_by answer run.phase } → t ≡ turn_by answer → HasCounted law old new run now t
+    → now ≡ record run { phase = phase_by answer run.phase } → t ≡ turn_by answer → HasTurned law old new run now t
 commit_twice law old mid new answer run now t a stands commits first second is told =
     let r = commit_refused law old mid out.Memory run stands (inside_commit law old run a stands commits) first a commits refl in
-    has_turned_later law old mid new run now t stands.nodes r.2 r.1 (never_ends law mid new run now (inside_commit law mid run a r.0 commits)) (commit_once law mid new answer run now t a r.0 commits second is told)
+    let writes = writes_no_more law old mid out.Memory run stands (inside_commit law old run a stands commits) first a commits refl in
+    by r writes t (commit_once law mid new answer run now t a r.0 commits second is told)
+  where
+    never_reads : may_read run ≡ true → ⊥
+    never_reads reads = false≢true (sym (ap is_between commits) ∙ ap is_between (reads_between run reads))
+
+    later : (Stands law mid run × IsBeside law old mid × Link old mid) → (x : Turn) → HasCounted law mid new run now x → HasCounted law old new run now x
+    later r x h = has_turned_later law old mid new run now x stands.nodes r.2 r.1 (never_ends law mid new run now (inside_commit law mid run a r.0 commits)) h
+
+    by : (Stands law mid run × IsBeside law old mid × Link old mid) → is_revision_written mid.work ≡ false → (x : Turn) → HasTurned law mid new run now x → HasTurned law old new run now x
+    by r writes turn.Read (inl h) = absurd (never_reads h.1)
+    by r writes turn.Read (inr h) = absurd (false≢true (sym writes ∙ h.writes))
+    by r writes turn.Memory h = tt
+    by r writes (turn.Said j) h = later r (turn.Said j) h
+    by r writes (turn.Stepped k) h = later r (turn.Stepped k) h
+    by r writes (turn.Waiting q) h = later r (turn.Waiting q) h
+    by r writes turn.Ended h = later r turn.Ended h
 
 -- a commit under way is something that is being done
 pub commit_busy : (law : JcrLaw) (p : Shown) (run : SessionRun) (a : Pledge) → Stands law p run → run.phase ≡ phase.Committing a → p.work ≡ Idle → ⊥
@@ -433,6 +474,6 @@ pub memory_first : (law : JcrLaw) (old mid : Shown) (answer : StepOut) → answe
 memory_first law old mid answer is steps = subst (λ (a : StepOut). Steps (starts_of law) (says_of law) old mid a) is steps
 
 pub commit_again : (law later : JcrLaw) → later ≡ law → (old mid new : Shown) (first second : StepOut) (run now : SessionRun) (t : Turn) (a : Pledge) → Stands law old run → run.phase ≡ phase.Committing a → first ≡ out.Memory → Steps (starts_of law) (says_of law) old mid first
-    → Steps (starts_of later) (says_of later) mid new second → now ≡ record run { phase = phase_by second run.phase } → t ≡ turn_by second → HasCounted law old new run now t
+    → Steps (starts_of later) (says_of later) mid new second → now ≡ record run { phase = phase_by second run.phase } → t ≡ turn_by second → HasTurned law old new run now t
 commit_again law later same old mid new first second run now t a stands commits memory once twice is told =
     commit_twice law old mid new second run now t a stands commits (memory_first law old mid first memory once) (subst (λ (l : JcrLaw). Steps (starts_of l) (says_of l) mid new second) same twice) is told

@@ -65,9 +65,10 @@ finish_undrawn n r own (inr (k, v, same)) = events_are n own (event.Head k v ∷
 
 write_undrawn : (n s : ℕ) (r : Revision) (k : StepKind) (own : Past) (now : Work) → WritesOn s r k own now → list_any (is_draw_of n) own ≡ false
 write_undrawn n s r k own now (inl (a, same, work)) = events_are n own (event.Went s kind.Write ∷ []) same refl
-write_undrawn n s r k own now (inr (inl (a, same, work))) = events_are n own (event.Went s kind.Mark ∷ []) same refl
-write_undrawn n s r k own now (inr (inr (inl (a, same, work)))) = events_are n own (event.Commit r ∷ []) same refl
-write_undrawn n s r k own now (inr (inr (inr (item, o, same, work)))) = events_are n own (event.Refuse r item o ∷ []) same refl
+write_undrawn n s r k own now (inr (inl (a, same, work))) = events_are n own [] same refl
+write_undrawn n s r k own now (inr (inr (inl (a, same, work)))) = events_are n own (event.Went s kind.Mark ∷ []) same refl
+write_undrawn n s r k own now (inr (inr (inr (inl (a, same, work))))) = events_are n own (event.Commit r ∷ []) same refl
+write_undrawn n s r k own now (inr (inr (inr (inr (item, o, mark, same, work))))) = events_are n own (event.Refuse r item o ∷ []) same refl
 
 made_undrawn : (n : ℕ) (past : Past) (h : History) (s : ℕ) (w : Work) (answer : StepOut) (own : Past) (v : Work) → IsCommitting past s w → Makes h s w answer own v → list_any (is_draw_of n) own ≡ false
 made_undrawn n past h s (Writing r) (out.Went k) own v c m = write_undrawn n s r k own v m

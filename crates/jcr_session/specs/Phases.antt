@@ -1,5 +1,6 @@
 -- Where a session stands behind a step of its commit or of another task, and what its turn was.
 use Rattle.oak_commit.specs.declared.outcome.CommitEnd.{CommitEnd}
+use Rattle.oak_machine.specs.declared.event.StepKind.TheVariants as kind
 use Rattle.oak_port.specs.declared.task.StepOut.{StepOut}
 use Rattle.oak_port.specs.declared.task.StepOut.TheVariants as out
 use Rattle.oak_port.specs.declared.task.TaskEnd.TheVariants as end
@@ -14,6 +15,7 @@ use Rattle.jcr_run.specs.declared.turn.Turn.TheVariants as turn
 
 -- the turn of a commit, by what its step answered
 abbrev pub turn_by : StepOut → Turn
+turn_by (out.Went kind.Read) = turn.Read
 turn_by (out.Went k) = turn.Stepped k
 turn_by (out.Wait q) = turn.Waiting q
 turn_by (out.Ready (end.Commit e)) = turn.Stepped (kind_of_end e)

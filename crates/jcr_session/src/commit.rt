@@ -5,11 +5,14 @@ ghost use Rattle.jcr_steps.specs.Answered.{IsCommitAnswer, kind_of_end};
 ghost use Rattle.jcr_session.specs.Phases.{ended_phase, phase_by, turn_by};
 ghost use Rattle.jcr_run.specs.Asked.{ComesNext};
 ghost use Rattle.jcr_session.specs.Begins.{MayDrawFor};
-ghost use Rattle.jcr_run.specs.Nearing.{DrawsNoOther, StaysBehindStep, StepsOn, WorksSooner};
+ghost use Rattle.jcr_run.specs.Nearing.{ComesNearer, DrawsNoOther, EndsSooner, ReadsOn};
+ghost use Rattle.jcr_run.specs.Nearing.{StaysBehindStep, StepsOn, WorksSooner};
 ghost use Rattle.jcr_run.specs.Nearing.{turns_left};
-ghost use Rattle.jcr_run.specs.Standing.{HasCounted, IsGranted, IsPlace, IsPrepared, Stands};
+ghost use Rattle.jcr_run.specs.Standing.{HasCounted, HasTurned, IsGranted, IsPlace, IsPrepared};
+ghost use Rattle.jcr_run.specs.Standing.{Stands};
 ghost use Rattle.jcr_run.specs.Standing.{commit_bytes, due_for, is_committing};
 ghost use Rattle.jcr_steps.specs.declared.limits.TheConstants.{COMMIT_REPLY_BYTES};
+ghost use Rattle.oak_port.specs.declared.task.StepOut.TheVariants as out;
 ghost use Rattle.jcr_run.specs.declared.next.Due.TheVariants as due;
 ghost use Rattle.jcr_run.specs.declared.run.Phase.TheVariants as phase;
 ghost use Rattle.jcr_run.specs.declared.turn.Turn.TheVariants as turn;
@@ -127,19 +130,22 @@ fn draw<P: Port<L = JcrLaw>>(run: &mut SessionRun, port: &mut P, plan: Plan) -> 
     }
 }
 
-// Makes a step of a commit. Where memory is refused, the commit turns to undoing, and makes a
-// step of that.
+// Makes a step of a commit: a counted one, or where a previous document is to be looked at, that
+// look. Where memory is refused, the commit turns to undoing, and makes a step of that.
 pub(crate) fn commit_on<P: Port<L = JcrLaw>>(run: &mut SessionRun, port: &mut P) -> Turn
     requires stands { Stands (P.law port.old) (P.shown port.old) run.old }
     requires commits { IsTrue (is_committing run.old.phase) }
     ensures law { P.law port.new ≡ P.law port.old }
-    ensures turned { HasCounted (P.law port.old) (P.shown port.old) (P.shown port.new)
+    ensures turned { HasTurned (P.law port.old) (P.shown port.old) (P.shown port.new)
         run.old run.new result }
     ensures granted { IsGranted result }
     ensures draws { DrawsNoOther (P.shown port.old) (P.shown port.new) }
-    ensures steps { StepsOn
+    ensures nears { ComesNearer
         (WorksSooner (P.left port.old) (P.left port.new) (P.shown port.old) run.old)
         (turns_left run.old) (turns_left run.new) result }
+    ensures reads { ReadsOn
+        (EndsSooner (P.left port.old) (P.left port.new) (P.shown port.old))
+        (P.law port.old) (P.shown port.old) run.old run.new result }
 {
     match port.step() {
         StepOut::Memory => {
@@ -159,10 +165,21 @@ fn committed_on(run: &mut SessionRun, answer: StepOut) -> Turn
     ensures run { run.new ≡ record run.old { phase = phase_by answer run.old.phase } }
 {
     match answer {
-        StepOut::Went(kind) => Turn::Stepped(kind),
+        StepOut::Went(kind) => went_on(kind),
         StepOut::Wait(earlier) => Turn::Waiting(earlier),
         StepOut::Ready(TaskEnd::Commit(end)) => ended(run, end),
         _ => unreachable!(),
+    }
+}
+
+// A step of this kind was made, and the commit goes on.
+fn went_on(kind: StepKind) -> Turn
+    ensures granted { IsGranted result }
+    ensures turn { result ≡ turn_by (out.Went kind) }
+{
+    match kind {
+        StepKind::Read => Turn::Read,
+        kind => Turn::Stepped(kind),
     }
 }
 

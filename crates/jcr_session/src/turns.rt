@@ -3,7 +3,8 @@ ghost use Rattle.std.specs.Prelude.{◌≡◌, IsTrue, IsFalse};
 ghost use Rattle.jcr_run.specs.Nearing.{ComesNearer, DrawsNoOther, EndsSooner, IsReply, ReadsOn};
 ghost use Rattle.jcr_run.specs.Nearing.{StepsOn, WorksSooner, turns_left};
 ghost use Rattle.jcr_run.specs.Standing.{HasCounted, HasTurned, IsGranted, IsPrepared, Stands};
-ghost use Rattle.jcr_run.specs.Standing.{due_for, has_begun, base_has_moved, is_saving, may_read};
+ghost use Rattle.jcr_run.specs.Standing.{due_for, has_begun, base_has_moved, is_committing, is_saving};
+ghost use Rattle.jcr_run.specs.Standing.{may_read};
 ghost use Rattle.jcr_run.specs.declared.next.Due.TheVariants as due;
 ghost use Rattle.jcr_run.specs.declared.run.Phase.TheVariants as phase;
 
@@ -19,8 +20,8 @@ use oak_machine::StepKind;
 use oak_port::{Port, Task};
 use std::alloc::AllocError;
 
-/// Makes a reading step, where one is due, and else exactly one counted step, or none where the
-/// session waits or has ended. Where memory is refused for a command, that command is answered
+/// Makes a reading step, where one is due, also inside a commit, and else exactly one counted step,
+/// or none where the session waits or has ended. Where memory is refused for a command, that command is answered
 /// so; where it is refused for the place of a reply, or for the login or the leave, the run
 /// ends. From the draw of a commit until its reply it never ends so, and draws no other: a
 /// commit that is made is answered. Nor does it end so once the base has moved for a refresh,
@@ -49,6 +50,9 @@ pub fn turn<P: Port<L = JcrLaw>>(run: &mut SessionRun, port: &mut P) -> Turn
         (EndsSooner (P.left port.old) (P.left port.new) (P.shown port.old))
         (P.law port.old) (P.shown port.old) run.old run.new result }
 {
+    if run.is_committing() {
+        return commit_on(run, port);
+    }
     if !run.may_read() {
         return counted(run, port);
     }
@@ -59,10 +63,12 @@ pub fn turn<P: Port<L = JcrLaw>>(run: &mut SessionRun, port: &mut P) -> Turn
     }
 }
 
-// Makes exactly one counted step, or none where the session waits or has ended.
+// Makes exactly one counted step of a session that isn't in its commit, or none where the session
+// waits or has ended.
 fn counted<P: Port<L = JcrLaw>>(run: &mut SessionRun, port: &mut P) -> Turn
     requires stands { Stands (P.law port.old) (P.shown port.old) run.old }
     requires read { IsFalse (may_read run.old) }
+    requires apart { IsFalse (is_committing run.old.phase) }
     ensures law { P.law port.new ≡ P.law port.old }
     ensures turned { HasCounted (P.law port.old) (P.shown port.old) (P.shown port.new)
         run.old run.new result }
@@ -83,7 +89,7 @@ fn counted<P: Port<L = JcrLaw>>(run: &mut SessionRun, port: &mut P) -> Turn
             say_vector(run, port, vector)
         }
         Phase::Detaching => detach_on(run, port),
-        Phase::Committing(_) => commit_on(run, port),
+        Phase::Committing(_) => unreachable!(),
         Phase::Committed(_, _) => say_end(run, port),
         Phase::Working(_) => work_on(run, port),
         Phase::Told(_) => say_told(run, port),

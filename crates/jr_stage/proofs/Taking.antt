@@ -1,5 +1,6 @@
 -- A turn of a session in its world, by its port, and of a stage.
-use Rattle.std.proofs.Common.{◌≡◌, ℕ, ◌<◌, length, true, ◌&&◌, Some, Result, Ok, Err, List, [], ◌∷◌, is_some, refl, sym, ap, ◌∙◌, subst, arith, zero, suc}
+use Rattle.std.proofs.Common.{◌≡◌, inl, inr, ℕ, ◌<◌, length, Bool, true, false, ◌&&◌, Some, Result, Ok, Err, List, [], ◌∷◌, is_some, refl, sym, ap, ◌∙◌, subst, arith, zero, suc}
+use mathlib.Core.Bool.{false≢true}
 use Rattle.std.specs.Prelude.{IsTrue, slice_get, slice_set}
 use Rattle.std.specs.Borrow.{GName}
 use Rattle.std.specs.Option.{option_map}
@@ -14,15 +15,15 @@ use Rattle.jcr_law.specs.declared.law.JcrLaw.{JcrLaw}
 use Rattle.jcr_run.specs.declared.run.SessionRun.{SessionRun}
 use Rattle.jcr_run.specs.declared.turn.Turn.{Turn}
 use Rattle.jcr_run.specs.declared.turn.Turn.TheVariants as turn
-use Rattle.jcr_run.specs.Nearing.{ComesNearer, WorksSooner, DrawsNoOther, EndsSooner, HasNeared, ReadsOn, turns_left}
-use Rattle.jcr_run.specs.Standing.{HasLooked, HasTurned, IsTurned, Stands, is_saving, may_read}
+use Rattle.jcr_run.specs.Nearing.{BringsNearer, ComesNearer, WorksSooner, DrawsNoOther, EndsSooner, HasNeared, ReadsOn, turns_left}
+use Rattle.jcr_run.specs.Standing.{HasLooked, HasTurned, IsTurned, Stands, is_committing, is_saving, may_read}
 use Rattle.jr_script.specs.declared.script.Script.{Script}
 use Rattle.jcr_trans.specs.declared.command.SessionScript.{SessionScript}
 use Rattle.jr_stage.specs.declared.stage.Seat.{Seat}
 use Rattle.jr_stage.specs.declared.stage.Stage.{Stage}
 use Rattle.jr_stage.specs.Parts.{Rule}
 use Rattle.jr_stage.specs.Nearing.{ReadsNearer, reads_at}
-use Rattle.jr_stage.specs.Stages.{HasCome, MakesReading, HasTurnedIn, IsReadingIn, IsStage, IsTurnedIn, IsUnder, ReadsOrComes, flight_by, past_of}
+use Rattle.jr_stage.specs.Stages.{HasCome, MakesReading, HasTurnedIn, IsReadingIn, IsStage, IsTurnedIn, IsUnder, ReadsOrComes, flight_by, look_refused, past_of}
 use Rattle.jr_stage.proofs.Looking.{only_reads, read_through, reads_nearer}
 use Rattle.jr_stage.proofs.Turning.{has_come}
 
@@ -77,17 +78,27 @@ module _ (d n m : GName) (s a t : ℕ) (old w v x : WorldOf JcrLaw) (run now : S
       let at_last : ReadsAt n s old n s x run now = subst (λ (y : WorldOf JcrLaw). ReadsAt n s old n s y run now) (sym (left (sym name ∙ sym named))) at_old in
       record { name = n; read = (at_last.0, at_last.1); reads = reads; nears = at_last.2 }
 
-  pub turned_out : (answer : Turn) → HasTurned w.law (shown_at n w a) (shown_at m v t) run now answer
+  turned_by : (answer : Turn) (commits : Bool) → is_committing run.phase ≡ commits → HasTurned w.law (shown_at n w a) (shown_at m v t) run now answer
       → (IsTrue (is_saving run.phase) → DrawsNoOther (shown_at n w a) (shown_at m v t))
       → ComesNearer (WorksSooner (left_in w a) (left_in v t) (shown_at n w a) run) (turns_left run) (turns_left now) answer
       → ReadsOn (EndsSooner (left_in w a) (left_in v t) (shown_at n w a)) w.law (shown_at n w a) run now answer
-      → HasTurnedIn s old x run now answer
-  turned_out (turn.Stepped k) turned draws nears reads = out (turn.Stepped k) (turned, draws, nears)
-  turned_out (turn.Said i) turned draws nears reads = out (turn.Said i) (turned, draws, nears)
-  turned_out (turn.Waiting q) turned draws nears reads = out (turn.Waiting q) (turned, draws, nears)
-  turned_out turn.Ended turned draws nears reads = out turn.Ended (turned, draws, nears)
-  turned_out turn.Read (looked, may) draws nears reads = read_in_out (law, looked, reads) may
-  turned_out turn.Memory turned draws nears reads = tt
+      → HasTurnedIn s old x run now (look_refused answer commits)
+  turned_by (turn.Stepped k) b is turned draws nears reads = out (turn.Stepped k) (turned, draws, nears)
+  turned_by (turn.Said i) b is turned draws nears reads = out (turn.Said i) (turned, draws, nears)
+  turned_by (turn.Waiting q) b is turned draws nears reads = out (turn.Waiting q) (turned, draws, nears)
+  turned_by turn.Ended b is turned draws nears reads = out turn.Ended (turned, draws, nears)
+  turned_by turn.Read true is turned draws nears reads = tt
+  turned_by turn.Read false is (inl read) draws nears reads =
+      read_in_out (law, read.0, subst (λ (b : Bool). BringsNearer b (EndsSooner (left_in w a) (left_in v t) (shown_at n w a)) w.law (shown_at n w a) run now) is reads) read.1
+  turned_by turn.Read false is (inr back) draws nears reads = absurd (false≢true (sym is ∙ back.commits))
+  turned_by turn.Memory b is turned draws nears reads = tt
+
+  pub turned_out : (answer : Turn) (commits : Bool) (result : Turn) → is_committing run.phase ≡ commits → result ≡ look_refused answer commits → HasTurned w.law (shown_at n w a) (shown_at m v t) run now answer
+      → (IsTrue (is_saving run.phase) → DrawsNoOther (shown_at n w a) (shown_at m v t))
+      → ComesNearer (WorksSooner (left_in w a) (left_in v t) (shown_at n w a) run) (turns_left run) (turns_left now) answer
+      → ReadsOn (EndsSooner (left_in w a) (left_in v t) (shown_at n w a)) w.law (shown_at n w a) run now answer
+      → HasTurnedIn s old x run now result
+  turned_out answer commits result is told turned draws nears reads = subst (λ (r : Turn). HasTurnedIn s old x run now r) (sym told) (turned_by answer commits is turned draws nears reads)
 
 -- the same of a reading step
 pub read_out : (d n m : GName) (s a t : ℕ) (old w v x : WorldOf JcrLaw) (run now : SessionRun) → n ≡ d → w ≡ old → a ≡ s → v.law ≡ w.law → (d ≡ m → x ≡ v) → HasLooked w.law (shown_at n w a) (shown_at m v t) run now → (g : GName) × MakesReading g s old x run now

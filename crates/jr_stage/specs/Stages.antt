@@ -152,6 +152,11 @@ HasTurnedIn s old new run now turn.Memory = ⊤
 HasTurnedIn s old new run now turn.Read = IsReadingIn s old new run now
 HasTurnedIn s old new run now answer = IsTurnedIn s old new run now answer
 
+-- a turn, but a look inside a commit is answered as where memory is refused
+abbrev pub look_refused : Turn → (commits : Bool) → Turn
+look_refused turn.Read true = turn.Memory
+look_refused answer _ = answer
+
 -- reading steps of session s were made, or none: the journal stays, and who stands where; what is
 -- due for the others stays, and so does whether a last write is due
 pub record HasOnlyRead (old new : Stage) (s : ℕ) : Type 0 where

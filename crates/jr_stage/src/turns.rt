@@ -4,7 +4,7 @@ ghost use Rattle.std.specs.Borrow.{GName};
 ghost use Rattle.oak_world.specs.Seen.{shown_at};
 ghost use Rattle.jcr_run.specs.Standing.{Stands};
 ghost use Rattle.jr_stage.specs.Nearing.{ReadsNearer, ReadsThrough, reads_at, unread_at, works_at};
-ghost use Rattle.jr_stage.specs.Stages.{HasCome, HasTurnedIn, IsNearerOrCome, IsStage, IsEntryOver, ReadsOrComes, StepsUntil, comes_to, flight_behind, flight_by};
+ghost use Rattle.jr_stage.specs.Stages.{HasCome, HasTurnedIn, IsNearerOrCome, IsStage, IsEntryOver, ReadsOrComes, StepsUntil, comes_to, flight_behind, flight_by, look_refused};
 
 use crate::flight::{Flight, flight_after};
 use crate::stage::Stage;
@@ -147,14 +147,32 @@ impl Stage {
     }
 }
 
-// A turn of a session in its world.
+// A turn of a session in its world. Nothing splits a document there, so no commit has a previous
+// document to look at; a look would be answered as where memory is refused.
 fn turn_once(world: &mut World<JcrLaw>, run: &mut SessionRun, s: u32) -> Turn
     requires there { IsTrue (is_some (slice_get world.old.history.sessions s)) }
     requires stands { (name : GName) → Stands world.old.law (shown_at name world.old s) run.old }
     ensures { HasTurnedIn s world.old world.new run.old run.new result }
 {
+    let commits = run.is_committing();
     let mut port = SoloPort::new(world, s);
-    turn(run, &mut port)
+    let answer = turn(run, &mut port);
+    without_look(answer, commits)
+}
+
+// A turn, but no look inside a commit.
+fn without_look(answer: Turn, commits: bool) -> Turn
+    ensures { result ≡ look_refused answer commits }
+{
+    match answer {
+        Turn::Read => {
+            if commits {
+                return Turn::Memory;
+            }
+            Turn::Read
+        }
+        turn => turn,
+    }
 }
 
 // What is kept of a commit behind a turn: a step may change it.

@@ -1,5 +1,5 @@
 -- Turns of a session to its end, at a port; and what its pass then knows.
-use Rattle.std.proofs.Common.{◌≡◌, ◌≢◌, ℕ, ◌<◌, true, false, ◌&&◌, Some, None, Option, Result, Ok, Err, List, [], ◌++◌, length, map, is_some, refl, sym, ap, ◌∙◌, subst}
+use Rattle.std.proofs.Common.{◌≡◌, ◌≢◌, inl, inr, ℕ, ◌<◌, true, false, ◌&&◌, Some, None, Option, Result, Ok, Err, List, [], ◌++◌, length, map, is_some, refl, sym, ap, ◌∙◌, subst}
 use mathlib.Core.Bool.{false≢true}
 use Rattle.std.specs.Prelude.{◌==◌, IfOk, IfSome, IsTrue, reverse, slice_get}
 use Rattle.std.specs.Borrow.{GName}
@@ -24,7 +24,7 @@ use Rattle.jcr_law.specs.Lasting.{says_of, starts_of}
 use Rattle.jcr_run.specs.declared.run.SessionRun.{SessionRun}
 use Rattle.jcr_run.specs.declared.turn.Turn.{Turn}
 use Rattle.jcr_run.specs.declared.turn.Turn.TheVariants as turn
-use Rattle.jcr_run.specs.Standing.{HasLooked, HasTurned, IsNew, IsTurned, Stands}
+use Rattle.jcr_run.specs.Standing.{HasLooked, HasLookedBack, HasTurned, IsNew, IsTurned, Stands}
 use Rattle.jcr_run.proofs.Staying.{new_stands}
 use Rattle.jcr_trans.specs.declared.command.Command.{Command}
 use Rattle.jcr_trans.specs.declared.command.SessionScript.{SessionScript}
@@ -83,12 +83,24 @@ module _ (law : JcrLaw) (first mid new : Shown) (run was now : SessionRun) (on :
     stands = looked.stands;
   }
 
+  -- a look inside a commit more
+  on_back : HasLookedBack law mid new was now → HasGoneOn law first new run now
+  on_back back = record {
+    session = ap (λ (r : SessionRun). r.session) back.same ∙ on.session;
+    commands = ap (λ (r : SessionRun). r.commands) back.same ∙ on.commands;
+    clusters = ap (λ (h : History). h.clusters) back.beside.grows.grown ∙ on.clusters;
+    sessions = ap (λ (h : History). h.sessions) back.beside.grows.grown ∙ on.sessions;
+    beside = back.beside.beside ∙ on.beside;
+    stands = back.stands;
+  }
+
   pub goes_on : (answer : Turn) → (answer ≡ turn.Memory → ⊥) → HasTurned law mid new was now answer → HasGoneOn law first new run now
   goes_on (turn.Stepped k) made turned = on_more (turn.Stepped k) turned
   goes_on (turn.Said i) made turned = on_more (turn.Said i) turned
   goes_on (turn.Waiting q) made turned = on_more (turn.Waiting q) turned
   goes_on turn.Ended made turned = on_more turn.Ended turned
-  goes_on turn.Read made turned = on_read turned.0
+  goes_on turn.Read made (inl read) = on_read read.0
+  goes_on turn.Read made (inr back) = on_back back
   goes_on turn.Memory made turned = absurd (made refl)
 
   pub ends : (answer : Turn) → answer ≡ turn.Ended → HasTurned law mid new was now answer → HasRunOut law first new run now

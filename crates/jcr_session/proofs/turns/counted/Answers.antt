@@ -1,6 +1,6 @@
 use Rattle.std.proofs.Common.{subst, sym, ap}
 use Rattle.jcr_run.specs.declared.run.Phase.{Phase}
-use Rattle.jcr_run.specs.Standing.{HasCommitEnded, is_committing, is_detaching, is_on_errand, is_told}
+use Rattle.jcr_run.specs.Standing.{HasCommitEnded, is_detaching, is_on_errand, is_told}
 use Rattle.jcr_run.proofs.Looking.{over_ends}
 use Rattle.jcr_session.proofs.Nearer.{reply_steps, steps_sooner}
 use Rattle.jcr_session.proofs.Undrawn.{reply_undrawn}
@@ -11,9 +11,6 @@ log_in-requires-clause-outside g c = c.in-Outside.is
 
 pub rest-requires-clause-between : goal.rest-requires-clause-between
 rest-requires-clause-between g c = c.in-Between.is
-
-pub commit_on-requires-clause-commits : goal.commit_on-requires-clause-commits
-commit_on-requires-clause-commits g c = ap is_committing c.in-Committing.is
 
 pub say_end-requires-clause-ended : goal.say_end-requires-clause-ended
 say_end-requires-clause-ended g c = subst (λ (f : Phase). HasCommitEnded f) (sym c.in-Committed.is) tt

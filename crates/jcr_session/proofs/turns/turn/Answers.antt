@@ -1,9 +1,9 @@
-use Rattle.std.proofs.Common.{ℕ, sym, subst, false, ◌∙◌}
+use Rattle.std.proofs.Common.{ℕ, inl, sym, subst, false, ◌∙◌}
 use Rattle.jcr_run.proofs.Calling.{forgo_law, stands_law, turned_law}
 use Rattle.jcr_run.proofs.Lawful.{idle_by}
 use Rattle.jcr_run.proofs.Looking.{looked_reads, refused_forgoes, turned_behind}
 use Rattle.jcr_run.proofs.Nexts.{reads_between, reads_unbegun, reads_unmoved, reads_unsaving}
-use Rattle.jcr_session.proofs.Nearer.{counted_reads, counted_turns, left_looked, reply_steps, steps_sooner, turn_nearer}
+use Rattle.jcr_session.proofs.Nearer.{counted_reads, counted_turns, left_looked, reads_nearer, reply_steps, steps_sooner, turn_nearer}
 use Rattle.jcr_run.specs.Nearing.{EndsSooner, StepsOn, WorksSooner, turns_left}
 use Rattle.jcr_session.proofs.turns.turn.Goals as goal
 
@@ -25,10 +25,12 @@ returns-then-not-may_read-clause-reads g c =
 
 -- a reading step was made
 pub returns-in-Ok-true-clause-turned : goal.returns-in-Ok-true-clause-turned
-returns-in-Ok-true-clause-turned g c = (c.read.ensures.looked, sym c.may_read.ensures ∙ c.if-not-may_read.false)
+returns-in-Ok-true-clause-turned g c = inl (c.read.ensures.looked, sym c.may_read.ensures ∙ c.if-not-may_read.false)
 
 pub returns-in-Ok-true-clause-reads : goal.returns-in-Ok-true-clause-reads
-returns-in-Ok-true-clause-reads g c = c.in-Ok-true.ensures.nears c.in-Ok-true.field-0-test
+returns-in-Ok-true-clause-reads g c =
+    let reads = sym c.may_read.ensures ∙ c.if-not-may_read.false in
+    reads_nearer (g.P.Port.law c.args.port.now) (g.P.Port.shown c.args.port.now) c.args.run.now c.read.new.run (EndsSooner (g.P.Port.left c.args.port.now) (g.P.Port.left c.read.new.port) (g.P.Port.shown c.args.port.now)) reads (c.in-Ok-true.ensures.nears c.in-Ok-true.field-0-test)
 
 pub returns-in-Ok-true-clause-draws : goal.returns-in-Ok-true-clause-draws
 returns-in-Ok-true-clause-draws g c = λ saving. reads_unsaving c.args.run.now (sym c.may_read.ensures ∙ c.if-not-may_read.false) saving
