@@ -9,7 +9,10 @@ use Rattle.oak_step.specs.declared.work.Work.{Work}
 use Rattle.oak_step.specs.declared.work.Work.TheVariants as work
 use Rattle.oak_step.specs.declared.upkeep.Upkeep.{Upkeep}
 use Rattle.oak_step.specs.declared.upkeep.Upkeep.TheVariants as upkeep
-use Rattle.oak_step.specs.Upkeeps.{kind_kept, kind_read}
+use Rattle.oak_step.specs.Upkeeps.{kind_kept, kind_read, kind_swept}
+use Rattle.oak_sweep.specs.Sweeping as sweeping
+use Rattle.oak_sweep.specs.declared.stage.Stage.{Stage as Swept}
+use Rattle.oak_sweep.specs.declared.stage.Stage.TheVariants as swept
 use Rattle.oak_sync.specs.Learning.{stage_of}
 use Rattle.oak_sync.specs.declared.stage.Stage.{Stage as Syncing}
 use Rattle.oak_sync.specs.declared.stage.Stage.TheVariants as syncing
@@ -37,12 +40,22 @@ read_commits syncing.Read h = false≢true h
 read_commits syncing.Learn h = false≢true h
 read_commits syncing.Done h = false≢true h
 
+-- a sweep makes no last write
+passes_commits : (y : Swept) → is_last_due (Some (kind_swept y)) ≡ true → ⊥
+passes_commits swept.Root h = false≢true h
+passes_commits swept.Document h = false≢true h
+passes_commits swept.Publish h = false≢true h
+passes_commits swept.Learn h = false≢true h
+passes_commits swept.Done h = false≢true h
+
 -- background work, and a change of the settings, make no last write
 upkeep_commits : (u : Upkeep) → is_last_due (Some (kind_kept u)) ≡ true → ⊥
 upkeep_commits upkeep.Write h = false≢true h
 upkeep_commits (upkeep.Noted n) h = false≢true h
 upkeep_commits (upkeep.Publish b) h = false≢true h
 upkeep_commits (upkeep.Read b) h = read_commits (stage_of b) h
+upkeep_commits upkeep.Sweep h = false≢true h
+upkeep_commits (upkeep.Sweeping x) h = passes_commits (sweeping.stage_of x) h
 upkeep_commits (upkeep.Checkpoint i) h = false≢true h
 upkeep_commits (upkeep.Release i) h = false≢true h
 upkeep_commits (upkeep.Attach i) h = false≢true h
