@@ -2,7 +2,6 @@
 use Rattle.std.proofs.Common.{◌≡◌, ℕ, Bool, true, false, cond, List, [], ◌∷◌, Some, None, refl, ap, ◌∙◌}
 use Rattle.std.specs.Option.{option_map_or}
 use Rattle.oak_doc.specs.declared.asks.Ask.{Ask}
-use Rattle.oak_doc.specs.declared.asks.Ask.TheVariants as ask
 use Rattle.oak_gc.specs.declared.reading.Step.{Step as CollectStep}
 use Rattle.oak_gc.specs.declared.reading.Step.TheVariants as collect_step
 use Rattle.oak_machine.specs.declared.event.Event.{Event}

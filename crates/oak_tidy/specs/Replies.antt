@@ -1,5 +1,5 @@
 -- What documents and memories answer to what tidies documents, and what is left of them then.
-use Rattle.std.specs.Prelude.{ℕ, cond, List, Option, None, Some}
+use Rattle.std.specs.Prelude.{cond, List, Option, None, Some}
 use Rattle.std.specs.Map.{values_of}
 use Rattle.oak_doc.specs.declared.asks.Ask.{Ask}
 use Rattle.oak_doc.specs.declared.asks.Ask.TheVariants as ask
