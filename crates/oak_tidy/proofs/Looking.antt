@@ -2,18 +2,15 @@
 use Rattle.std.proofs.Common.{◌≡◌, ℕ, Bool, true, false, cond, List, [], ◌∷◌, Some, None, refl, ap, ◌∙◌}
 use Rattle.std.specs.Option.{option_map_or}
 use Rattle.oak_doc.specs.declared.asks.Ask.{Ask}
-use Rattle.oak_doc.specs.declared.asks.Ask.TheVariants as ask
 use Rattle.oak_gc.specs.declared.reading.Step.{Step as CollectStep}
 use Rattle.oak_gc.specs.declared.reading.Step.TheVariants as collect_step
 use Rattle.oak_machine.specs.declared.event.Event.{Event}
 use Rattle.oak_machine.specs.declared.event.Event.TheVariants as event
 use Rattle.oak_machine.specs.declared.event.StepKind.{StepKind}
 use Rattle.oak_machine.specs.declared.event.StepKind.TheVariants as kind
-use Rattle.oak_sweep.specs.declared.sweeper.Step.{Step as SweepStep}
-use Rattle.oak_sweep.specs.declared.sweeper.Step.TheVariants as sweep_step
 use Rattle.oak_tidy.specs.declared.tidying.Tidying.{Tidying}
 use Rattle.oak_tidy.specs.declared.tidying.Tidying.TheVariants as tidying
-use Rattle.oak_tidy.specs.Tidyings.{IsLooking, bound_told, kind_tidied, own_event, takes_bound, tidy_events, tidying_ask, went}
+use Rattle.oak_tidy.specs.Tidyings.{bound_told, kind_tidied, own_event, takes_bound, tidy_events, tidying_ask, went}
 
 -- a counted step has an event
 pub went_counted : (s : ℕ) (z : StepKind) → (z ≡ kind.Read → ⊥) → went s z ≡ event.Went s z ∷ []
@@ -23,20 +20,11 @@ went_counted s z h = refl
 abbrev bound_event : Tidying → Event
 bound_event y = event.Bound (bound_told y).base (bound_told y).sweep
 
-pub read_events : (s k : ℕ) (x y : Tidying) → kind_tidied x ≡ kind.Read → tidy_events s k x y ≡ []
-read_events s k (tidying.Split x) y = λ h. ap (went s) h
-read_events s k (tidying.Sweep x) y = by x.step
+pub read_events : (s : ℕ) (x y : Tidying) → kind_tidied x ≡ kind.Read → tidy_events s x y ≡ []
+read_events s (tidying.Split x) y = λ h. ap (went s) h
+read_events s (tidying.Collect x) y = by x.step
   where
-    by : (st : SweepStep) → kind_tidied (tidying.Sweep (record x { step = st })) ≡ kind.Read → tidy_events s k (tidying.Sweep (record x { step = st })) y ≡ []
-    by sweep_step.Root h = cc
-    by sweep_step.First h = cc
-    by (sweep_step.Behind p) h = cc
-    by sweep_step.Publish h = cc
-    by sweep_step.Learn h = cc
-    by sweep_step.Done h = cc
-read_events s k (tidying.Collect x) y = by x.step
-  where
-    by : (st : CollectStep) → kind_tidied (tidying.Collect (record x { step = st })) ≡ kind.Read → tidy_events s k (tidying.Collect (record x { step = st })) y ≡ []
+    by : (st : CollectStep) → kind_tidied (tidying.Collect (record x { step = st })) ≡ kind.Read → tidy_events s (tidying.Collect (record x { step = st })) y ≡ []
     by collect_step.Root h = cc
     by (collect_step.Node n) h = cc
     by collect_step.Settings h = cc
@@ -52,19 +40,12 @@ chosen : (b : Bool) (e f : Event) → option_map_or (λ (e : Event). e ∷ []) (
 chosen true e f = refl
 chosen false e f = refl
 
-module _ (s k : ℕ) (y : Tidying) where
-  looked : (x : Tidying) (a : Ask) → IsLooking a → option_map_or (λ (e : Event). e ∷ []) (own_event k x y a) (event.Went s (kind_tidied x) ∷ []) ≡ cond (takes_bound x a) (bound_event y) (event.Went s (kind_tidied x)) ∷ []
-  looked (tidying.Split x) a looking = refl
-  looked (tidying.Sweep x) (ask.Find i) looking = refl
-  looked (tidying.Sweep x) (ask.NextAfter i) looking = refl
-  looked (tidying.Sweep x) _ looking = absurd looking
-  looked (tidying.Collect x) a looking = chosen (takes_bound (tidying.Collect x) a) (bound_event y) (event.Went s (kind_tidied (tidying.Collect x)))
-
-  pub look_events : (x : Tidying) (a : Ask) → tidying_ask x ≡ a → IsLooking a → (kind_tidied x ≡ kind.Read → ⊥) → tidy_events s k x y ≡ cond (takes_bound x a) (bound_event y) (event.Went s (kind_tidied x)) ∷ []
-  look_events x a h looking counted =
-      ap (λ (b : Ask). option_map_or (λ (e : Event). e ∷ []) (own_event k x y b) (went s (kind_tidied x))) h
-      ∙ (ap (λ (es : List Event). option_map_or (λ (e : Event). e ∷ []) (own_event k x y a) es) (went_counted s (kind_tidied x) counted) ∙ looked x a looking)
+pub look_events : (s : ℕ) (y x : Tidying) (a : Ask) → tidying_ask x ≡ a → (kind_tidied x ≡ kind.Read → ⊥) → tidy_events s x y ≡ cond (takes_bound x a) (bound_event y) (event.Went s (kind_tidied x)) ∷ []
+look_events s y x a h counted =
+    ap (λ (b : Ask). option_map_or (λ (e : Event). e ∷ []) (own_event x y b) (went s (kind_tidied x))) h
+    ∙ (ap (λ (es : List Event). option_map_or (λ (e : Event). e ∷ []) (own_event x y a) es) (went_counted s (kind_tidied x) counted)
+    ∙ chosen (takes_bound x a) (bound_event y) (event.Went s (kind_tidied x)))
 
 -- the kind may be named
-pub looks_so : (s k : ℕ) (y x : Tidying) (a : Ask) (z : StepKind) → tidying_ask x ≡ a → IsLooking a → kind_tidied x ≡ z → (kind_tidied x ≡ kind.Read → ⊥) → tidy_events s k x y ≡ cond (takes_bound x a) (bound_event y) (event.Went s z) ∷ []
-looks_so s k y x a z h looking same counted = look_events s k y x a h looking counted ∙ ap (λ (z : StepKind). cond (takes_bound x a) (bound_event y) (event.Went s z) ∷ []) same
+pub looks_so : (s : ℕ) (y x : Tidying) (a : Ask) (z : StepKind) → tidying_ask x ≡ a → kind_tidied x ≡ z → (kind_tidied x ≡ kind.Read → ⊥) → tidy_events s x y ≡ cond (takes_bound x a) (bound_event y) (event.Went s z) ∷ []
+looks_so s y x a z h same counted = look_events s y x a h counted ∙ ap (λ (z : StepKind). cond (takes_bound x a) (bound_event y) (event.Went s z) ∷ []) same

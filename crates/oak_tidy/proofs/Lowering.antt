@@ -14,7 +14,7 @@ use Rattle.std.proofs.lemmas.List.Elements.{recursion_from_All}
 use Rattle.jr_path.specs.declared.path.DocId.{DocId}
 use Rattle.jr_path.specs.declared.path.DocId.TheVariants as id
 use Rattle.jr_path.specs.declared.path.Path.{Path}
-use Rattle.jr_path.specs.Ids.{id_cmp, node_path}
+use Rattle.jr_path.specs.Ids.{id_cmp}
 use Rattle.oak_doc.specs.declared.asks.Ask.TheVariants as ask
 use Rattle.oak_doc.specs.declared.asks.RemoveOut.{RemoveOut}
 use Rattle.oak_doc.specs.declared.asks.RemoveOut.TheVariants as removal
@@ -44,11 +44,6 @@ use Rattle.oak_read.specs.Meaning.{documents_in}
 use Rattle.oak_read.specs.Reading.{IsTable, with_known}
 use Rattle.oak_read.specs.Wanted.{Ids}
 use Rattle.oak_store.specs.Tables.{Table, after_removal, found, next_number, removal_of}
-use Rattle.oak_sweep.specs.Sweeping as sweeping
-use Rattle.oak_sweep.specs.Sweeping.{node_found, node_passed}
-use Rattle.oak_sweep.specs.declared.sweeper.Sweeper.{Sweeper}
-use Rattle.oak_sweep.specs.declared.sweeper.Step.{Step as SweepStep}
-use Rattle.oak_sweep.specs.declared.sweeper.Step.TheVariants as sweep_step
 use Rattle.oak_machine.specs.declared.event.StepKind.{StepKind}
 use Rattle.oak_node.specs.Pins.{pin_now}
 use Rattle.oak_port.specs.declared.task.StepOut.{StepOut}
@@ -58,7 +53,7 @@ use Rattle.core_world.specs.Steps.{with_result}
 use Rattle.oak_acts.specs.Acts.{replied}
 use Rattle.oak_tidy.specs.declared.tidying.Tidying.{Tidying}
 use Rattle.oak_tidy.specs.declared.tidying.Tidying.TheVariants as tidying
-use Rattle.oak_tidy.specs.Left.{StepsLower, all_steps, collect_left, nodes_behind, split_left, sweep_left, tidying_left}
+use Rattle.oak_tidy.specs.Left.{StepsLower, all_steps, collect_left, nodes_behind, split_left, tidying_left}
 use Rattle.oak_tidy.specs.Replies.{AllParts, table_after, told_to}
 use Rattle.oak_tidy.specs.Tidyings.{AsksNodesOf, CanTidy, GoesOrEnds, parts_on, tidied_on}
 
@@ -138,32 +133,6 @@ module _ (p : AllParts) where
   split_lowers s (split_step.Find k o) busy = found_again p.table.documents (record s { step = split_step.Find k o }) k o (documents_in p.table.documents (id.Prev k s.path))
   split_lowers s (split_step.Remove k found o) busy = omega arith
   split_lowers s (split_step.Done o) busy = absurd (busy refl)
-
--- ---- a sweep
-
-module _ (es : Entries) (is : IsTable es) where
-  passes_lower : (s : Sweeper) (o : Option DocId) (r : Option (DocId × Document)) → slice_get (behind o es) 0 ≡ r → sweep_left es (node_passed s (node_found (option_map (λ e. e.1) r))) < length (nodes_behind o es) + 3
-  passes_lower s o None h = omega arith
-  passes_lower s o (Some e) h = by e.1.id refl
-    where
-      by : (x : DocId) → e.1.id ≡ x → sweep_left es (node_passed s (node_path x)) < length (nodes_behind o es) + 3
-      by (id.Node p) at = let more = ap length (next_at es is o e p h at) in omega (arith, more)
-      by (id.Prev n p) at = omega arith
-      by id.Settings at = omega arith
-
-module _ (p : AllParts) (is : IsTable p.table.documents) where
-  sweep_lowers : (s : Sweeper) (st : SweepStep) → sweeping.due (record s { step = st }) ≢ ask.Done
-      → sweep_left (table_after p.table (sweeping.due (record s { step = st }))).documents (sweeping.fed (record s { step = st }) (told_to p (sweeping.due (record s { step = st })))) < sweep_left p.table.documents (record s { step = st })
-  sweep_lowers s sweep_step.Root busy = omega arith
-  sweep_lowers s sweep_step.First busy = passes_lower p.table.documents is (record s { step = sweep_step.First }) None (slice_get p.table.documents 0) refl
-  sweep_lowers s (sweep_step.Behind q) busy = passes_lower p.table.documents is (record s { step = sweep_step.Behind q }) (Some (id.Node q)) (slice_get (behind (Some (id.Node q)) p.table.documents) 0) refl
-  sweep_lowers s sweep_step.Publish busy = by (table_after p.table (ask.Update (sweeping.sweep_op s.target))).documents (found p.table (id.Node []))
-    where
-      by : (es : Entries) (o : Option Document) → sweep_left es (sweeping.fed (record s { step = sweep_step.Publish }) (replied o (updated o (sweeping.sweep_op s.target) (next_number p.table)))) < 2
-      by es None = omega arith
-      by es (Some d) = omega arith
-  sweep_lowers s sweep_step.Learn busy = omega arith
-  sweep_lowers s sweep_step.Done busy = absurd (busy refl)
 
 -- ---- a collection
 
@@ -310,15 +279,14 @@ module _ (p : AllParts) (is : IsTable p.table.documents) where
   collect_lowers n c collect_step.Done asks busy = absurd (busy refl)
 
 pub steps_lower : StepsLower
-steps_lower p n k (tidying.Split x) is can = split_lowers p x x.step can.busy
-steps_lower p n k (tidying.Sweep x) is can = sweep_lowers p is x x.step can.busy
-steps_lower p n k (tidying.Collect x) is can = collect_lowers p is n x x.step can.asks.0 can.busy
+steps_lower p n (tidying.Split x) is can = split_lowers p x x.step can.busy
+steps_lower p n (tidying.Collect x) is can = collect_lowers p is n x x.step can.asks.0 can.busy
 
 -- what goes on has fewer steps left
-pub goes_lower_on : (p q : AllParts) (n s k : ℕ) (x z : Tidying) (y : StepKind) (v : Option Tidying) (o : StepOut) → IsTable p.table.documents → CanTidy n k x → q ≡ parts_on s k p x → z ≡ tidied_on p x → GoesOrEnds y z v o → IfSome v (λ next. tidying_left q.table next < tidying_left p.table x)
-goes_lower_on p q n s k x z y v (answers.Went w) is can parts same h =
+pub goes_lower_on : (p q : AllParts) (n s : ℕ) (x z : Tidying) (y : StepKind) (v : Option Tidying) (o : StepOut) → IsTable p.table.documents → CanTidy n x → q ≡ parts_on s p x → z ≡ tidied_on p x → GoesOrEnds y z v o → IfSome v (λ next. tidying_left q.table next < tidying_left p.table x)
+goes_lower_on p q n s x z y v (answers.Went w) is can parts same h =
     let at : v ≡ Some (tidied_on p x) = h.1 ∙ ap Some same in
     subst (λ (u : Option Tidying). IfSome u (λ next. tidying_left q.table next < tidying_left p.table x)) (sym at)
-    (subst (λ (r : AllParts). tidying_left r.table (tidied_on p x) < tidying_left p.table x) (sym parts) (steps_lower p n k x is can))
-goes_lower_on p q n s k x z y v (answers.Ready e) is can parts same h = subst (λ (u : Option Tidying). IfSome u (λ next. tidying_left q.table next < tidying_left p.table x)) (sym h.0) tt
-goes_lower_on p q n s k x z y v _ is can parts same h = absurd h
+    (subst (λ (r : AllParts). tidying_left r.table (tidied_on p x) < tidying_left p.table x) (sym parts) (steps_lower p n x is can))
+goes_lower_on p q n s x z y v (answers.Ready e) is can parts same h = subst (λ (u : Option Tidying). IfSome u (λ next. tidying_left q.table next < tidying_left p.table x)) (sym h.0) tt
+goes_lower_on p q n s x z y v _ is can parts same h = absurd h

@@ -1,9 +1,8 @@
 -- Each step as one of a world.
-use Rattle.std.proofs.Common.{◌≡◌, ℕ, List, ◌∷◌, Bool, true, false, cond, not, ◌&&◌, Option, Some, Result, Ok, Err, is_none, refl, ap, ◌∙◌}
+use Rattle.std.proofs.Common.{◌≡◌, ℕ, ◌∷◌, Bool, true, false, cond, not, ◌&&◌, Option, Some, Result, Ok, Err, is_none, refl, ap, ◌∙◌}
 use Rattle.jr_path.specs.declared.path.DocId.{DocId}
 use Rattle.jr_path.specs.declared.path.DocId.TheVariants as id
 use Rattle.jr_path.specs.declared.path.Path.{Path}
-use Rattle.jr_rev.specs.declared.revision.Revision.{Revision}
 use Rattle.oak_doc.specs.declared.asks.Ask.TheVariants as ask
 use Rattle.oak_doc.specs.declared.asks.RemoveOut.{RemoveOut}
 use Rattle.oak_doc.specs.declared.document.Document.{Document}
@@ -14,16 +13,14 @@ use Rattle.oak_doc.specs.Updates.{after_changes, is_met, update_refusal, updated
 use Rattle.oak_machine.specs.declared.event.Event.TheVariants as event
 use Rattle.oak_machine.specs.declared.event.StepKind.{StepKind}
 use Rattle.oak_machine.specs.declared.event.StepKind.TheVariants as kind
-use Rattle.oak_node.specs.Memory.{NodeState}
 use Rattle.oak_prev.specs.Splits.{main_write}
 use Rattle.oak_read.specs.Meaning.{documents_in}
 use Rattle.oak_store.specs.Tables.{Table, after_removal, found, next_number, with_document}
-use Rattle.oak_sweep.proofs.Teaching.{teaches_one}
 use Rattle.core_world.specs.Collecting.{after_split}
-use Rattle.core_world.specs.States.{State, memory_of, node_of, with_memory}
+use Rattle.core_world.specs.States.{State}
 use Rattle.core_world.specs.Steps.{with_result}
 use Rattle.oak_acts.specs.Acts.{result_of}
-use Rattle.oak_tidy.specs.Moves.{AbsentStay, BoundsGo, ChangedStay, DocumentsGo, GarbageGoes, LooksGo, NodesTell, ReadsStay, RefusalsGo, SplitsCopy, SplitsList, SplitsUndo, SweepsLearn, SweepsTell}
+use Rattle.oak_tidy.specs.Moves.{AbsentStay, BoundsGo, ChangedStay, DocumentsGo, GarbageGoes, LooksGo, NodesTell, ReadsStay, RefusalsGo, SplitsCopy, SplitsList, SplitsUndo}
 
 -- the world with these documents and one event more
 abbrev changed_to : State → ℕ → StepKind → Table → State
@@ -90,14 +87,6 @@ garbage_goes w s p old d op at there is = put_there w s kind.Collect p old d op 
 pub splits_list : SplitsList
 splits_list w s read pin p old d e at there is =
     ap (λ (v : State). record v { formers = (after_split w s read pin p old e).formers }) (put_there w s kind.Split p old d (main_write read pin old e) at there is)
-
-pub sweeps_tell : SweepsTell
-sweeps_tell w s r = refl
-
-pub sweeps_learn : SweepsLearn
-sweeps_learn w s r vector alone =
-    ap (λ (m : NodeState). record w { past = event.Went s kind.Learn ∷ w.past; memories = with_memory w.memories (node_of w s) m })
-    (alone ∙ ap (λ (v : List (Option Revision)). record (memory_of w s) { sweep = v }) (teaches_one (memory_of w s).sweep r vector))
 
 pub bounds_go : BoundsGo
 bounds_go w s m t = refl

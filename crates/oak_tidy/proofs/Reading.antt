@@ -19,21 +19,17 @@ use Rattle.oak_gc.specs.declared.reading.Step.TheVariants as collect_step
 use Rattle.oak_machine.specs.declared.event.StepKind.{StepKind}
 use Rattle.oak_machine.specs.declared.event.StepKind.TheVariants as kind
 use Rattle.oak_machine.specs.History.{History}
-use Rattle.oak_machine.specs.Steps.{is_appended_by, is_kind, is_on, where_test}
+use Rattle.oak_machine.specs.Steps.{is_appended_by, is_kind, where_test}
 use Rattle.oak_node.specs.Pins.{pin_now}
 use Rattle.oak_prev.specs.declared.splitter.Splitter.{Splitter}
 use Rattle.oak_prev.specs.declared.splitter.Step.{Step as SplitStep}
 use Rattle.oak_prev.specs.declared.splitter.Step.TheVariants as split_step
 use Rattle.oak_read.specs.Meaning.{documents_in}
-use Rattle.oak_sweep.specs.Sweeping as sweeping
-use Rattle.oak_sweep.specs.declared.sweeper.Sweeper.{Sweeper}
-use Rattle.oak_sweep.specs.declared.sweeper.Step.{Step as SweepStep}
-use Rattle.oak_sweep.specs.declared.sweeper.Step.TheVariants as sweep_step
 use Rattle.core_world.specs.Held.{no_pin}
 use Rattle.core_world.specs.States.{memory_at, nodes_in}
 use Rattle.oak_tidy.specs.declared.tidying.Tidying.{Tidying}
 use Rattle.oak_tidy.specs.declared.tidying.Tidying.TheVariants as tidying
-use Rattle.oak_tidy.specs.Moves.{AppendsItsEvents, BoundsBegin, CollectsGarbage, CollectionsBegin, GonePass, NodesBound, SettingsBound, SplitsBegin, SweepsBegin, SweepsRead}
+use Rattle.oak_tidy.specs.Moves.{AppendsItsEvents, BoundsBegin, CollectsGarbage, CollectionsBegin, GonePass, NodesBound, SettingsBound, SplitsBegin}
 use Rattle.oak_tidy.specs.Replies.{told_by_memories}
 use Rattle.oak_tidy.specs.Tidyings.{kind_tidied, tidy_events}
 use Rattle.oak_gc.specs.Asking.{AsksForGarbage}
@@ -41,11 +37,6 @@ use Rattle.oak_gc.proofs.Asking.{ask_for_garbage}
 use Rattle.oak_tidy.proofs.Staying.{begun_asks}
 
 -- ---- what is read
-
-pub sweeps_read : SweepsRead
-sweeps_read w root x at there =
-    ap (λ (st : SweepStep). (sweeping.fed (record x { step = st }) (reply.Found (nodes_in w.table []))).target) at
-    ∙ ap (λ (o : Option Document). sweeping.target_in x.cluster o) there
 
 pub bounds_begin : BoundsBegin
 bounds_begin w root x at there =
@@ -71,12 +62,12 @@ settings_bound w x at = ap (λ (st : CollectStep). (collecting.fed (record x { s
 own_number : (s : ℕ) → (s == s) ≡ true
 own_number s = grind (arith, nat_tests)
 
-module _ (h : History) (s k : ℕ) (y : Tidying) (on : is_on h s k ≡ true) where
+module _ (h : History) (s : ℕ) (y : Tidying) where
   -- the kinds are those of a counted step of that kind
   went_so : (z : StepKind) → list_any (is_kind z) (where_test true (z ∷ [])) ≡ true → list_any (is_kind z) (where_test (s == s && true) (z ∷ [])) ≡ true
   went_so z it = ap (λ (b : Bool). list_any (is_kind z) (where_test (b && true) (z ∷ []))) (own_number s) ∙ it
 
-  split_appends : (x : Splitter) (st : SplitStep) → is_appended_by h s (kind_tidied (tidying.Split (record x { step = st }))) (tidy_events s k (tidying.Split (record x { step = st })) y) ≡ true
+  split_appends : (x : Splitter) (st : SplitStep) → is_appended_by h s (kind_tidied (tidying.Split (record x { step = st }))) (tidy_events s (tidying.Split (record x { step = st })) y) ≡ true
   split_appends x split_step.Root = refl
   split_appends x (split_step.Find n o) = refl
   split_appends x split_step.Read = went_so kind.Split refl
@@ -85,15 +76,7 @@ module _ (h : History) (s k : ℕ) (y : Tidying) (on : is_on h s k ≡ true) whe
   split_appends x (split_step.Remove n found o) = went_so kind.Split refl
   split_appends x (split_step.Done o) = went_so kind.Split refl
 
-  sweep_appends : (x : Sweeper) (st : SweepStep) → is_appended_by h s (kind_tidied (tidying.Sweep (record x { step = st }))) (tidy_events s k (tidying.Sweep (record x { step = st })) y) ≡ true
-  sweep_appends x sweep_step.Root = went_so kind.Sweep refl
-  sweep_appends x sweep_step.First = went_so kind.Sweep refl
-  sweep_appends x (sweep_step.Behind p) = went_so kind.Sweep refl
-  sweep_appends x sweep_step.Publish = ap (λ (b : Bool). list_any (is_kind kind.Sweep) (where_test b (kind.Sweep ∷ []))) on
-  sweep_appends x sweep_step.Learn = went_so kind.Learn refl
-  sweep_appends x sweep_step.Done = went_so kind.Sweep refl
-
-  collect_appends : (x : Collector) (st : CollectStep) → is_appended_by h s (kind_tidied (tidying.Collect (record x { step = st }))) (tidy_events s k (tidying.Collect (record x { step = st })) y) ≡ true
+  collect_appends : (x : Collector) (st : CollectStep) → is_appended_by h s (kind_tidied (tidying.Collect (record x { step = st }))) (tidy_events s (tidying.Collect (record x { step = st })) y) ≡ true
   collect_appends x collect_step.Root = went_so kind.Bound refl
   collect_appends x (collect_step.Node n) = went_so kind.Bound refl
   collect_appends x collect_step.Settings = refl
@@ -106,9 +89,8 @@ module _ (h : History) (s k : ℕ) (y : Tidying) (on : is_on h s k ≡ true) whe
   collect_appends x collect_step.Done = went_so kind.Collect refl
 
 pub appends_its_events : AppendsItsEvents
-appends_its_events h s k (tidying.Split x) y on = split_appends h s k y on x x.step
-appends_its_events h s k (tidying.Sweep x) y on = sweep_appends h s k y on x x.step
-appends_its_events h s k (tidying.Collect x) y on = collect_appends h s k y on x x.step
+appends_its_events h s (tidying.Split x) y = split_appends h s y x x.step
+appends_its_events h s (tidying.Collect x) y = collect_appends h s y x x.step
 
 -- ---- the first step
 
@@ -116,15 +98,12 @@ found_due : (i : _) → ask.Find i ≢ ask.Done
 found_due i h = cc
 
 pub splits_begin : SplitsBegin
-splits_begin n k a pin p node = record { node = node; busy = found_due (id.Node p); asks = tt }
-
-pub sweeps_begin : SweepsBegin
-sweeps_begin n k a node = record { node = node; busy = found_due (id.Node []); asks = refl }
+splits_begin n a pin p = record { busy = found_due (id.Node p); asks = tt }
 
 pub collections_begin : CollectionsBegin
-collections_begin n k a node = record { node = node; busy = found_due (id.Node []); asks = (begun_asks n (collecting.begun a n) refl refl, record { alloc = a; replies = []; reached = refl }) }
+collections_begin n a = record { busy = found_due (id.Node []); asks = (begun_asks n (collecting.begun a n) refl refl, record { alloc = a; replies = []; reached = refl }) }
 
 -- ---- what is asked of documents
 
 pub collects_garbage : CollectsGarbage
-collects_garbage n k x can = let of = can.asks.1 in subst AsksForGarbage (sym of.reached) (ask_for_garbage of.alloc n of.replies)
+collects_garbage n x can = let of = can.asks.1 in subst AsksForGarbage (sym of.reached) (ask_for_garbage of.alloc n of.replies)

@@ -21,10 +21,6 @@ use Rattle.oak_machine.specs.declared.event.StepKind.{StepKind}
 use Rattle.oak_machine.specs.Runs.{IsNode}
 use Rattle.oak_port.specs.declared.task.StepOut.{StepOut}
 use Rattle.oak_port.specs.declared.task.StepOut.TheVariants as answers
-use Rattle.oak_sweep.specs.Sweeping as sweeping
-use Rattle.oak_sweep.specs.declared.sweeper.Sweeper.{Sweeper}
-use Rattle.oak_sweep.specs.declared.sweeper.Step.{Step as SweepStep}
-use Rattle.oak_sweep.specs.declared.sweeper.Step.TheVariants as sweep_step
 use Rattle.oak_tidy.specs.declared.tidying.Tidying.{Tidying}
 use Rattle.oak_tidy.specs.declared.tidying.Tidying.TheVariants as tidying
 use Rattle.oak_tidy.specs.Tidyings.{IsCollecting, AsksNodesOf, CollectsAt, AsksWithin, CanTidy, GoesOrEnds, tidying_fed}
@@ -119,29 +115,12 @@ module _ (n : ℕ) where
   fed_on : (x : Collector) (r : Reply) → IsCollecting n x → IsCollecting n (fed x r)
   fed_on x r of = record { alloc = of.alloc; replies = of.replies ++ r ∷ []; reached = ap (λ (c : Collector). fed c r) of.reached ∙ sym (one_more (begun of.alloc n) of.replies r) }
 
--- a sweeper stays that of its cluster node
-cluster_stays : (x : Sweeper) (st : SweepStep) (r : Reply) → (sweeping.fed (record x { step = st }) r).cluster ≡ x.cluster
-cluster_stays x sweep_step.Root (reply.Found found) = refl
-cluster_stays x sweep_step.First (reply.Found found) = refl
-cluster_stays x (sweep_step.Behind p) (reply.Found found) = refl
-cluster_stays x sweep_step.Publish (reply.Found found) = refl
-cluster_stays x sweep_step.Learn (reply.Found found) = refl
-cluster_stays x sweep_step.Done (reply.Found found) = refl
-cluster_stays x sweep_step.Publish (reply.Updated before) = refl
-cluster_stays x _ (reply.Updated before) = refl
-cluster_stays x sweep_step.Publish reply.Absent = refl
-cluster_stays x _ reply.Absent = refl
-cluster_stays x sweep_step.Learn reply.Learnt = refl
-cluster_stays x _ reply.Learnt = refl
-cluster_stays x st _ = refl
-
-pub asks_stay : (n k : ℕ) (x : Tidying) (r : Reply) → AsksWithin n k x → AsksWithin n k (tidying_fed x r)
-asks_stay n k (tidying.Split x) r of = tt
-asks_stay n k (tidying.Sweep x) r of = cluster_stays x x.step r ∙ of
-asks_stay n k (tidying.Collect x) r of = (stays n x x.step r of.0, fed_on n x r of.1)
+pub asks_stay : (n : ℕ) (x : Tidying) (r : Reply) → AsksWithin n x → AsksWithin n (tidying_fed x r)
+asks_stay n (tidying.Split x) r of = tt
+asks_stay n (tidying.Collect x) r of = (stays n x x.step r of.0, fed_on n x r of.1)
 
 -- what goes on can go on
-pub goes_can : (n k : ℕ) (x : Tidying) (r : Reply) (y : StepKind) (v : Option Tidying) (o : StepOut) → IsNode n k → AsksWithin n k x → GoesOrEnds y (tidying_fed x r) v o → IfSome v (λ z. CanTidy n k z)
-goes_can n k x r y v (answers.Went z) node asks h = subst (λ (o : Option Tidying). IfSome o (λ z. CanTidy n k z)) (sym h.1) (record { node = node; busy = h.2; asks = asks_stay n k x r asks })
-goes_can n k x r y v (answers.Ready e) node asks h = subst (λ (o : Option Tidying). IfSome o (λ z. CanTidy n k z)) (sym h.0) tt
-goes_can n k x r y v _ node asks h = absurd h
+pub goes_can : (n : ℕ) (x : Tidying) (r : Reply) (y : StepKind) (v : Option Tidying) (o : StepOut) → AsksWithin n x → GoesOrEnds y (tidying_fed x r) v o → IfSome v (λ z. CanTidy n z)
+goes_can n x r y v (answers.Went z) asks h = subst (λ (o : Option Tidying). IfSome o (λ z. CanTidy n z)) (sym h.1) (record { busy = h.2; asks = asks_stay n x r asks })
+goes_can n x r y v (answers.Ready e) asks h = subst (λ (o : Option Tidying). IfSome o (λ z. CanTidy n z)) (sym h.0) tt
+goes_can n x r y v _ asks h = absurd h

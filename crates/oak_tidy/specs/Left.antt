@@ -18,9 +18,6 @@ use Rattle.oak_prev.specs.declared.splitter.Step.TheVariants as split_step
 use Rattle.oak_read.specs.Meaning.{documents_in}
 use Rattle.oak_read.specs.Reading.{IsTable}
 use Rattle.oak_store.specs.Tables.{Table}
-use Rattle.oak_sweep.specs.declared.sweeper.Sweeper.{Sweeper}
-use Rattle.oak_sweep.specs.declared.sweeper.Step.{Step as SweepStep}
-use Rattle.oak_sweep.specs.declared.sweeper.Step.TheVariants as sweep_step
 use Rattle.oak_tidy.specs.declared.tidying.Tidying.{Tidying}
 use Rattle.oak_tidy.specs.declared.tidying.Tidying.TheVariants as tidying
 use Rattle.oak_tidy.specs.Replies.{AllParts, table_after}
@@ -54,19 +51,6 @@ split_left es s = by s.step
     by (split_step.Find k o) = 2
     by (split_step.Remove k found o) = 1
     by (split_step.Done o) = 0
-
--- a sweeper asks for the root, for each node's document behind the one that was passed last, for
--- the root's update, and that the memory learns
-abbrev pub sweep_left : List (DocId × Document) → Sweeper → ℕ
-sweep_left es s = by s.step
-  where
-    by : SweepStep → ℕ
-    by sweep_step.Root = length (nodes_behind None es) + 4
-    by sweep_step.First = length (nodes_behind None es) + 3
-    by (sweep_step.Behind p) = length (nodes_behind (Some (id.Node p)) es) + 3
-    by sweep_step.Publish = 2
-    by sweep_step.Learn = 1
-    by sweep_step.Done = 0
 
 -- for one document: its reading, that of each previous one that is listed, its change, and the
 -- removal of each previous one
@@ -104,11 +88,10 @@ collect_left es c = by c.step
 -- how many steps are left at most
 abbrev pub tidying_left : Table → Tidying → ℕ
 tidying_left t (tidying.Split x) = split_left t.documents x
-tidying_left t (tidying.Sweep x) = sweep_left t.documents x
 tidying_left t (tidying.Collect x) = collect_left t.documents x
 
 -- each step lowers that number
 abbrev pub StepsLower : Type 0
-StepsLower = (p : AllParts) (clusters k : ℕ) (x : Tidying) → IsTable p.table.documents
-    → CanTidy clusters k x
+StepsLower = (p : AllParts) (clusters : ℕ) (x : Tidying) → IsTable p.table.documents
+    → CanTidy clusters x
     → tidying_left (table_after p.table (tidying_ask x)) (tidied_on p x) < tidying_left p.table x

@@ -4,10 +4,8 @@ use Rattle.std.specs.declared.alloc.Global.{Global}
 use Rattle.jr_path.specs.declared.path.DocId.{DocId}
 use Rattle.jr_path.specs.declared.path.DocId.TheVariants as id
 use Rattle.jr_path.specs.declared.path.Path.{Path}
-use Rattle.jr_rev.specs.declared.revision.Revision.{Revision}
 use Rattle.jr_rev.specs.declared.vector.Pin.{Pin}
 use Rattle.jr_rev.specs.declared.vector.RevVec.{RevVec}
-use Rattle.jr_rev.specs.Vectors.{IsVector, greatest, no_entries, raised}
 use Rattle.oak_doc.specs.declared.asks.Ask.{Ask}
 use Rattle.oak_doc.specs.declared.asks.Ask.TheVariants as ask
 use Rattle.oak_doc.specs.declared.asks.MemoryAsk.TheVariants as memory
@@ -21,8 +19,7 @@ use Rattle.oak_machine.specs.declared.event.Event.TheVariants as event
 use Rattle.oak_machine.specs.declared.event.StepKind.{StepKind}
 use Rattle.oak_machine.specs.declared.event.StepKind.TheVariants as kind
 use Rattle.oak_machine.specs.History.{History, Past}
-use Rattle.oak_machine.specs.Steps.{is_appended_by, is_on}
-use Rattle.oak_node.specs.Heads.{learned}
+use Rattle.oak_machine.specs.Steps.{is_appended_by}
 use Rattle.oak_gc.specs.Collecting as collecting
 use Rattle.oak_gc.specs.Asking.{AsksForGarbage}
 use Rattle.oak_gc.specs.Bounds.{root_pair}
@@ -30,32 +27,22 @@ use Rattle.oak_gc.specs.declared.collector.Collector.{Collector}
 use Rattle.oak_gc.specs.declared.reading.Step.TheVariants as collect_step
 use Rattle.oak_prev.specs.Splits.{main_write}
 use Rattle.oak_prev.specs.Splitting as splitting
-use Rattle.oak_machine.specs.Runs.{IsNode}
 use Rattle.oak_read.specs.Meaning.{Documents, documents_in}
 use Rattle.oak_store.specs.Tables.{removal_of}
-use Rattle.oak_sweep.specs.Sweeping as sweeping
-use Rattle.oak_sweep.specs.Sweeping.{sweep_op}
-use Rattle.oak_sweep.specs.declared.sweeper.Sweeper.{Sweeper}
-use Rattle.oak_sweep.specs.declared.sweeper.Step.TheVariants as sweep_step
 use Rattle.core_world.specs.Bounding.{fed_node, fed_settings}
 use Rattle.core_world.specs.Collecting.{after_change, after_copied, after_pruned, after_removed, after_split, without}
 use Rattle.core_world.specs.Held.{after_bound, is_node_in}
-use Rattle.core_world.specs.States.{State, memory_at, memory_of, node_of, nodes_in}
-use Rattle.core_world.specs.Steps.{after_learn_swept, after_sweep, after_went}
-use Rattle.core_world.specs.Sweeping.{swept_target}
+use Rattle.core_world.specs.States.{State, memory_at, nodes_in}
+use Rattle.core_world.specs.Steps.{after_went}
 use Rattle.oak_acts.specs.Acts.{result_of}
 use Rattle.oak_tidy.specs.declared.tidying.Tidying.{Tidying}
 use Rattle.oak_tidy.specs.declared.tidying.Tidying.TheVariants as tidying
-use Rattle.oak_tidy.specs.Replies.{memories_after, table_after, told_by_memories}
+use Rattle.oak_tidy.specs.Replies.{table_after, told_by_memories}
 use Rattle.oak_tidy.specs.Tidyings.{CanTidy, IsLooking, kind_tidied, tidy_events}
 
 -- the world once this is asked and done for session s, with these events, the newest first
 abbrev pub after_asking : State → ℕ → Ask → Past → State
-after_asking w s a es = record w {
-  past = es ++ w.past;
-  table = table_after w.table a;
-  memories = memories_after (node_of w s) w.memories a;
-}
+after_asking w s a es = record w { past = es ++ w.past; table = table_after w.table a }
 
 -- ---- what changes nothing but the events
 
@@ -113,22 +100,6 @@ SplitsUndo = (w : State) (s : ℕ) (i : DocId) (n : ℕ) → removal_of w.table 
     → after_asking w s (ask.RemoveIf i n) (event.Went s kind.Split ∷ [])
     ≡ after_change w s kind.Split (without w.table i)
 
--- ---- a sweep
-
--- the root is told
-abbrev pub SweepsTell : Type 0
-SweepsTell = (w : State) (s : ℕ) (r : Revision)
-    → after_asking w s (ask.Update (sweep_op r)) (event.Sweep (node_of w s) r ∷ [])
-    ≡ after_sweep w s r
-
--- the memory learns, where a learning of a sweep alone leaves its head
-abbrev pub SweepsLearn : Type 0
-SweepsLearn = (w : State) (s : ℕ) (r : Revision) → let m = memory_of w s in
-    let alone = raised no_entries r in IsVector m.sweep
-    → learned m no_entries alone ≡ record m { sweep = greatest m.sweep alone }
-    → after_asking w s (ask.Memory (memory.Learn no_entries alone)) (event.Went s kind.Learn ∷ [])
-    ≡ after_learn_swept w s r
-
 -- ---- a collection
 
 -- the bound is taken
@@ -138,7 +109,7 @@ BoundsGo = (w : State) (s : ℕ) (m t : RevVec)
 
 -- what is asked of a document is what the bound says of it
 abbrev pub CollectsGarbage : Type 0
-CollectsGarbage = (clusters k : ℕ) (x : Collector) → CanTidy clusters k (tidying.Collect x)
+CollectsGarbage = (clusters : ℕ) (x : Collector) → CanTidy clusters (tidying.Collect x)
     → AsksForGarbage x
 
 -- garbage of a document is dropped
@@ -155,12 +126,6 @@ DocumentsGo = (w : State) (s : ℕ) (i : DocId) (n : ℕ)
     → after_asking w s (ask.RemoveIf i n) (event.Went s kind.Collect ∷ []) ≡ after_removed w s i
 
 -- ---- what is read of a world
-
--- a sweep that has read the root has the target that the root tells
-abbrev pub SweepsRead : Type 0
-SweepsRead = (w : State) (root : Document) (x : Sweeper) → x.step ≡ sweep_step.Root
-    → nodes_in w.table [] ≡ Some root
-    → (sweeping.fed x (reply.Found (nodes_in w.table []))).target ≡ swept_target root x.cluster
 
 -- a collection that has read the root begins with what that tells
 abbrev pub BoundsBegin : Type 0
@@ -188,20 +153,16 @@ SettingsBound = (w : State) (x : Collector) → x.step ≡ collect_step.Settings
 
 -- ---- the events, and the first step
 
--- of a session of cluster node k a step appends just the events of one step of its kind
+-- a step appends just the events of one step of its kind
 abbrev pub AppendsItsEvents : Type 0
-AppendsItsEvents = (h : History) (s k : ℕ) (x y : Tidying) → IsTrue (is_on h s k)
-    → IsTrue (is_appended_by h s (kind_tidied x) (tidy_events s k x y))
+AppendsItsEvents = (h : History) (s : ℕ) (x y : Tidying)
+    → IsTrue (is_appended_by h s (kind_tidied x) (tidy_events s x y))
 
--- what begins can make a step, of one of the cluster nodes
+-- what begins can make a step
 abbrev pub SplitsBegin : Type 0
-SplitsBegin = (clusters k : ℕ) (a : Global) (pin : Pin) (p : Path) → IsNode clusters k
-    → CanTidy clusters k (tidying.Split (splitting.begun a pin p))
-
-abbrev pub SweepsBegin : Type 0
-SweepsBegin = (clusters k : ℕ) (a : Global) → IsNode clusters k
-    → CanTidy clusters k (tidying.Sweep (sweeping.begun a k))
+SplitsBegin = (clusters : ℕ) (a : Global) (pin : Pin) (p : Path)
+    → CanTidy clusters (tidying.Split (splitting.begun a pin p))
 
 abbrev pub CollectionsBegin : Type 0
-CollectionsBegin = (clusters k : ℕ) (a : Global) → IsNode clusters k
-    → CanTidy clusters k (tidying.Collect (collecting.begun a clusters))
+CollectionsBegin = (clusters : ℕ) (a : Global)
+    → CanTidy clusters (tidying.Collect (collecting.begun a clusters))

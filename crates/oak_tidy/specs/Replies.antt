@@ -1,5 +1,5 @@
 -- What documents and memories answer to what tidies documents, and what is left of them then.
-use Rattle.std.specs.Prelude.{ℕ, cond, List, Option, None, Some}
+use Rattle.std.specs.Prelude.{cond, List, Option, None, Some}
 use Rattle.std.specs.Map.{values_of}
 use Rattle.oak_doc.specs.declared.asks.Ask.{Ask}
 use Rattle.oak_doc.specs.declared.asks.Ask.TheVariants as ask
@@ -10,11 +10,10 @@ use Rattle.oak_doc.specs.declared.asks.Reply.TheVariants as reply
 use Rattle.oak_gc.specs.Bounding.{node_reply}
 use Rattle.oak_gc.specs.Bounds.{Told}
 use Rattle.oak_machine.specs.declared.event.Event.{Event}
-use Rattle.oak_node.specs.Heads.{learned}
 use Rattle.oak_node.specs.Memory.{NodeState}
 use Rattle.oak_node.specs.Pins.{pin_now}
 use Rattle.oak_store.specs.Tables.{Table, after_removal, removal_of}
-use Rattle.core_world.specs.States.{memory_at, with_memory}
+use Rattle.core_world.specs.States.{memory_at}
 use Rattle.oak_acts.specs.Acts.{after_ask, answered_by}
 
 -- the documents, the memories of the cluster nodes 1, 2 and so on, and the events
@@ -32,7 +31,7 @@ all_parts t ms es = record { table = t; memories = ms; list = es }
 abbrev pub node_tells : NodeState → Option Told
 node_tells m = cond m.recovered None (Some (record { head = pin_now m; pins = values_of m.pins }))
 
--- what the memories answer
+-- what the memories answer, which are asked for their pins alone
 abbrev pub told_by_memories : List NodeState → MemoryAsk → Reply
 told_by_memories ms (memory.Pins k) = node_reply (node_tells (memory_at ms k))
 told_by_memories ms _ = reply.Learnt
@@ -47,9 +46,3 @@ told_to p a = answered_by p.table a
 abbrev pub table_after : Table → Ask → Table
 table_after t (ask.RemoveIf i n) = after_removal t i (removal_of t i n)
 table_after t a = after_ask t a
-
--- the memories once an ask of cluster node k is answered: it learns what it asks to learn
-abbrev pub memories_after : ℕ → List NodeState → Ask → List NodeState
-memories_after k ms (ask.Memory (memory.Learn v t)) =
-    with_memory ms k (learned (memory_at ms k) v t)
-memories_after k ms _ = ms

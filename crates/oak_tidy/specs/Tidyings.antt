@@ -1,4 +1,4 @@
--- One step of what tidies documents: a split, a sweep or a collection asks, and is fed the answer.
+-- One step of what tidies documents: a split or a collection asks, and is fed the answer.
 use Rattle.std.specs.Option.{option_map_or}
 use Rattle.std.specs.Prelude.{◌≡◌, ◌≢◌, ℕ, Bool, true, false, cond, List, [], ◌∷◌, ◌++◌, Option, None, Some}
 use Rattle.std.specs.declared.alloc.Global.{Global}
@@ -30,31 +30,25 @@ use Rattle.oak_prev.specs.Stages as split_stages
 use Rattle.oak_prev.specs.declared.splitter.Step.TheVariants as split_step
 use Rattle.oak_prev.specs.declared.stage.Stage.{Stage as Splits}
 use Rattle.oak_prev.specs.declared.stage.Stage.TheVariants as split_stage
-use Rattle.oak_sweep.specs.Sweeping as sweeping
-use Rattle.oak_sweep.specs.declared.stage.Stage.{Stage as Swept}
-use Rattle.oak_sweep.specs.declared.stage.Stage.TheVariants as sweep_stage
 use Rattle.oak_tidy.specs.declared.tidying.Tidying.{Tidying}
 use Rattle.oak_tidy.specs.declared.tidying.Tidying.TheVariants as tidying
-use Rattle.oak_tidy.specs.Replies.{AllParts, all_parts, memories_after, table_after, told_to}
+use Rattle.oak_tidy.specs.Replies.{AllParts, all_parts, table_after, told_to}
 
 -- ---- what it asks, and keeps
 
 -- what is due
 abbrev pub tidying_ask : Tidying → Ask
 tidying_ask (tidying.Split x) = splitting.due x
-tidying_ask (tidying.Sweep x) = sweeping.due x
 tidying_ask (tidying.Collect x) = collecting.due x
 
 -- what it keeps after a reply
 abbrev pub tidying_fed : Tidying → Reply → Tidying
 tidying_fed (tidying.Split x) r = tidying.Split (splitting.fed x r)
-tidying_fed (tidying.Sweep x) r = tidying.Sweep (sweeping.fed x r)
 tidying_fed (tidying.Collect x) r = tidying.Collect (collecting.fed x r)
 
 -- how it has ended, once nothing is due
 abbrev pub TidiesTo : Tidying → TaskEnd → Type 0
 TidiesTo (tidying.Split x) (ends.Split e) = x.step ≡ split_step.Done e
-TidiesTo (tidying.Sweep x) (ends.Swept r) = (sweeping.due x ≡ ask.Done) × (r ≡ x.target)
 TidiesTo (tidying.Collect x) (ends.Collected c) =
     (collecting.due x ≡ ask.Done) × (c ≡ x.collected)
 TidiesTo _ _ = ⊥
@@ -66,11 +60,6 @@ abbrev pub kind_split : Splits → StepKind
 kind_split split_stage.Read = kind.Read
 kind_split _ = kind.Split
 
--- the kind of the next step of a sweeper that stands in a stage
-abbrev pub kind_sweep : Swept → StepKind
-kind_sweep sweep_stage.Learn = kind.Learn
-kind_sweep _ = kind.Sweep
-
 -- the kind of the next step of a collector that stands in a stage
 abbrev pub kind_collect : Collected → StepKind
 kind_collect collect_stage.Bound = kind.Bound
@@ -80,7 +69,6 @@ kind_collect _ = kind.Collect
 -- the kind of the next step
 abbrev pub kind_tidied : Tidying → StepKind
 kind_tidied (tidying.Split x) = kind_split (split_stages.stage_of x)
-kind_tidied (tidying.Sweep x) = kind_sweep (sweeping.stage_of x)
 kind_tidied (tidying.Collect x) = kind_collect (collect_stages.stage_of x)
 
 -- ---- events
@@ -95,12 +83,10 @@ abbrev pub bound_told : Tidying → Pin
 bound_told (tidying.Collect x) = x.bound
 bound_told _ = collecting.no_pair
 
--- the event that a step of x has of its own, once what it asked is answered, and it is y: with the
--- root's update cluster node k has swept up to the target, and the bound of a collection is taken
-abbrev pub own_event : ℕ → Tidying → Tidying → Ask → Option Event
-own_event k (tidying.Sweep x) y (ask.Update op) = Some (event.Sweep k x.target)
-own_event k (tidying.Sweep x) y _ = None
-own_event k x y a =
+-- the event that a step of x has of its own, once what it asked is answered, and it is y: the
+-- bound of a collection is taken
+abbrev pub own_event : Tidying → Tidying → Ask → Option Event
+own_event x y a =
     cond (takes_bound x a) (Some (event.Bound (bound_told y).base (bound_told y).sweep)) None
 
 -- the events of a step of session s that has none of its own: a reading step appends none
@@ -108,10 +94,10 @@ abbrev pub went : ℕ → StepKind → List Event
 went s kind.Read = []
 went s x = event.Went s x ∷ []
 
--- the events of a step of session s of cluster node k, of x, that leaves y
-abbrev pub tidy_events : ℕ → ℕ → Tidying → Tidying → List Event
-tidy_events s k x y =
-    option_map_or (λ e. e ∷ []) (own_event k x y (tidying_ask x)) (went s (kind_tidied x))
+-- the events of a step of session s, of x, that leaves y
+abbrev pub tidy_events : ℕ → Tidying → Tidying → List Event
+tidy_events s x y =
+    option_map_or (λ e. e ∷ []) (own_event x y (tidying_ask x)) (went s (kind_tidied x))
 
 -- ---- a step
 
@@ -119,11 +105,11 @@ tidy_events s k x y =
 abbrev pub tidied_on : AllParts → Tidying → Tidying
 tidied_on p x = tidying_fed x (told_to p (tidying_ask x))
 
--- the parts then, after the step of session s of cluster node k
-abbrev pub parts_on : ℕ → ℕ → AllParts → Tidying → AllParts
-parts_on s k p x =
-    all_parts (table_after p.table (tidying_ask x)) (memories_after k p.memories (tidying_ask x))
-    (p.list ++ tidy_events s k x (tidied_on p x))
+-- the parts then, after the step of session s: no memory changes
+abbrev pub parts_on : ℕ → AllParts → Tidying → AllParts
+parts_on s p x =
+    all_parts (table_after p.table (tidying_ask x)) p.memories
+    (p.list ++ tidy_events s x (tidied_on p x))
 
 -- what comes of a step of this kind that leaves x: the task goes on, or where nothing more is due
 -- ends with what there is to tell
@@ -132,11 +118,11 @@ GoesOrEnds y x v (answers.Went z) = (z ≡ y) × (v ≡ Some x) × (tidying_ask 
 GoesOrEnds y x v (answers.Ready e) = (v ≡ None) × TidiesTo x e
 GoesOrEnds y x v _ = ⊥
 
--- how a step of session s of cluster node k goes: what is asked is done and answered; where memory
--- is refused nothing changes, and the task ends
-abbrev pub Tidies : ℕ → ℕ → AllParts → Tidying → AllParts → Option Tidying → StepOut → Type 0
-Tidies s k p x q v answers.Memory = (q ≡ p) × (v ≡ None)
-Tidies s k p x q v o = (q ≡ parts_on s k p x) × GoesOrEnds (kind_tidied x) (tidied_on p x) v o
+-- how a step of session s goes: what is asked is done and answered; where memory is refused nothing
+-- changes, and the task ends
+abbrev pub Tidies : ℕ → AllParts → Tidying → AllParts → Option Tidying → StepOut → Type 0
+Tidies s p x q v answers.Memory = (q ≡ p) × (v ≡ None)
+Tidies s p x q v o = (q ≡ parts_on s p x) × GoesOrEnds (kind_tidied x) (tidied_on p x) v o
 
 -- ---- what a step takes
 
@@ -165,14 +151,12 @@ pub record IsCollecting (clusters : ℕ) (x : Collector) : Type 0 where
   pub replies : List Reply
   pub reached : x ≡ collector_after (collecting.begun alloc clusters) replies
 
--- a sweep is of cluster node k, and a collection of so many cluster nodes
-abbrev pub AsksWithin : ℕ → ℕ → Tidying → Type 0
-AsksWithin clusters k (tidying.Split x) = Unit {0}
-AsksWithin clusters k (tidying.Sweep x) = x.cluster ≡ k
-AsksWithin clusters k (tidying.Collect x) = AsksNodesOf clusters x × IsCollecting clusters x
+-- a collection is of so many cluster nodes
+abbrev pub AsksWithin : ℕ → Tidying → Type 0
+AsksWithin clusters (tidying.Split x) = Unit {0}
+AsksWithin clusters (tidying.Collect x) = AsksNodesOf clusters x × IsCollecting clusters x
 
--- something is due, of cluster node k of so many
-pub record CanTidy (clusters k : ℕ) (x : Tidying) : Type 0 where
-  pub node : IsNode clusters k
+-- something is due, where there are so many cluster nodes
+pub record CanTidy (clusters : ℕ) (x : Tidying) : Type 0 where
   pub busy : tidying_ask x ≢ ask.Done
-  pub asks : AsksWithin clusters k x
+  pub asks : AsksWithin clusters x

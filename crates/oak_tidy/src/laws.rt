@@ -1,11 +1,10 @@
 // Each step is one of a world.
-ghost use Rattle.oak_tidy.specs.Moves.{AbsentStay, AppendsItsEvents, BoundsBegin, BoundsGo, ChangedStay, CollectionsBegin, CollectsGarbage, DocumentsGo, GarbageGoes, GonePass, LooksGo, NodesBound, NodesTell, ReadsStay, RefusalsGo, SettingsBound, SplitsBegin, SplitsCopy, SplitsList, SplitsUndo, SweepsBegin, SweepsLearn, SweepsRead, SweepsTell};
+ghost use Rattle.oak_tidy.specs.Moves.{AbsentStay, AppendsItsEvents, BoundsBegin, BoundsGo, ChangedStay, CollectionsBegin, CollectsGarbage, DocumentsGo, GarbageGoes, GonePass, LooksGo, NodesBound, NodesTell, ReadsStay, RefusalsGo, SettingsBound, SplitsBegin, SplitsCopy, SplitsList, SplitsUndo};
 
 /// What begins can make a step, and each step appends just the events of one step of its kind.
 pub fn steps_have_their_events()
     ensures appends { AppendsItsEvents }
     ensures splits { SplitsBegin }
-    ensures sweeps { SweepsBegin }
     ensures collections { CollectionsBegin }
 {}
 
@@ -26,14 +25,6 @@ pub fn splits_are_steps()
     ensures copied { SplitsCopy }
     ensures listed { SplitsList }
     ensures undone { SplitsUndo }
-{}
-
-/// A sweep reads in the root how far its cluster node has published, tells the root that all is
-/// swept up to there, and the memory learns that alone.
-pub fn sweeps_are_steps()
-    ensures read { SweepsRead }
-    ensures told { SweepsTell }
-    ensures learned { SweepsLearn }
 {}
 
 /// A collection begins its bound with the root, lowers it to what each cluster node holds that

@@ -14,30 +14,29 @@ use oak_port::StepOut;
 use oak_store::DocTable;
 use std::alloc::{AllocError, Global};
 
-/// One step of what tidies documents, for session `s` of cluster node `node`: what goes on then,
-/// and the answer. The memories are those of all cluster nodes. The reply is taken before documents
-/// or memories change, and where memory is refused nothing changes.
+/// One step of what tidies documents, for session `s`: what goes on then, and the answer. The
+/// memories are those of all cluster nodes. The reply is taken before documents change, and where
+/// memory is refused nothing changes.
 pub fn tidy(
     alloc: Global,
     table: &mut DocTable,
-    memories: &mut [NodeMem],
+    memories: &[NodeMem],
     events: &mut Events,
-    node: u32,
     s: u32,
     tidying: Tidying,
 ) -> (Option<Tidying>, StepOut)
-    requires can { CanTidy (length memories.old) node tidying }
+    requires can { CanTidy (length memories.now) tidying }
     requires table { IsTable table.old.documents }
-    ensures made { Tidies s node (all_parts table.old memories.old events.old.list) tidying
-        (all_parts table.new memories.new events.new.list) result.0 result.1 }
-    ensures can { IfSome result.0 (λ next. CanTidy (length memories.old) node next) }
+    ensures made { Tidies s (all_parts table.old memories.now events.old.list) tidying
+        (all_parts table.new memories.now events.new.list) result.0 result.1 }
+    ensures can { IfSome result.0 (λ next. CanTidy (length memories.now) next) }
     ensures lowers { IfSome result.0
         (λ next. tidying_left table.new next < tidying_left table.old tidying) }
     ensures places { events.new.places ≡ events.old.places }
     ensures order { IsTable table.new.documents }
 {
     let mut tidying = tidying;
-    match step(alloc, table, memories, events, node, s, &mut tidying) {
+    match step(alloc, table, memories, events, s, &mut tidying) {
         Ok(kind) => gone_on(tidying, kind),
         Err(AllocError) => {
             drop(tidying);
@@ -51,26 +50,25 @@ pub fn tidy(
 fn step(
     alloc: Global,
     table: &mut DocTable,
-    memories: &mut [NodeMem],
+    memories: &[NodeMem],
     events: &mut Events,
-    node: u32,
     s: u32,
     tidying: &mut Tidying,
 ) -> Result<StepKind, AllocError>
-    requires can { CanTidy (length memories.old) node tidying.old }
+    requires can { CanTidy (length memories.now) tidying.old }
     requires table { IsTable table.old.documents }
     ensures kind { IfOk result (λ kind. kind ≡ kind_tidied tidying.old) }
-    ensures parts { OnOk result (all_parts table.new memories.new events.new.list
-        ≡ parts_on s node (all_parts table.old memories.old events.old.list) tidying.old) }
+    ensures parts { OnOk result (all_parts table.new memories.now events.new.list
+        ≡ parts_on s (all_parts table.old memories.now events.old.list) tidying.old) }
     ensures tidying { OnOk result (tidying.new
-        ≡ tidied_on (all_parts table.old memories.old events.old.list) tidying.old) }
-    ensures kept { OnErr result (all_parts table.new memories.new events.new.list
-        ≡ all_parts table.old memories.old events.old.list) }
+        ≡ tidied_on (all_parts table.old memories.now events.old.list) tidying.old) }
+    ensures kept { OnErr result (all_parts table.new memories.now events.new.list
+        ≡ all_parts table.old memories.now events.old.list) }
     ensures places { events.new.places ≡ events.old.places }
     ensures order { IsTable table.new.documents }
 {
     let kind = tidying.due();
-    answered(alloc, table, memories, events, node, s, tidying)?;
+    answered(alloc, table, memories, events, s, tidying)?;
     Ok(kind)
 }
 

@@ -1,7 +1,7 @@
 // What tidies documents: what it asks, and how it has ended.
 ghost use Rattle.std.specs.Prelude.{◌≡◌, ◌↔◌, IfOk, IsTrue, OnOk};
 ghost use Rattle.oak_doc.specs.declared.asks.Ask.TheVariants as ask;
-ghost use Rattle.oak_tidy.specs.Tidyings.{TidiesTo, bound_told, kind_collect, kind_split, kind_sweep, kind_tidied, tidying_ask, tidying_fed};
+ghost use Rattle.oak_tidy.specs.Tidyings.{TidiesTo, bound_told, kind_collect, kind_split, kind_tidied, tidying_ask, tidying_fed};
 
 use jr_rev::{Pin, RevVec};
 use oak_doc::{Ask, Reply};
@@ -9,16 +9,13 @@ use oak_gc::Collector;
 use oak_machine::StepKind;
 use oak_port::TaskEnd;
 use oak_prev::Splitter;
-use oak_sweep::Sweeper;
 use std::alloc::AllocError;
 
-/// What tidies documents, one step after another.
+/// A split or a collection, as a session does one.
 #[derive(Drop)]
 pub enum Tidying {
     /// Old entries of a node's document move to a previous document.
     Split(Splitter),
-    /// What is found of a cluster node's changes is committed from then on.
-    Sweep(Sweeper),
     /// Garbage of the bound of all that is held is dropped.
     Collect(Collector),
 }
@@ -30,7 +27,6 @@ impl Tidying {
     {
         match self {
             Tidying::Split(splitter) => kind_split(splitter.stage()),
-            Tidying::Sweep(sweeper) => kind_sweep(sweeper.stage()),
             Tidying::Collect(collector) => kind_collect(collector.stage()),
         }
     }
@@ -41,7 +37,6 @@ impl Tidying {
     {
         match self {
             Tidying::Split(splitter) => splitter.next(),
-            Tidying::Sweep(sweeper) => sweeper.next(),
             Tidying::Collect(collector) => collector.next(),
         }
     }
@@ -52,7 +47,6 @@ impl Tidying {
     {
         match self {
             Tidying::Split(splitter) => splitter.feed(reply),
-            Tidying::Sweep(sweeper) => sweeper.feed(reply),
             Tidying::Collect(collector) => collector.feed(reply),
         }
     }
@@ -63,7 +57,6 @@ impl Tidying {
     {
         match self {
             Tidying::Split(splitter) => splitter.is_done(),
-            Tidying::Sweep(sweeper) => sweeper.is_done(),
             Tidying::Collect(collector) => collector.is_done(),
         }
     }
@@ -75,7 +68,6 @@ impl Tidying {
     {
         match self {
             Tidying::Split(splitter) => TaskEnd::Split(splitter.end()),
-            Tidying::Sweep(sweeper) => TaskEnd::Swept(sweeper.end()),
             Tidying::Collect(collector) => TaskEnd::Collected(collector.end()),
         }
     }
@@ -86,7 +78,7 @@ impl Tidying {
     {
         match self {
             Tidying::Collect(collector) => collector.bound(),
-            Tidying::Split(_) | Tidying::Sweep(_) => Pin {
+            Tidying::Split(_) => Pin {
                 base: RevVec::none(),
                 sweep: RevVec::none(),
             },
@@ -101,16 +93,6 @@ fn kind_split(stage: oak_prev::Stage) -> StepKind
     match stage {
         oak_prev::Stage::Read => StepKind::Read,
         oak_prev::Stage::Split | oak_prev::Stage::Done => StepKind::Split,
-    }
-}
-
-// The kind of the next step of a sweeper.
-fn kind_sweep(stage: oak_sweep::Stage) -> StepKind
-    ensures { result ≡ kind_sweep stage }
-{
-    match stage {
-        oak_sweep::Stage::Learn => StepKind::Learn,
-        _ => StepKind::Sweep,
     }
 }
 

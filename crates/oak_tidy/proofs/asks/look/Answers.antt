@@ -9,11 +9,11 @@ pub returns-in-Read-clause-list : goal.returns-in-Read-clause-list
 returns-in-Read-clause-list c =
     let read : kind_tidied c.args.tidying.now ≡ kind.Read = sym c.due.ensures ∙ c.in-Read.is in
     on_ok_weaker c.feed_found.result
-    (λ h k. sym (ap (λ es. c.args.events.now.list ++ es) (read_events c.args.s k c.args.tidying.now c.feed_found.new.tidying read) ∙ append-nil c.args.events.now.list))
+    (λ h. sym (ap (λ es. c.args.events.now.list ++ es) (read_events c.args.s c.args.tidying.now c.feed_found.new.tidying read) ∙ append-nil c.args.events.now.list))
     c.feed_found.ensures
 
 pub returns-in_default-clause-list : goal.returns-in_default-clause-list
 returns-in_default-clause-list c =
     on_ok_weaker c.look_counted.result
-    (λ h k. h ∙ ap (λ es. c.args.events.now.list ++ es) (sym (looks_so c.args.s k c.look_counted.new.tidying c.args.tidying.now c.args.asking c.due.result c.requires.asked c.requires.looking (sym c.due.ensures) (λ read. c.in_default.not-Read (c.due.ensures ∙ read)))))
+    (λ h. h ∙ ap (λ es. c.args.events.now.list ++ es) (sym (looks_so c.args.s c.look_counted.new.tidying c.args.tidying.now c.args.asking c.due.result c.requires.asked (sym c.due.ensures) (λ read. c.in_default.not-Read (c.due.ensures ∙ read)))))
     c.look_counted.ensures.list

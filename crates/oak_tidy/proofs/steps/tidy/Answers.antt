@@ -8,10 +8,10 @@ use Rattle.oak_tidy.proofs.steps.tidy.Goals as goal
 
 pub returns-in-Ok-clause-can : goal.returns-in-Ok-clause-can
 returns-in-Ok-clause-can c =
-    goes_can _ _ c.args.tidying (told_to (all_parts c.args.table.now c.args.memories.now c.args.events.now.list) (tidying_ask c.args.tidying)) c.in-Ok.kind c.gone_on.result.0 c.gone_on.result.1 c.requires.can.node c.requires.can.asks
+    goes_can _ c.args.tidying (told_to (all_parts c.args.table.now c.args.memories.now c.args.events.now.list) (tidying_ask c.args.tidying)) c.in-Ok.kind c.gone_on.result.0 c.gone_on.result.1 c.requires.can.asks
     (subst (λ (z : Tidying). GoesOrEnds c.in-Ok.kind z c.gone_on.result.0 c.gone_on.result.1) c.in-Ok.ensures.tidying c.gone_on.ensures)
 
 pub returns-in-Ok-clause-lowers : goal.returns-in-Ok-clause-lowers
 returns-in-Ok-clause-lowers c =
-    goes_lower_on (all_parts c.args.table.now c.args.memories.now c.args.events.now.list) (all_parts c.step.new.table c.step.new.memories c.step.new.events.list) _ c.args.s c.args.node c.args.tidying c.step.new.tidying c.in-Ok.kind c.gone_on.result.0 c.gone_on.result.1
+    goes_lower_on (all_parts c.args.table.now c.args.memories.now c.args.events.now.list) (all_parts c.step.new.table c.args.memories.now c.step.new.events.list) _ c.args.s c.args.tidying c.step.new.tidying c.in-Ok.kind c.gone_on.result.0 c.gone_on.result.1
     c.requires.table c.requires.can c.in-Ok.ensures.parts c.in-Ok.ensures.tidying c.gone_on.ensures
