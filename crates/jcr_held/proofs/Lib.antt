@@ -7,3 +7,4 @@ mod Referring
 pub mod Unread
 mod Unwritten
 mod Whole
+mod Following

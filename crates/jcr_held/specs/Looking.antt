@@ -10,6 +10,16 @@ use Rattle.jr_part.specs.declared.need.Need.{Need}
 use Rattle.jr_part.specs.declared.need.Need.TheVariants as need
 use Rattle.jr_overlay.specs.Overlays.{Changed, change_at}
 use Rattle.jcr_view.specs.Rounds.{one_path}
+use Rattle.jcr_held.specs.declared.looking.Place.{Place}
+use Rattle.jcr_held.specs.declared.looking.Place.TheVariants as place
+
+-- the places that are left to be looked at for a need: its node, or from the first child on all
+-- that is below its path
+abbrev pub places_for : Need → List Place
+places_for (need.Node p) = place.Node p ∷ []
+places_for (need.Children p) = []
+places_for (need.Subtree p) = place.Below p 0 ∷ []
+places_for need.All = place.Below [] 0 ∷ []
 
 -- a path, and the one above it
 abbrev pub with_above : Path → List Path

@@ -5,7 +5,7 @@ ghost use Rattle.jr_path.specs.Names.{name_cmp, path_cmp};
 ghost use Rattle.jr_tree.specs.Trees.{IsTree, Nodes, node_at};
 ghost use Rattle.jr_part.specs.Parts.{AgreesWith, Lacks, LacksNothing, nothing_known, with_children, with_node};
 ghost use Rattle.jr_part.specs.declared.need.Need.TheVariants as need;
-ghost use Rattle.jcr_held.specs.Follows.{FollowsEdit};
+ghost use Rattle.jcr_held.specs.Follows.{FollowsEdit, FollowsOrLacks, is_known_still};
 
 use jr_part::{Need, Part, puts_agree};
 use jr_path::{List, Name, Path};
@@ -154,39 +154,74 @@ impl HeldPart {
         ensures follows { FollowsEdit self.old self.new by edit.now.writes result }
         ensures order { IsTrue (is_sorted path_cmp self.new.nodes) }
     {
-        let is_whole = self.follow_or_forget(alloc, edit, by);
+        let is_whole = self.follow_if_memory(alloc, edit, by);
         self.in_order();
         is_whole
     }
 
-    fn follow_or_forget(&mut self, alloc: Global, edit: &Edit, by: Revision) -> bool
+    fn follow_if_memory(&mut self, alloc: Global, edit: &Edit, by: Revision) -> bool
         ensures { FollowsEdit self.old self.new by edit.now.writes result }
     {
-        puts_agree();
+        is_known_still(self.follow_or_forget(alloc, edit, by))
+    }
+
+    // Follows an edit by a revision, where the whole tree is known. Answers whether it was; where
+    // it wasn't, or memory is refused, nothing is known.
+    fn follow_or_forget(
+        &mut self,
+        alloc: Global,
+        edit: &Edit,
+        by: Revision,
+    ) -> Result<bool, AllocError>
+        ensures { FollowsOrLacks self.old self.new by edit.now.writes result }
+    {
         match self.lacks(&Need::All) {
             Ok(None) => self.follow_whole(edit, by),
-            _ => {
-                *self = HeldPart::new(alloc);
-                false
+            Ok(Some(_)) => {
+                self.forget(alloc);
+                Ok(false)
+            }
+            Err(refused) => {
+                self.forget(alloc);
+                Err(refused)
             }
         }
     }
 
+    // Nothing is known any more.
+    fn forget(&mut self, alloc: Global)
+        ensures nothing { self.new ≡ nothing_known }
+        ensures agrees { (t : Nodes) → AgreesWith t self.new }
+    {
+        puts_agree();
+        *self = HeldPart::new(alloc);
+    }
+
     // Follows an edit by a revision, where nothing of the tree lacks.
-    fn follow_whole(&mut self, edit: &Edit, by: Revision) -> bool
+    fn follow_whole(&mut self, edit: &Edit, by: Revision) -> Result<bool, AllocError>
         requires { LacksNothing self.old need.All }
-        ensures { FollowsEdit self.old self.new by edit.now.writes result }
+        ensures { FollowsOrLacks self.old self.new by edit.now.writes result }
     {
         puts_agree();
         match self.part.apply(edit, Some(by)) {
             Ok(()) => {
                 self.is_whole = true;
-                true
+                Ok(true)
             }
-            Err(_) => {
+            Err(refused) => {
                 self.is_whole = false;
-                false
+                Err(refused)
             }
         }
+    }
+}
+
+// Whether the whole tree is known still.
+fn is_known_still(followed: Result<bool, AllocError>) -> bool
+    ensures { result ≡ is_known_still followed }
+{
+    match followed {
+        Ok(is_whole) => is_whole,
+        Err(_) => false,
     }
 }

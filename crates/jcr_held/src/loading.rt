@@ -1,6 +1,6 @@
 // What a session has to read of the tree at its base before a command.
 ghost use Rattle.std.specs.Prelude.{◌≡◌, ◌≤◌, ◌∷◌, [], IfOk, IfSome, IsFalse, IsTrue, None, OnErr, OnOk, Some, cond};
-ghost use Rattle.std.specs.List.{All};
+ghost use Rattle.std.specs.List.{All, flat_map};
 ghost use Rattle.jr_part.specs.Parts.{LacksNothing};
 ghost use Rattle.jr_part.specs.declared.need.Need.TheVariants as need;
 ghost use Rattle.jr_overlay.specs.Overlays.{edit_of};
@@ -11,7 +11,7 @@ ghost use Rattle.jcr_view.specs.Rounds.{is_of_one_node};
 ghost use Rattle.jcr_law.specs.State.{Call};
 ghost use Rattle.jcr_held.specs.Alike.{AreAlike, Readies};
 ghost use Rattle.jcr_held.specs.Holds.{HasAsked, Holds, IsReady, asks_for};
-ghost use Rattle.jcr_held.specs.Looking.{IsLackingOf};
+ghost use Rattle.jcr_held.specs.Looking.{IsLackingOf, places_for};
 ghost use Rattle.jcr_held.specs.References.{are_asked};
 ghost use Rattle.jcr_held.specs.Unread.{IsWanted, unread};
 
@@ -215,6 +215,8 @@ impl Held {
         ensures one { IfOk result (λ load. IfSome load (λ n. IsTrue (is_of_one_node n))) }
         ensures lacks { IfOk result (λ load. IfSome load
             (IsLackingOf self.new.part needs.items)) }
+        ensures left { IfOk result (λ load. IfSome load
+            (λ n. self.new.left.items ≡ flat_map places_for needs.items)) }
         ensures same { AreAlike self.old self.new }
     {
         match first_lacking(&self.part, needs.as_slice())? {
@@ -229,6 +231,7 @@ impl Held {
     // A load, behind which these needs are left to be looked at.
     fn leave(&mut self, load: Need, needs: Vec<Need>) -> Result<Option<Need>, AllocError>
         ensures load { IfOk result (λ found. found ≡ Some load) }
+        ensures left { OnOk result (self.new.left.items ≡ flat_map places_for needs.items) }
         ensures same { AreAlike self.old self.new }
     {
         leave_needs(self.alloc, &mut self.left, needs)?;

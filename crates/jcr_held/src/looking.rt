@@ -1,10 +1,11 @@
 // What loading has left to look at, so that each known node is looked at once. All of it may be
 // forgotten, and looking at less is never wrong: what a command asks for is asked anew at the end.
-ghost use Rattle.std.specs.Prelude.{◌≡◌, IfOk, IfSome, IsFalse, IsTrue, None, Some, is_some};
+ghost use Rattle.std.specs.Prelude.{◌≡◌, ◌++◌, ◌∷◌, [], IfOk, IfSome, IsFalse, IsTrue, None, OnOk, Some, is_some};
+ghost use Rattle.std.specs.List.{flat_map};
 ghost use Rattle.jr_path.specs.Names.{parent_of};
 ghost use Rattle.jr_part.specs.Parts.{knows, list_at, lists_child};
 ghost use Rattle.jr_part.specs.declared.need.Need.TheVariants as need;
-ghost use Rattle.jcr_held.specs.Looking.{IsMetFirst, IsUnknownChild, IsUnknownNear};
+ghost use Rattle.jcr_held.specs.Looking.{IsMetFirst, IsUnknownChild, IsUnknownNear, places_for};
 
 use jcr_view::Pending;
 use jr_part::{Need, Part};
@@ -27,7 +28,9 @@ pub(crate) fn leave_needs(
     alloc: Global,
     left: &mut Vec<Place>,
     needs: Vec<Need>,
-) -> Result<(), AllocError> {
+) -> Result<(), AllocError>
+    ensures { OnOk result (left.new.items ≡ flat_map places_for needs.items) }
+{
     left.clear();
     for need in needs {
         leave_need(alloc, left, need)?;
@@ -35,7 +38,9 @@ pub(crate) fn leave_needs(
     Ok(())
 }
 
-fn leave_need(alloc: Global, left: &mut Vec<Place>, need: Need) -> Result<(), AllocError> {
+fn leave_need(alloc: Global, left: &mut Vec<Place>, need: Need) -> Result<(), AllocError>
+    ensures { OnOk result (left.new.items ≡ left.old.items ++ places_for need) }
+{
     match need {
         Need::Node(path) => leave_place(left, Place::Node(path)),
         Need::Children(_) => Ok(()),
@@ -44,7 +49,9 @@ fn leave_need(alloc: Global, left: &mut Vec<Place>, need: Need) -> Result<(), Al
     }
 }
 
-fn leave_place(left: &mut Vec<Place>, place: Place) -> Result<(), AllocError> {
+fn leave_place(left: &mut Vec<Place>, place: Place) -> Result<(), AllocError>
+    ensures { OnOk result (left.new.items ≡ left.old.items ++ place ∷ []) }
+{
     left.push(place)?;
     Ok(())
 }
