@@ -38,7 +38,7 @@ use Rattle.oak_acts.specs.Acts.{result_of}
 use Rattle.oak_tidy.specs.declared.tidying.Tidying.{Tidying}
 use Rattle.oak_tidy.specs.declared.tidying.Tidying.TheVariants as tidying
 use Rattle.oak_tidy.specs.Replies.{table_after, told_by_memories}
-use Rattle.oak_tidy.specs.Tidyings.{CanTidy, IsLooking, kind_tidied, tidy_events}
+use Rattle.oak_tidy.specs.Tidyings.{CanTidy, AsksToLook, kind_tidied, tidy_events}
 
 -- the world once this is asked and done for session s, with these events, the newest first
 abbrev pub after_asking : State → ℕ → Ask → Past → State
@@ -48,11 +48,11 @@ after_asking w s a es = record w { past = es ++ w.past; table = table_after w.ta
 
 -- a reading step looks for a document
 abbrev pub ReadsStay : Type 0
-ReadsStay = (w : State) (s : ℕ) (a : Ask) → IsLooking a → after_asking w s a [] ≡ w
+ReadsStay = (w : State) (s : ℕ) (a : Ask) → AsksToLook a → after_asking w s a [] ≡ w
 
 -- a counted step looks for one, or a cluster node tells what it holds
 abbrev pub LooksGo : Type 0
-LooksGo = (w : State) (s : ℕ) (a : Ask) (y : StepKind) → IsLooking a
+LooksGo = (w : State) (s : ℕ) (a : Ask) (y : StepKind) → AsksToLook a
     → after_asking w s a (event.Went s y ∷ []) ≡ after_went w s y
 
 abbrev pub NodesTell : Type 0

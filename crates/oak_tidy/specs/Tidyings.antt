@@ -127,10 +127,10 @@ Tidies s p x q v o = (q ≡ parts_on s p x) × GoesOrEnds (kind_tidied x) (tidie
 -- ---- what a step takes
 
 -- a document is looked for
-abbrev pub IsLooking : Ask → Type 0
-IsLooking (ask.Find i) = Unit {0}
-IsLooking (ask.NextAfter i) = Unit {0}
-IsLooking _ = ⊥
+abbrev pub AsksToLook : Ask → Type 0
+AsksToLook (ask.Find i) = Unit {0}
+AsksToLook (ask.NextAfter i) = Unit {0}
+AsksToLook _ = ⊥
 
 -- what a collector has read stands in the document of the node at which it is, until it goes on
 abbrev pub CollectsAt : CollectStep → Reading → Type 0
