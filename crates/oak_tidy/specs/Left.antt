@@ -34,6 +34,7 @@ abbrev pub stands_behind : Option DocId → DocId → Bool
 stands_behind None y = is_nodes y
 stands_behind (Some x) y = is_nodes y && range_contains id_cmp (Excluded x) Unbounded y
 
+-- the node documents behind an id in store order
 abbrev pub nodes_behind : Option DocId → List (DocId × Document) → List (DocId × Document)
 nodes_behind x es = filter (λ e. stands_behind x e.0) es
 
@@ -57,6 +58,7 @@ split_left es s = by s.step
 abbrev pub document_steps : Document → ℕ
 document_steps d = length d.prev + length d.prev + 3
 
+-- the steps that a collection makes at most of these documents
 abbrev pub all_steps : List (DocId × Document) → ℕ
 all_steps [] = 0
 all_steps (e ∷ es) = document_steps e.1 + all_steps es

@@ -55,6 +55,7 @@ abbrev pub LooksGo : Type 0
 LooksGo = (w : State) (s : ℕ) (a : Ask) (y : StepKind) → AsksToLook a
     → after_asking w s a (event.Went s y ∷ []) ≡ after_went w s y
 
+-- a cluster node tells what it holds, which changes nothing but the events
 abbrev pub NodesTell : Type 0
 NodesTell = (w : State) (s k : ℕ) (y : StepKind)
     → after_asking w s (ask.Memory (memory.Pins k)) (event.Went s y ∷ []) ≡ after_went w s y
@@ -65,11 +66,13 @@ RefusalsGo = (w : State) (s : ℕ) (op : UpdateOp) (fault : OpFault) (y : StepKi
     → result_of w.table op ≡ Err fault
     → after_asking w s (ask.Update op) (event.Went s y ∷ []) ≡ after_went w s y
 
+-- a document that has another number than was read stays
 abbrev pub ChangedStay : Type 0
 ChangedStay = (w : State) (s : ℕ) (i : DocId) (n found : ℕ) (y : StepKind)
     → removal_of w.table i n ≡ removal.Changed found
     → after_asking w s (ask.RemoveIf i n) (event.Went s y ∷ []) ≡ after_went w s y
 
+-- a document that is gone already leaves the documents as they are
 abbrev pub AbsentStay : Type 0
 AbsentStay = (w : State) (s : ℕ) (i : DocId) (n : ℕ) (y : StepKind)
     → removal_of w.table i n ≡ removal.Absent
@@ -140,6 +143,7 @@ NodesBound = (w : State) (k : ℕ) (x : Collector) → x.step ≡ collect_step.N
     → (collecting.fed x (told_by_memories w.memories (memory.Pins k))).bound
     ≡ fed_node w k x.bound
 
+-- a recovered cluster node leaves the bound as it is
 abbrev pub GonePass : Type 0
 GonePass = (w : State) (k : ℕ) (x : Collector) → x.step ≡ collect_step.Node k
     → (memory_at w.memories k).recovered ≡ true
@@ -163,6 +167,7 @@ abbrev pub SplitsBegin : Type 0
 SplitsBegin = (clusters : ℕ) (a : Global) (pin : Pin) (p : Path)
     → CanTidy clusters (tidying.Split (splitting.begun a pin p))
 
+-- a collection of so many cluster nodes may begin
 abbrev pub CollectionsBegin : Type 0
 CollectionsBegin = (clusters : ℕ) (a : Global)
     → CanTidy clusters (tidying.Collect (collecting.begun a clusters))
