@@ -72,18 +72,18 @@ pub record IsKeptSince (start : Start) (ds : Documents) (past : Past)
 
 -- a pair of vectors is held
 pub record IsHeldSince (start : Start) (past : Past) (v t : RevVec) : Type 0 where
-  -- its base is in use
+  -- the base is in use
   pub base : IsInUseSince start past v
-  -- its sweep vector sees nothing in flight that isn't committed
+  -- the sweep vector sees nothing in flight that isn't committed
   pub quiet : (r : Revision) → IsTrue (sees t r) → edit_since past r ≡ None
       → IsFalse (is_in_flight past r)
-  -- they see the start and all that bounds so far see
+  -- both see the start and all that bounds so far see
   pub above : (r : Revision) → IsTrue (bounded_since start past r) → IsTrue (sees v r)
   pub swept : (r : Revision) → IsTrue (swept_since start past r) → IsTrue (sees t r)
 
 -- documents at the beginning
 pub record ShowsStart (start : Start) (ds : Documents) : Type 0 where
-  -- they show the tree of the start
+  -- the documents show the tree of the start
   pub first : IsFirst start.tree
   pub node : (p : Path)
       → option_and_then shows_node

@@ -246,7 +246,7 @@ pub record IsDead (past : Past) (d : Draw) : Type 0 where
 abbrev pub without_path : Path → List Path → List Path
 without_path p ps = filter (λ q. not (is_path q p)) ps
 
--- its committer, once a recovery has undone it in the document of p
+-- the committer of a revision that a recovery has undone in the document of p
 abbrev pub cleared : Writer → Path → Writer
 cleared w p = record w { written = without_path p w.written; due = []; undoing = true }
 

@@ -100,6 +100,6 @@ abbrev pub EndsWell : Past → Type 0
 EndsWell [] = Unit {0}
 EndsWell (e ∷ past) = MayEnd past e × EndsWell past
 
--- its committer has written nothing in the document of p that isn't undone there
+-- the committer of r has written nothing in the document of p that isn't undone there
 abbrev pub IsUndoneAt : Core → Revision → Path → Type 0
 IsUndoneAt s r p = In p (s.writers r).written → ⊥

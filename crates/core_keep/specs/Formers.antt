@@ -46,7 +46,7 @@ pub record IsFormer (ds : Documents) (c : Course) (p : Path) (f : Former) : Type
   pub named : f.document.id ≡ id.Node p
   -- what was done is done
   pub done : (r : Revision) → IsTrue (f.done r) → IsTrue (is_done c r)
-  -- its values are what commits write
+  -- the values are what commits write
   pub genuine : (n : Name) (r : Revision) (ws : List Write) (x : Option Property)
       → Had f n r x → edit_in c r ≡ Some ws → written (put_of p n) ws ≡ Some x
   -- each that no swept bound sees is said on the commit root that it noted

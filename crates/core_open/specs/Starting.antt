@@ -28,7 +28,7 @@ begun_documents clusters sessions ds =
 pub record AreOpenable (clusters : ℕ) (ds : List Document) : Type 0 where
   -- of one to eight cluster nodes
   pub nodes : (1 ≤ clusters) × (clusters ≤ 8)
-  -- they keep the rules
+  -- the documents keep the rules
   pub sound : AreSoundDocuments clusters (by_id ds)
   -- the root's is among them
   pub root : IsTrue (is_some (documents_in (by_id ds) (Node [])))

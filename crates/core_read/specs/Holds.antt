@@ -23,7 +23,7 @@ use Rattle.core_read.specs.Commits.{Commits}
 abbrev pub the_start : Revision
 the_start = start_of 1
 
--- those of the second list before those of the first, turned round
+-- the commits of the second list before those of the first, turned round
 abbrev pub onto : Commits → Commits → Commits
 onto done [] = done
 onto done (e ∷ es) = onto (e ∷ done) es

@@ -10,11 +10,11 @@ use Rattle.oak_doc.specs.declared.update.UpdateOp.{UpdateOp}
 use Rattle.oak_machine.specs.Laws.{Says, Starts, StartsProper}
 use Rattle.oak_machine.specs.Sessions.{has_left, has_login}
 use Rattle.oak_read.specs.Meaning.{Documents, documents_in}
-use Rattle.core_world.specs.Collecting.{MayPrune, MayRemove, MayRemovePrevious, MaySplit, after_copied, after_pruned, after_removed, after_split}
+use Rattle.core_world.specs.Collecting.{MayPrune, MayRemove, MayRemovePrevious, MaySplit, after_copied, after_pruned, after_removed, after_split, after_taken_back}
 use Rattle.core_keep.specs.Formers.{Former, IsCopyOf}
 use Rattle.core_world.specs.Kept.{IsKept}
 use Rattle.core_world.specs.States.{State}
-use Rattle.core_world.proofs.Splitting.{copied_keeps, copied_rises, pruned_keeps, pruned_rises, removed_keeps, removed_rises, split_keeps, split_rises, unlisted_goes, unlisted_rises}
+use Rattle.core_world.proofs.Splitting.{back_goes, back_rises, copied_keeps, copied_rises, pruned_keeps, pruned_rises, removed_keeps, removed_rises, split_keeps, split_rises, unlisted_goes, unlisted_rises}
 use Rattle.core_world.proofs.Collects.{taken_is}
 use Rattle.core_world.proofs.Seated.{quiet_pinned}
 use Rattle.core_world.proofs.Tables.{put_is}
@@ -44,3 +44,7 @@ module _ (starts : Starts) (says : Says) (proper : StartsProper starts) (w : Sta
   pub unlisted_whole : (p : Path) (k : ℕ) → MayRemovePrevious w p k → IsKept starts says (after_removed w s (id.Prev k p))
   unlisted_whole p k may = goes starts says proper w kept (after_removed w s (id.Prev k p)) refl refl (unlisted_goes starts says proper w (layers_of starts says w kept) s login stays p k may) (λ r. refl) (λ r. refl) (unlisted_rises starts says proper w (layers_of starts says w kept) s login stays p k may)
       (quiet_pinned starts says proper w (layers_of starts says w kept) kept.pinned (after_removed w s (id.Prev k p)) refl refl refl refl (λ q. refl) (taken_is w.table (id.Prev k p) id.Settings may.sorted))
+
+  pub back_whole : (p : Path) (k : ℕ) → MayRemovePrevious w p k → IsKept starts says (after_taken_back w s (id.Prev k p))
+  back_whole p k may = goes starts says proper w kept (after_taken_back w s (id.Prev k p)) refl refl (back_goes starts says proper w (layers_of starts says w kept) s login stays p k may) (λ r. refl) (λ r. refl) (back_rises starts says proper w (layers_of starts says w kept) s login stays p k may)
+      (quiet_pinned starts says proper w (layers_of starts says w kept) kept.pinned (after_taken_back w s (id.Prev k p)) refl refl refl refl (λ q. refl) (taken_is w.table (id.Prev k p) id.Settings may.sorted))

@@ -1,6 +1,7 @@
 -- Each step of a session and of its commit keeps all that a world keeps.
-use Rattle.std.proofs.Common.{◌≡◌, ℕ, List, [], ◌∷◌, length, Some, None, is_some, refl}
+use Rattle.std.proofs.Common.{◌≡◌, ℕ, List, [], ◌∷◌, length, true, Some, None, is_some, refl}
 use Rattle.std.specs.Prelude.{IsTrue, IsFalse, slice_get}
+use mathlib.Core.Bool.{false≢true}
 use Rattle.std.specs.declared.alloc.Global.{Global}
 use Rattle.jr_path.specs.declared.path.Path.{Path}
 use Rattle.jr_path.specs.Lists.{Text}
@@ -8,11 +9,12 @@ use Rattle.jr_rev.specs.declared.vector.Pin.{Pin}
 use Rattle.jr_tree.specs.declared.edit.Edit.{Edit}
 use Rattle.oak_clash.specs.declared.mark.MarkAt.{MarkAt}
 use Rattle.oak_commit.specs.Clashing.{Met}
+use Rattle.oak_machine.specs.declared.event.Event.{Event}
 use Rattle.oak_machine.specs.declared.event.Event.TheVariants as event
 use Rattle.oak_machine.specs.declared.event.StepKind.{StepKind}
 use Rattle.oak_machine.specs.declared.event.StepKind.TheVariants as kind
 use Rattle.oak_machine.specs.Laws.{Says, Starts, StartsProper, StartsWrite}
-use Rattle.oak_machine.specs.Runs.{AreNodes}
+use Rattle.oak_machine.specs.Runs.{AreNodes, MayFollow, is_task_end}
 use Rattle.oak_machine.specs.Sessions.{has_left, has_login, is_attached, is_stopped_under, next_index}
 use Rattle.oak_machine.specs.Steps.{is_kind}
 use Rattle.oak_node.specs.Pins.{pin_of}
@@ -25,12 +27,12 @@ use Rattle.core_world.specs.States.{base_in, origin}
 use Rattle.core_world.specs.Kept.{IsAboveBounds, AreLayersKept, IsBetweenPins}
 use Rattle.core_world.specs.Start.{start_state}
 use Rattle.core_world.specs.States.{State, actor_pin, history_in, memory_of}
-use Rattle.core_world.specs.Steps.{IsThrough, after_draw, after_finish, after_last, after_leave, after_login, after_mark, after_observe, after_refresh, after_said, after_undoing, after_want, after_went, after_write, after_write_in_want, draw_in, with_reader, with_observer}
+use Rattle.core_world.specs.Steps.{IsThrough, after_draw, after_finish, after_last, after_leave, after_login, after_mark, after_observe, after_refresh, after_said, after_task_end, after_undoing, after_want, after_went, after_write, after_write_in_want, draw_in, with_reader, with_observer}
 use Rattle.core_world.proofs.Attaching.{actor_live, actor_pair}
 use Rattle.core_world.proofs.Begun.{start_kept}
 use Rattle.core_world.proofs.Commits.{last_keeps, mark_keeps, undo_keeps, want_keeps, write_in_want_keeps, write_keeps}
 use Rattle.core_world.proofs.Draws.{draw_keeps, finish_keeps}
-use Rattle.core_world.proofs.Lives.{leave_keeps, login_keeps, node_alive, observe_keeps, refresh_keeps, said_keeps, session_there, went_keeps}
+use Rattle.core_world.proofs.Lives.{leave_keeps, login_keeps, node_alive, observe_keeps, refresh_keeps, said_keeps, session_there, task_end_keeps, went_keeps}
 use Rattle.core_world.proofs.Loads.{gone_keeps, list_keeps, load_keeps, read_keeps, feed_keeps, notice_keeps, unnotice_keeps}
 use Rattle.core_world.proofs.Rooted.{finish_rooted, last_rooted, mark_rooted, start_rooted, undo_rooted, write_rooted}
 use Rattle.core_world.proofs.Roots.{root_quiet}
@@ -57,6 +59,11 @@ module _ (starts : Starts) (says : Says) (proper : StartsProper starts) (w : Sta
 
   pub said_whole : (s i : ℕ) (text : Text) → i ≡ next_index w.past s → says (history_in w) s i text → AreLayersKept starts says (after_said w s i text)
   said_whole s i text next lawful = record { sessions = said_keeps starts says proper w kept.sessions s i text next lawful; root = root_quiet w.clusters w.begin w.past w.table (event.Said s i text) refl kept.root; settings = settings_quiet w.sessions w.past w.table w.table (event.Said s i text) refl refl kept.settings }
+
+  pub task_end_whole : (s : ℕ) (e : Event) → is_task_end s e ≡ true → MayFollow starts says (history_in w) e → AreLayersKept starts says (after_task_end w e)
+  task_end_whole s (event.Split t path end) own may = record { sessions = task_end_keeps starts says proper w kept.sessions s (event.Split t path end) own may; root = root_quiet w.clusters w.begin w.past w.table (event.Split t path end) refl kept.root; settings = settings_quiet w.sessions w.past w.table w.table (event.Split t path end) refl refl kept.settings }
+  task_end_whole s (event.Collected t end) own may = record { sessions = task_end_keeps starts says proper w kept.sessions s (event.Collected t end) own may; root = root_quiet w.clusters w.begin w.past w.table (event.Collected t end) refl kept.root; settings = settings_quiet w.sessions w.past w.table w.table (event.Collected t end) refl refl kept.settings }
+  task_end_whole s _ own may = absurd (false≢true own)
 
   pub went_whole : (s : ℕ) (k : StepKind) → IsFalse (is_kind k kind.End) → IsFalse (is_kind k kind.Pin) → IsTrue (has_login w.past s) → IsFalse (has_left w.past s) → AreLayersKept starts says (after_went w s k)
   went_whole s k other apart login stays = record { sessions = went_keeps starts says proper w kept.sessions s k other apart login stays; root = root_quiet w.clusters w.begin w.past w.table (event.Went s k) refl kept.root; settings = settings_quiet w.sessions w.past w.table w.table (event.Went s k) refl refl kept.settings }

@@ -10,7 +10,7 @@ use Rattle.oak_machine.specs.declared.event.StepKind.{StepKind}
 use Rattle.oak_machine.specs.declared.event.StepKind.TheVariants as kind
 use Rattle.oak_machine.specs.Heads.{head_of}
 use Rattle.oak_machine.specs.Laws.{Says, Starts, StartsProper}
-use Rattle.oak_machine.specs.Runs.{IsNode, IsRunOf}
+use Rattle.oak_machine.specs.Runs.{IsNode, IsRunOf, MayFollow, is_task_end}
 use Rattle.oak_machine.specs.Sessions.{has_left, has_login, is_end_of_session, is_recovered, is_stopped, is_stopped_under, next_index, is_stop_of}
 use Rattle.oak_machine.specs.Steps.{is_kind}
 use Rattle.oak_read.specs.declared.reader.Reader.{Reader}
@@ -22,7 +22,7 @@ use Rattle.core_heads.proofs.Runs.{held_in_use, sound_run}
 use Rattle.core_clash.specs.Sessions.{Running}
 use Rattle.core_nodes.specs.Nodes.{cursor_owner, moved_pin}
 use Rattle.core_world.specs.States.{State, history_in, memory_of, node_of, origin}
-use Rattle.core_world.specs.Steps.{after_leave, after_login, after_observe, after_refresh, after_said, after_went}
+use Rattle.core_world.specs.Steps.{after_leave, after_login, after_observe, after_refresh, after_said, after_task_end, after_went}
 use Rattle.core_world.specs.Kept.{AreReading, AreSessionsKept, has_written, AreCommitting, AreObserving}
 use Rattle.core_world.proofs.Letting.{is_bound, lets_calm}
 use Rattle.core_world.proofs.Finishing.{quiet_commits}
@@ -221,6 +221,34 @@ module _ (starts : Starts) (says : Says) (proper : StartsProper starts) (w : Sta
         readers = reads_calm e (λ q. refl) refl (λ q r h. refl);
         observers = observes_calm e run (λ k. refl) (λ q. refl) refl (λ q r h. refl) w.running (quiet_commits (origin w) w.past w.table w.running kept.committing told e refl (λ k. refl));
       }
+
+  -- how a split or a collection of s ended
+  pub task_end_keeps : (s : ℕ) (e : Event) → is_task_end s e ≡ true → MayFollow starts says (history_in w) e → AreSessionsKept starts says (after_task_end w e)
+  task_end_keeps s (event.Split t path end) own may =
+      let e : Event = event.Split t path end in
+      let run : IsRunOf starts says w.clusters w.sessions w.begin (e ∷ w.past) = (may, kept.run) in
+      record {
+        nodes = kept.nodes;
+        run = run;
+        committing = quiet_commits (origin w) w.past w.table w.running kept.committing told e refl (λ k. refl);
+        working = work_quiet w.sessions w.past w.running w.reading kept.working e refl (λ q. refl) (λ k. refl);
+        memories = aside starts says w.clusters w.sessions w.begin kept.nodes w.past w.memories kept.memories e run (λ j. refl) (λ j. refl);
+        readers = reads_calm e (λ q. refl) refl (λ q r h. refl);
+        observers = observes_calm e run (λ k. refl) (λ q. refl) refl (λ q r h. refl) w.running (quiet_commits (origin w) w.past w.table w.running kept.committing told e refl (λ k. refl));
+      }
+  task_end_keeps s (event.Collected t end) own may =
+      let e : Event = event.Collected t end in
+      let run : IsRunOf starts says w.clusters w.sessions w.begin (e ∷ w.past) = (may, kept.run) in
+      record {
+        nodes = kept.nodes;
+        run = run;
+        committing = quiet_commits (origin w) w.past w.table w.running kept.committing told e refl (λ k. refl);
+        working = work_quiet w.sessions w.past w.running w.reading kept.working e refl (λ q. refl) (λ k. refl);
+        memories = aside starts says w.clusters w.sessions w.begin kept.nodes w.past w.memories kept.memories e run (λ j. refl) (λ j. refl);
+        readers = reads_calm e (λ q. refl) refl (λ q r h. refl);
+        observers = observes_calm e run (λ k. refl) (λ q. refl) refl (λ q r h. refl) w.running (quiet_commits (origin w) w.past w.table w.running kept.committing told e refl (λ k. refl));
+      }
+  task_end_keeps s _ own may = absurd (false≢true own)
 
   pub went_keeps : (s : ℕ) (k : StepKind) → is_kind k kind.End ≡ false → is_kind k kind.Pin ≡ false → has_login w.past s ≡ true → has_left w.past s ≡ false → AreSessionsKept starts says (after_went w s k)
   went_keeps s k other apart login stays =

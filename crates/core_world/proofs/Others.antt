@@ -18,7 +18,8 @@ use Rattle.oak_machine.specs.declared.event.StepKind.{StepKind}
 use Rattle.oak_read.specs.declared.reader.Reader.{Reader}
 use Rattle.core_clash.specs.Sessions.{Running}
 use Rattle.core_world.specs.States.{State, with_session}
-use Rattle.core_world.specs.Steps.{LeavesOthers, after_draw, after_finish, after_last, after_leave, after_login, after_mark, after_observe, after_refresh, after_said, after_undoing, after_want, after_went, after_write, after_write_in_want, lasted_by, marked_by, with_reader, after_attach, after_unfound, after_back, after_checkpoint, after_detach, after_release, after_learn, after_learn_swept, after_out, after_pending, after_sweep, with_observer}
+use Rattle.oak_machine.specs.declared.event.Event.{Event}
+use Rattle.core_world.specs.Steps.{LeavesOthers, after_draw, after_finish, after_last, after_leave, after_login, after_mark, after_observe, after_refresh, after_said, after_task_end, after_undoing, after_want, after_went, after_write, after_write_in_want, lasted_by, marked_by, with_reader, after_attach, after_unfound, after_back, after_checkpoint, after_detach, after_release, after_learn, after_learn_swept, after_out, after_pending, after_sweep, with_observer}
 use Rattle.oak_changes.specs.declared.changes.ChangesReader.{ChangesReader}
 
 -- the others have what they had
@@ -39,6 +40,9 @@ observe_others w s pin q h = (refl, refl, refl)
 
 pub said_others : (w : State) (s i : ℕ) (text : Text) → LeavesOthers s w (after_said w s i text)
 said_others w s i text q h = (refl, refl, refl)
+
+pub task_end_others : (w : State) (s : ℕ) (e : Event) → LeavesOthers s w (after_task_end w e)
+task_end_others w s e q h = (refl, refl, refl)
 
 pub went_others : (w : State) (s : ℕ) (k : StepKind) → LeavesOthers s w (after_went w s k)
 went_others w s k q h = (refl, refl, refl)

@@ -39,13 +39,14 @@ use Rattle.oak_doc.specs.declared.update.OpFault.TheVariants as fault
 use Rattle.oak_doc.specs.declared.update.Kept.TheVariants as keeps
 use Rattle.oak_doc.specs.declared.update.UpdateOp.{UpdateOp}
 use Rattle.oak_doc.specs.Updates.{updated}
+use Rattle.oak_machine.specs.declared.event.Event.{Event}
 use Rattle.oak_machine.specs.declared.event.Event.TheVariants as event
 use Rattle.oak_machine.specs.declared.event.StepKind.{StepKind}
 use Rattle.oak_machine.specs.declared.event.StepKind.TheVariants as kind
 use Rattle.oak_machine.specs.Heads.{head_of, local, published}
 use Rattle.oak_machine.specs.History.{Past}
 use Rattle.oak_machine.specs.Laws.{Says, Starts, StartsProper}
-use Rattle.oak_machine.specs.Runs.{IsNode, MayBound}
+use Rattle.oak_machine.specs.Runs.{IsNode, MayBound, MayFollow, is_task_end}
 use Rattle.oak_machine.specs.Sessions.{has_left, has_login, has_reader, is_attached, is_recovered, is_stopped_under, kept_checkpoint, next_index}
 use Rattle.oak_machine.specs.Steps.{is_kind}
 use Rattle.oak_node.specs.Heads.{finished, learned}
@@ -67,7 +68,7 @@ use Rattle.core_world.proofs.Lives.{told}
 use Rattle.core_world.proofs.Memories.{aside}
 use Rattle.core_world.specs.Kept.{AreLayersKept, WereOnRoot}
 use Rattle.core_world.specs.States.{State, history_in, memory_of, node_of, nodes_in}
-use Rattle.core_world.specs.Steps.{IsThrough, after_attach, after_back, after_checkpoint, after_detach, after_draw, after_finish, after_last, after_learn, after_learn_swept, after_leave, after_login, after_mark, after_notes, after_observe, after_out, after_pending, after_refresh, after_release, after_said, after_sweep, after_undoing, after_unfound, after_want, after_went, after_write, after_write_in_want, draw_in, lasted_by, marked_by, pinned, swept_to, with_reader, with_result, with_observer}
+use Rattle.core_world.specs.Steps.{IsThrough, after_attach, after_back, after_checkpoint, after_detach, after_draw, after_finish, after_last, after_learn, after_learn_swept, after_leave, after_login, after_mark, after_notes, after_observe, after_out, after_pending, after_refresh, after_release, after_said, after_task_end, after_sweep, after_undoing, after_unfound, after_want, after_went, after_write, after_write_in_want, draw_in, lasted_by, marked_by, pinned, swept_to, with_reader, with_result, with_observer}
 use Rattle.oak_sync.specs.Publishing.{back_op}
 use Rattle.oak_sweep.specs.Sweeping.{sweep_op}
 use Rattle.core_world.proofs.Attaching.{attach_keeps, attach_unfound_keeps, detach_keeps, release_unfound_keeps}
@@ -77,7 +78,7 @@ use Rattle.core_world.proofs.Held.{all_still, attach_kept, checkpoint_kept, curs
 use Rattle.core_world.proofs.Lives.{its_node, session_there}
 use Rattle.core_world.proofs.Roots.{root_quiet}
 use Rattle.core_world.proofs.Setting.{settings_quiet, undo_apart, update_apart}
-use Rattle.core_world.proofs.Layers.{draw_whole, finish_whole, last_whole, leave_whole, login_whole, mark_whole, observe_whole, refresh_whole, said_whole, undo_whole, went_whole, write_in_want_whole, write_whole}
+use Rattle.core_world.proofs.Layers.{draw_whole, finish_whole, last_whole, leave_whole, login_whole, mark_whole, observe_whole, refresh_whole, said_whole, task_end_whole, undo_whole, went_whole, write_in_want_whole, write_whole}
 use Rattle.oak_changes.specs.declared.changes.ChangesReader.{ChangesReader}
 use Rattle.core_world.proofs.Letting.{observes_on}
 use Rattle.core_world.proofs.Observers.{observers_last}
@@ -132,6 +133,9 @@ module _ (starts : Starts) (says : Says) (proper : StartsProper starts) (w : Sta
 
   pub said_rises : (s i : ℕ) (text : Text) → i ≡ next_index w.past s → says (history_in w) s i text → Rises (after_said w s i text)
   said_rises s i text next lawful = holding starts says proper w kept (after_said w s i text) (said_whole starts says proper w kept s i text next lawful) (event.Said s i text ∷ []) refl refl refl refl (all_still starts says proper w kept) (same_kept starts says proper w kept w.table refl)
+
+  pub task_end_rises : (s : ℕ) (e : Event) → is_task_end s e ≡ true → MayFollow starts says (history_in w) e → Rises (after_task_end w e)
+  task_end_rises s e own may = holding starts says proper w kept (after_task_end w e) (task_end_whole starts says proper w kept s e own may) (e ∷ []) refl refl refl refl (all_still starts says proper w kept) (same_kept starts says proper w kept w.table refl)
 
   pub reader_rises : (s : ℕ) (r : Option Reader) → Rises (with_reader w s r)
   reader_rises s r = still_holding (holding_in w)

@@ -64,7 +64,7 @@ use Rattle.core_keep.proofs.Staying.{grows_by, missing_unlisted}
 use Rattle.core_watch.specs.Reading.{ReadsOn}
 use Rattle.core_watch.proofs.StayingOn.{formers_listed, formers_previous, formers_pruned, formers_removed}
 use Rattle.core_watch.proofs.GoingOn.{on_moved, on_previous, on_pruned, on_removed}
-use Rattle.core_world.specs.Collecting.{MayPrune, MayRemove, MayRemovePrevious, MaySplit, after_change, after_copied, after_pruned, after_removed, after_split, split_now, without}
+use Rattle.core_world.specs.Collecting.{MayPrune, MayRemove, MayRemovePrevious, MaySplit, after_change, after_copied, after_pruned, after_removed, after_split, after_taken_back, split_now, without}
 use Rattle.core_world.specs.Held.{holding_in}
 use Rattle.core_world.specs.Kept.{AreLayersKept, has_written}
 use Rattle.core_world.specs.States.{State, core_in, moved_in, nodes_in, origin}
@@ -313,6 +313,12 @@ module _ (starts : Starts) (says : Says) (proper : StartsProper starts) (w : Sta
 
       pub unlisted_rises : IsHoldingStep (holding_in w) (holding_in (after_removed w s (id.Prev k p)))
       unlisted_rises = previous_rises (without w.table (id.Prev k p)) p k (take_previous may.sorted) may.unlisted (λ f x h there. absurd (false≢true (ap is_some (sym gone ∙ there)))) (taken_is w.table (id.Prev k p) id.Settings may.sorted) kind.Collect refl refl
+
+      pub back_goes : AreLayersKept starts says (after_taken_back w s (id.Prev k p))
+      back_goes = previous_keeps (without w.table (id.Prev k p)) p k (take_previous may.sorted) may.unlisted (λ f x h there. absurd (false≢true (ap is_some (sym gone ∙ there)))) (taken_is w.table (id.Prev k p) id.Settings may.sorted) kind.Split refl refl
+
+      pub back_rises : IsHoldingStep (holding_in w) (holding_in (after_taken_back w s (id.Prev k p)))
+      back_rises = previous_rises (without w.table (id.Prev k p)) p k (take_previous may.sorted) may.unlisted (λ f x h there. absurd (false≢true (ap is_some (sym gone ∙ there)))) (taken_is w.table (id.Prev k p) id.Settings may.sorted) kind.Split refl refl
 
   -- ---- a collection prunes a document
 

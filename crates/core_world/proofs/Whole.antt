@@ -4,7 +4,7 @@ use Rattle.core_nodes.specs.Nodes.{cursor_owner, base_of_pin}
 use Rattle.core_world.specs.Kept.{AreLayersKept, IsAboveBounds, WereOnRoot, IsBetweenPins, SeesStarts}
 use Rattle.core_world.specs.Start.{start_state}
 use Rattle.core_world.specs.States.{State, actor_pin, base_in, history_in, memory_of, node_of, reader_pin, memory_at, origin}
-use Rattle.core_world.specs.Steps.{IsThrough, after_attach, after_back, after_checkpoint, after_detach, after_draw, after_finish, after_last, after_learn, after_learn_swept, after_leave, after_login, after_mark, after_observe, after_out, after_pending, after_refresh, after_release, after_said, after_sweep, after_undoing, after_unfound, after_want, after_went, after_write, after_write_in_want, draw_in, with_reader, with_observer}
+use Rattle.core_world.specs.Steps.{IsThrough, after_attach, after_back, after_checkpoint, after_detach, after_draw, after_finish, after_last, after_learn, after_learn_swept, after_leave, after_login, after_mark, after_observe, after_out, after_pending, after_refresh, after_release, after_said, after_task_end, after_sweep, after_undoing, after_unfound, after_want, after_went, after_write, after_write_in_want, draw_in, with_reader, with_observer}
 use Rattle.oak_sync.specs.Publishing.{back_op}
 use Rattle.oak_sweep.specs.Sweeping.{sweep_op}
 use Rattle.jr_path.specs.Names.{path_cmp}
@@ -22,7 +22,7 @@ use Rattle.oak_doc.specs.declared.document.Document.{Document}
 use Rattle.oak_machine.specs.Heads.{local, published}
 use Rattle.oak_machine.specs.History.{Past, Begin}
 use Rattle.oak_machine.specs.Laws.{Says, Starts, StartsProper, StartsWrite}
-use Rattle.oak_machine.specs.Runs.{AreNodes, IsNode}
+use Rattle.oak_machine.specs.Runs.{AreNodes, IsNode, MayFollow, is_task_end}
 use Rattle.oak_machine.specs.Sessions.{has_left, has_login, has_reader, is_attached, is_stopped_under, kept_checkpoint, next_index, cursor_at, session_base}
 use Rattle.oak_machine.specs.Steps.{is_kind}
 use Rattle.oak_machine.specs.declared.event.StepKind.{StepKind}
@@ -39,6 +39,7 @@ use Rattle.std.specs.Prelude.{Err, IsFalse, IsSome, IsTrue, Ok, slice_get}
 use Rattle.std.specs.declared.alloc.Global.{Global}
 use Rattle.oak_doc.specs.declared.update.Change.TheVariants as change
 use Rattle.oak_doc.specs.declared.update.OpFault.TheVariants as fault
+use Rattle.oak_machine.specs.declared.event.Event.{Event}
 use Rattle.oak_machine.specs.declared.event.Event.TheVariants as event
 use Rattle.oak_machine.specs.declared.event.StepKind.TheVariants as kind
 use Rattle.core_clash.specs.Collecting.{SeesBounded}
@@ -68,9 +69,9 @@ use Rattle.core_world.proofs.Backs.{back_keeps as back_layers, learn_keeps as le
 use Rattle.core_world.proofs.Checkpoints.{checkpoint_keeps as checkpoint_layers, release_keeps as release_layers}
 use Rattle.core_world.proofs.Draws.{some_pin, its_base, its_pair}
 use Rattle.core_world.proofs.Held.{found_in, takes_part}
-use Rattle.core_world.proofs.Layers.{draw_whole as draw_layers, finish_whole as finish_layers, gone_whole as gone_layers, last_whole as last_layers, leave_whole as leave_layers, list_whole as list_layers, load_whole as load_layers, login_whole as login_layers, mark_whole as mark_layers, observe_whole as observe_layers, read_whole as read_layers, refresh_whole as refresh_layers, said_whole as said_layers, start_whole as start_layers, undo_whole as undo_layers, want_whole as want_layers, went_whole as went_layers, write_in_want_whole as write_in_want_layers, write_whole as write_layers, feed_whole as feed_layers, notice_whole as notice_layers, unnotice_whole as unnotice_layers}
+use Rattle.core_world.proofs.Layers.{draw_whole as draw_layers, finish_whole as finish_layers, gone_whole as gone_layers, last_whole as last_layers, leave_whole as leave_layers, list_whole as list_layers, load_whole as load_layers, login_whole as login_layers, mark_whole as mark_layers, observe_whole as observe_layers, read_whole as read_layers, refresh_whole as refresh_layers, said_whole as said_layers, task_end_whole as task_end_layers, start_whole as start_layers, undo_whole as undo_layers, want_whole as want_layers, went_whole as went_layers, write_in_want_whole as write_in_want_layers, write_whole as write_layers, feed_whole as feed_layers, notice_whole as notice_layers, unnotice_whole as unnotice_layers}
 use Rattle.core_world.proofs.Lives.{its_node, node_alive, session_there}
-use Rattle.core_world.proofs.Rising.{above_one, attach_rises, attach_unfound_rises, back_rises, bound_keeps as bound_layers, checkpoint_rises, detach_rises, draw_rises, finish_rises, last_rises, learn_rises, learn_swept_rises, leave_rises, login_rises, mark_rises, observe_rises, out_rises, pending_rises, reader_rises, refresh_rises, release_rises, release_unfound_rises, said_rises, sweep_rises, undo_rises, want_rises, went_rises, write_in_want_rises, write_rises, observer_rises}
+use Rattle.core_world.proofs.Rising.{above_one, attach_rises, attach_unfound_rises, back_rises, bound_keeps as bound_layers, checkpoint_rises, detach_rises, draw_rises, finish_rises, last_rises, learn_rises, learn_swept_rises, leave_rises, login_rises, mark_rises, observe_rises, out_rises, pending_rises, reader_rises, refresh_rises, release_rises, release_unfound_rises, said_rises, task_end_rises, sweep_rises, undo_rises, want_rises, went_rises, write_in_want_rises, write_rises, observer_rises}
 use Rattle.oak_changes.specs.declared.changes.ChangesReader.{ChangesReader}
 use Rattle.oak_changes.specs.declared.changes.Step.TheVariants as observed
 use Rattle.oak_changes.specs.Reading.{changes_reader, due as due_changes, fed as fed_changes}
@@ -281,6 +282,13 @@ module _ (starts : Starts) (says : Says) (proper : StartsProper starts) (w : Sta
   pub said_whole : (s i : ℕ) (text : Text) → i ≡ next_index w.past s → says (history_in w) s i text → IsKept starts says (after_said w s i text)
   said_whole s i text next lawful = goes (after_said w s i text) refl refl (said_layers starts says proper w layers s i text next lawful) (λ r. refl) (λ r. refl) (said_rises starts says proper w layers s i text next lawful)
       (quiet_pinned starts says proper w layers kept.pinned (after_said w s i text) refl refl refl refl (λ q. refl) (refl))
+
+  pub task_end_whole : (s : ℕ) (e : Event) → is_task_end s e ≡ true → MayFollow starts says (history_in w) e → IsKept starts says (after_task_end w e)
+  task_end_whole s (event.Split t path end) own may = goes (after_task_end w (event.Split t path end)) refl refl (task_end_layers starts says proper w layers s (event.Split t path end) own may) (λ r. refl) (λ r. refl) (task_end_rises starts says proper w layers s (event.Split t path end) own may)
+      (quiet_pinned starts says proper w layers kept.pinned (after_task_end w (event.Split t path end)) refl refl refl refl (λ q. refl) (refl))
+  task_end_whole s (event.Collected t end) own may = goes (after_task_end w (event.Collected t end)) refl refl (task_end_layers starts says proper w layers s (event.Collected t end) own may) (λ r. refl) (λ r. refl) (task_end_rises starts says proper w layers s (event.Collected t end) own may)
+      (quiet_pinned starts says proper w layers kept.pinned (after_task_end w (event.Collected t end)) refl refl refl refl (λ q. refl) (refl))
+  task_end_whole s _ own may = absurd (false≢true own)
 
   pub went_whole : (s : ℕ) (k : StepKind) → IsFalse (is_kind k kind.End) → IsFalse (is_kind k kind.Pin) → IsTrue (has_login w.past s) → IsFalse (has_left w.past s) → IsKept starts says (after_went w s k)
   went_whole s k other apart login stays = goes (after_went w s k) refl refl (went_layers starts says proper w layers s k other apart login stays) (λ r. refl) (λ r. refl) (went_rises starts says proper w layers s login k other apart stays)

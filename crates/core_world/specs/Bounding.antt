@@ -16,10 +16,10 @@ use Rattle.core_world.specs.States.{State}
 
 -- a pair can bound a collection
 pub record CanBound (begin : Begin) (clusters : ℕ) (past : Past) (x : Pin) : Type 0 where
-  -- its base sees nothing that is ahead, and with a drawn revision all that its base saw, however
+  -- the base sees nothing that is ahead, and with a drawn revision all that its base saw, however
   -- the run goes on
   pub good : IsGood begin past (Seen x.base)
-  -- its sweep vector is at most its base, and sees the start of each cluster node
+  -- the sweep vector is at most the base, and sees the start of each cluster node
   pub swept : IsTrue (is_below x.sweep x.base)
   pub begun : SeesStarts clusters x.sweep
 

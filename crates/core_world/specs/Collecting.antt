@@ -78,6 +78,11 @@ pub record MaySplit (w : State) (read : Documents) (pin : Pin) (p : Path) (old :
   pub copied : documents_in w.table.documents (id.Prev e.number p)
       ≡ Some (after_changes None (previous_write read pin old) first)
 
+-- a split that finds another document of the node than it read takes away the previous document
+-- that it wrote
+abbrev pub after_taken_back : State → ℕ → DocId → State
+after_taken_back w s i = after_change w s kind.Split (without w.table i)
+
 -- a collection drops garbage of a bound from a document, and unlists previous ones
 abbrev pub after_pruned : State → ℕ → Path → Document → UpdateOp → State
 after_pruned w s p old op =
@@ -108,7 +113,7 @@ pub record MayRemove (w : State) (m t : RevVec) (p : Path) (old : Document) : Ty
   pub there : documents_in w.table.documents (id.Node p) ≡ Some old
   pub garbage : IsTrue (is_garbage_document m t old)
 
--- a collection may take away a previous document that its node doesn't list
+-- a previous document that its node doesn't list may be taken away
 pub record MayRemovePrevious (w : State) (p : Path) (k : ℕ) : Type 0 where
   pub sorted : IsTrue (is_sorted id_cmp w.table.documents)
   pub unlisted : IsUnlisted (documents_in w.table.documents) p k

@@ -112,7 +112,7 @@ pub record AreReading (start : Start) (past : Past) (t : Table) (formers : Forme
   -- each reads the tree
   pub reads : (s : ℕ) (r : Reader) → reading s ≡ Some r
       → ReadsTree start (documents_in t.documents) past formers r
-  -- its pair is above the bounds so far
+  -- the pair of each is above the bounds so far
   pub above : (s : ℕ) (r : Reader) → reading s ≡ Some r → IsAboveBounds start past r.pin
   -- a reader reads at the base of its session, with a sweep vector that goes with it
   pub at_base : (s : ℕ) (r : Reader) → reading s ≡ Some r → live_base past s ≡ Some r.pin.base

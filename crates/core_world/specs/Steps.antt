@@ -28,6 +28,7 @@ use Rattle.oak_doc.specs.declared.update.Change.TheVariants as change
 use Rattle.jr_rev.specs.Vectors.{raised}
 use Rattle.oak_doc.specs.Updates.{updated}
 use Rattle.oak_machine.specs.declared.event.Draw.{Draw}
+use Rattle.oak_machine.specs.declared.event.Event.{Event}
 use Rattle.oak_machine.specs.declared.event.Event.TheVariants as event
 use Rattle.oak_machine.specs.declared.event.StepKind.{StepKind}
 use Rattle.oak_machine.specs.declared.event.StepKind.TheVariants as kind
@@ -108,6 +109,10 @@ after_observe w s pin = record w {
 -- session s says its reply of index i
 abbrev pub after_said : State → ℕ → ℕ → Text → State
 after_said w s i text = record w { past = event.Said s i text ∷ w.past }
+
+-- how a split or a collection ended is told, with the reply that follows
+abbrev pub after_task_end : State → Event → State
+after_task_end w e = record w { past = e ∷ w.past }
 
 -- session s makes a step of a kind that changes neither documents nor memories
 abbrev pub after_went : State → ℕ → StepKind → State

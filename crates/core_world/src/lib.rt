@@ -48,7 +48,7 @@ ghost use Rattle.oak_machine.specs.declared.event.Event.{Event};
 ghost use Rattle.oak_machine.specs.declared.event.StepKind.{StepKind};
 ghost use Rattle.oak_machine.specs.declared.event.StepKind.TheVariants as kind;
 ghost use Rattle.oak_machine.specs.Commits.{IsClosed, IsSettled, are_clashing, is_committed, is_drawn, is_ended, is_in_base, is_in_flight, is_refused, refusal_of, tree_at};
-ghost use Rattle.oak_machine.specs.Runs.{AreNodes, IsNode, IsRunOf};
+ghost use Rattle.oak_machine.specs.Runs.{AreNodes, IsNode, IsRunOf, MayFollow, is_task_end};
 ghost use Rattle.oak_machine.specs.Sessions.{base_of, cursor_at, session_base, has_left, has_login, has_reader, is_attached, is_recovered, is_stopped, is_stopped_under, kept_checkpoint, next_index};
 ghost use Rattle.oak_machine.specs.Steps.{is_kind};
 ghost use Rattle.oak_node.specs.Heads.{IsInFlight, known_time, learned};
@@ -93,13 +93,13 @@ ghost use Rattle.core_read.specs.Writes.{IsOrderedDocument};
 ghost use Rattle.core_keep.specs.Steps.{IsChangeAt, IsMainAt, IsPreviousAt, IsUnlisted};
 ghost use Rattle.core_nodes.specs.Nodes.{IsPair, base_of_pin, begin_time, cursor_owner};
 ghost use Rattle.core_watch.specs.Standing.{AreChildrenOf, IsNodeOf, path_read};
-ghost use Rattle.core_world.specs.Collecting.{MayPrune, MayRemove, MayRemovePrevious, MaySplit, after_copied, after_pruned, after_removed, after_split, without};
+ghost use Rattle.core_world.specs.Collecting.{MayPrune, MayRemove, MayRemovePrevious, MaySplit, after_copied, after_pruned, after_removed, after_split, after_taken_back, without};
 ghost use Rattle.core_world.specs.Freed.{HasNothing, brings_nothing};
 ghost use Rattle.core_world.specs.Held.{after_bound, holding_in, MayTakeBound};
 ghost use Rattle.core_world.specs.Kept.{IsClearedOf, IsFreeOf, IsKept, SeesStarts, WereOnRoot, has_written};
 ghost use Rattle.core_world.specs.Start.{start_state, start_table};
 ghost use Rattle.core_world.specs.States.{State, actor_pin, base_in, history_in, memory_at, memory_of, moved_in, node_of, nodes_in, origin};
-ghost use Rattle.core_world.specs.Steps.{IsThrough, LeavesOthers, after_attach, after_back, after_checkpoint, after_clear, after_detach, after_drop_readers, after_publish, after_recover, after_stop, after_release, after_learn, after_learn_swept, after_out, after_pending, after_sweep, after_draw, after_finish, after_unfound, after_last, after_leave, after_login, after_mark, after_observe, after_refresh, after_said, after_undoing, after_update, after_want, after_went, after_write, after_write_in_want, with_observer, with_reader};
+ghost use Rattle.core_world.specs.Steps.{IsThrough, LeavesOthers, after_attach, after_back, after_checkpoint, after_clear, after_detach, after_drop_readers, after_publish, after_recover, after_stop, after_release, after_learn, after_learn_swept, after_out, after_pending, after_sweep, after_draw, after_finish, after_unfound, after_last, after_leave, after_login, after_mark, after_observe, after_refresh, after_said, after_task_end, after_undoing, after_update, after_want, after_went, after_write, after_write_in_want, with_observer, with_reader};
 ghost use Rattle.core_world.specs.Sweeping.{swept_target};
 ghost use Rattle.core_begun.specs.Told.{IsToldSince};
 ghost use Rattle.core_begun.specs.Kept.{IsHeldSince, IsKeptSince};
@@ -108,9 +108,9 @@ ghost use Rattle.core_keep.specs.From.{course_from};
 use oak_machine::Law;
 
 /// The world before any step is kept, and so it is after each step of a session that is no
-/// commit's: a login, a refresh, its leaving, a pin of its cursor at its own pin, a reply, a step
-/// that changes neither documents nor memories; a reader that is made at the session's pin, that is
-/// fed what the documents answer, or that is taken away.
+/// commit's: a login, a refresh, its leaving, a pin of its cursor at its own pin, a reply, how a
+/// split or a collection ended, a step that changes neither documents nor memories; a reader that
+/// is made at the session's pin, that is fed what the documents answer, or that is taken away.
 pub fn sessions_keep_the_world<L: Law>(law: &L)
     ensures start { let kept = IsKept (L.may_start law.now) (L.may_say law.now) in
         (clusters : ℕ) (sessions : List ℕ) → AreNodes clusters sessions
@@ -136,6 +136,10 @@ pub fn sessions_keep_the_world<L: Law>(law: &L)
     ensures said { let kept = IsKept (L.may_start law.now) (L.may_say law.now) in
         (w : State) (s i : ℕ) (text : Text) → kept w → i ≡ next_index w.past s
         → L.may_say law.now (history_in w) s i text → kept (after_said w s i text) }
+    ensures task_end { let kept = IsKept (L.may_start law.now) (L.may_say law.now) in
+        (w : State) (s : ℕ) (e : Event) → kept w → IsTrue (is_task_end s e)
+        → MayFollow (L.may_start law.now) (L.may_say law.now) (history_in w) e
+        → kept (after_task_end w e) }
     ensures went { let kept = IsKept (L.may_start law.now) (L.may_say law.now) in
         (w : State) (s : ℕ) (k : StepKind) → kept w → IsFalse (is_kind k kind.End)
         → IsFalse (is_kind k kind.Pin) → IsTrue (has_login w.past s) → IsFalse (has_left w.past s)
@@ -408,6 +412,10 @@ pub fn what_is_held_rises<L: Law>(law: &L)
         (w : State) (s i : ℕ) (text : Text) → kept w → i ≡ next_index w.past s
         → L.may_say law.now (history_in w) s i text
         → IsHoldingStep (holding_in w) (holding_in (after_said w s i text)) }
+    ensures task_end { let kept = IsKept (L.may_start law.now) (L.may_say law.now) in
+        (w : State) (s : ℕ) (e : Event) → kept w → IsTrue (is_task_end s e)
+        → MayFollow (L.may_start law.now) (L.may_say law.now) (history_in w) e
+        → IsHoldingStep (holding_in w) (holding_in (after_task_end w e)) }
     ensures went { let kept = IsKept (L.may_start law.now) (L.may_say law.now) in
         (w : State) (s : ℕ) (k : StepKind) → kept w → IsFalse (is_kind k kind.End)
         → IsFalse (is_kind k kind.Pin) → IsTrue (has_login w.past s) → IsFalse (has_left w.past s)
@@ -673,7 +681,8 @@ pub fn no_step_brings_back_what_is_dead<L: Law>(law: &L)
 /// Splits keep the world: the write of a previous document, which is a copy of what the former
 /// document of its number had, where one of that number was listed; and then the update of the
 /// document with the number that was read, by which what moved goes and the previous document is
-/// listed, the first of its number. What is held stays.
+/// listed, the first of its number; or the removal of the previous document, which no node lists,
+/// where another number is found. What is held stays.
 pub fn splits_keep_the_world<L: Law>(law: &L)
     ensures copied { let kept = IsKept (L.may_start law.now) (L.may_say law.now) in
         (w : State) (s : ℕ) (p : Path) (k : ℕ) (x : Document) → kept w → IsTrue (has_login w.past s)
@@ -685,6 +694,10 @@ pub fn splits_keep_the_world<L: Law>(law: &L)
         (e : PrevEntry) → kept w → IsTrue (has_login w.past s) → IsFalse (has_left w.past s)
         → MaySplit w read pin p old e → w.formers p e.number ≡ None
         → kept (after_split w s read pin p old e) }
+    ensures undone { let kept = IsKept (L.may_start law.now) (L.may_say law.now) in
+        (w : State) (s : ℕ) (p : Path) (k : ℕ) → kept w → IsTrue (has_login w.past s)
+        → IsFalse (has_left w.past s) → MayRemovePrevious w p k
+        → kept (after_taken_back w s (id.Prev k p)) }
     ensures copied_holds { let kept = IsKept (L.may_start law.now) (L.may_say law.now) in
         (w : State) (s : ℕ) (p : Path) (k : ℕ) (x : Document) → kept w → IsTrue (has_login w.past s)
         → IsFalse (has_left w.past s) → documents_in w.table.documents (id.Prev k p) ≡ None
@@ -695,6 +708,10 @@ pub fn splits_keep_the_world<L: Law>(law: &L)
         (e : PrevEntry) → kept w → IsTrue (has_login w.past s) → IsFalse (has_left w.past s)
         → MaySplit w read pin p old e → w.formers p e.number ≡ None
         → IsHoldingStep (holding_in w) (holding_in (after_split w s read pin p old e)) }
+    ensures undone_holds { let kept = IsKept (L.may_start law.now) (L.may_say law.now) in
+        (w : State) (s : ℕ) (p : Path) (k : ℕ) → kept w → IsTrue (has_login w.past s)
+        → IsFalse (has_left w.past s) → MayRemovePrevious w p k
+        → IsHoldingStep (holding_in w) (holding_in (after_taken_back w s (id.Prev k p))) }
 {}
 
 /// Collections keep the world: an update that drops any garbage of a bound so far and unlists
@@ -784,6 +801,7 @@ pub fn sessions_leave_others()
     ensures leave { (w : State) (s : ℕ) → LeavesOthers s w (after_leave w s) }
     ensures observe { (w : State) (s : ℕ) (pin : Pin) → LeavesOthers s w (after_observe w s pin) }
     ensures said { (w : State) (s i : ℕ) (text : Text) → LeavesOthers s w (after_said w s i text) }
+    ensures task_end { (w : State) (s : ℕ) (e : Event) → LeavesOthers s w (after_task_end w e) }
     ensures went { (w : State) (s : ℕ) (k : StepKind) → LeavesOthers s w (after_went w s k) }
     ensures reader { (w : State) (s : ℕ) (r : Option Reader)
         → LeavesOthers s w (with_reader w s r) }

@@ -6,3 +6,4 @@ mod Replying
 mod Standing
 mod Written
 pub mod QueryRead
+pub mod NoFloat

@@ -11,6 +11,7 @@ mod proper;
 mod queries;
 mod replies;
 mod rooted;
+mod tidied;
 mod tokens;
 mod versions;
 
@@ -22,4 +23,5 @@ pub use ids::next_id;
 pub use proper::is_proper;
 pub use queries::{pairs_of, query_reply, sets_of, unknown_selector};
 pub use replies::{cause_text, events_reply, version_reply};
+pub use tidied::{collected_reply, split_reply};
 pub use tokens::{with_token, without_token};

@@ -50,18 +50,18 @@ is_type_property n = same_name primary_type n || same_name mixin_types n
 abbrev pub is_unkept : List TypeDef → Node → Name → Property → Bool
 is_unkept types node n x = not (is_type_property n) && not (property_has asked.Kept types node n x)
 
--- the property is in this share of the node's properties
+-- the property is in the share of the node's properties
 abbrev pub is_in_share : Share → List TypeDef → Node → Name → Property → Bool
 is_in_share share.Copied types node n x = is_copied types node n x
 is_in_share share.Left types node n x = is_unkept types node n x
 
--- one property more, if it is in this share
+-- one property more, if it is in the share
 abbrev pub with_in_share : Share → List TypeDef → Node → List (Name × Property) → Name × Property
     → List (Name × Property)
 with_in_share s types node props x =
     cond (is_in_share s types node x.0 x.1) (insert_entry name_cmp props x.0 x.1) props
 
--- this share of a node's properties
+-- the share of a node's properties
 abbrev pub share_of : Share → List TypeDef → Node → List (Name × Property)
 share_of s types node = fold (with_in_share s types node) [] node.props
 

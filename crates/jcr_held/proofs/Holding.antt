@@ -174,6 +174,7 @@ asks_of_view x (command.Attach id) h = absurd (false≢true h)
 asks_of_view x command.Detach h = absurd (false≢true h)
 asks_of_view x (command.Observe p deep mask) h = absurd (false≢true h)
 asks_of_view x command.Events h = absurd (false≢true h)
+asks_of_view x (command.Split p) h = absurd (false≢true h)
 asks_of_view x m h = ap (λ b. cond b (needs_of x.who x.part x.pending m) (need.All ∷ [])) h
 
 pub view_known_of : (x : Held) (m : Command) → is_viewed m ≡ true → All (LacksNothing x.part) (asks_for x m)
@@ -199,6 +200,7 @@ asks_alike x y (command.Attach id) a = refl
 asks_alike x y command.Detach a = refl
 asks_alike x y (command.Observe p deep mask) a = refl
 asks_alike x y command.Events a = refl
+asks_alike x y (command.Split p) a = refl
 asks_alike x y m a =
     ap (λ (w : Who). cond (is_viewed m) (needs_of w y.part y.pending m) (need.All ∷ [])) a.who
     ∙ ap (λ (k : Knowledge). cond (is_viewed m) (needs_of x.who k y.pending m) (need.All ∷ [])) a.part
@@ -252,6 +254,7 @@ asks_apart x r (command.Attach id) = refl
 asks_apart x r command.Detach = refl
 asks_apart x r (command.Observe p deep mask) = refl
 asks_apart x r command.Events = refl
+asks_apart x r (command.Split p) = refl
 asks_apart x r m = refl
 
 -- a command is ready still, whatever is known of the references

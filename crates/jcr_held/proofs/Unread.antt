@@ -9,7 +9,7 @@ use Rattle.jr_tree.specs.declared.shared.Who.{Who}
 use Rattle.jr_tree.specs.declared.tree.Node.{Node}
 use Rattle.jr_tree.specs.Trees.{node_at}
 use Rattle.jr_tree.proofs.Pointwise.{same_path}
-use Rattle.jr_part.specs.Parts.{AgreesWith, ChildNames, IsFirstLacking, Knowledge, knows, need_path, with_children, with_node}
+use Rattle.jr_part.specs.Parts.{AgreesWith, AsksOf, ChildNames, IsFirstLacking, Knowledge, knows, need_path, with_children, with_node}
 use Rattle.jr_part.specs.declared.need.Need.{Need}
 use Rattle.jr_part.specs.declared.need.Need.TheVariants as need
 use Rattle.jr_overlay.specs.Overlays.{Changed, change_at, edit_of}
@@ -104,27 +104,40 @@ in_one x y h = by (is_in (x ∷ []) y h)
     by (inr h) = absurd h
 
 module _ (c : Call) (x : Held) (h : Holds c x) (n wanted : Need) (lacks : IsFirstLacking x.part wanted n) where
+  -- what may be loaded before a command that isn't a split
+  abbrev plain_load : Command → List Need
+  plain_load m = loadable (kept_paths x ++ cond (is_viewed m) (paths_named c.who (node_at c.state.view) m) ([] ∷ [])) c.base
+
   viewed_may : (m : Command) → x.is_kept ≡ false → is_viewed m ≡ true → Contains (needs_of x.who x.part x.pending m) wanted
-      → Contains (may_load c x m) n
+      → Contains (plain_load m) n
   viewed_may m settled viewed asked =
       let v = view_of_held c x settled h in
       subst (λ b. Contains (loadable (kept_paths x ++ cond b (paths_named c.who (node_at c.state.view) m) ([] ∷ [])) c.base) n) (sym viewed)
       (subst (λ (w : Who). Contains (loadable (kept_paths x ++ paths_named w (node_at c.state.view) m) c.base) n) h.who
       (asked_loadable x.who c.base c.state.view x.part x.pending (kept_paths x) m v.0 v.1 wanted n asked lacks))
 
-  whole_may : (m : Command) → is_viewed m ≡ false → Contains (need.All ∷ []) wanted → Contains (may_load c x m) n
+  whole_may : (m : Command) → is_viewed m ≡ false → Contains (need.All ∷ []) wanted → Contains (plain_load m) n
   whole_may m viewed asked =
       subst (λ b. Contains (loadable (kept_paths x ++ cond b (paths_named c.who (node_at c.state.view) m) ([] ∷ [])) c.base) n) (sym viewed)
       (whole_loadable c.base x.part (part_agrees c x h) (kept_paths x) n
       (subst (λ (w : Need). IsFirstLacking x.part w n) (in_one need.All wanted asked) lacks))
 
   either_may : (m : Command) → x.is_kept ≡ false
-      → Contains (cond (is_viewed m) (needs_of x.who x.part x.pending m) (need.All ∷ [])) wanted → Contains (may_load c x m) n
+      → Contains (cond (is_viewed m) (needs_of x.who x.part x.pending m) (need.All ∷ [])) wanted → Contains (plain_load m) n
   either_may m settled asked = by (is_viewed m) refl asked
     where
-      by : (b : Bool) → is_viewed m ≡ b → Contains (cond b (needs_of x.who x.part x.pending m) (need.All ∷ [])) wanted → Contains (may_load c x m) n
+      by : (b : Bool) → is_viewed m ≡ b → Contains (cond b (needs_of x.who x.part x.pending m) (need.All ∷ [])) wanted → Contains (plain_load m) n
       by true viewed asked = viewed_may m settled viewed asked
       by false viewed asked = whole_may m viewed asked
+
+  -- before a split its node
+  split_may : (p : Path) → Contains (need.Node p ∷ []) wanted → Contains (may_load c x (command.Split p)) n
+  split_may p asked =
+      let paths : List Path = kept_paths x ++ p ∷ [] in
+      let named : Contains paths p = Contains-append_right (kept_paths x) (p ∷ []) p (0, omega arith, refl) in
+      contains (loadable paths c.base) n
+      (asked_in c.base x.part (part_agrees c x h) paths (need.Node p) n (is_in paths p named)
+      (subst (λ (w : Need). AsksOf x.part w n) (in_one (need.Node p) wanted asked) lacks.asked))
 
   asked_may : (m : Command) → x.is_kept ≡ false → Contains (asks_for x m) wanted → Contains (may_load c x m) n
   asked_may command.Head settled asked = absurd (is_in [] wanted asked)
@@ -133,6 +146,7 @@ module _ (c : Call) (x : Held) (h : Holds c x) (n wanted : Need) (lacks : IsFirs
   asked_may command.Detach settled asked = absurd (is_in [] wanted asked)
   asked_may (command.Observe p deep mask) settled asked = absurd (is_in [] wanted asked)
   asked_may command.Events settled asked = absurd (is_in [] wanted asked)
+  asked_may (command.Split p) settled asked = split_may p asked
   asked_may m settled asked = either_may m settled asked
 
   kept_may : (m : Command) → x.is_kept ≡ true → Contains (needs_to_rebase (edit_of x.pending)) wanted → Contains (may_load c x m) n

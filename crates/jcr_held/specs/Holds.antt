@@ -34,8 +34,8 @@ pub record Holds (c : Call) (x : Held) : Type 0 where
   pub view : HoldsView c x.part x.pending x.is_kept
   pub references : HoldsReferences c.base x.references
 
--- the command reads the view, or the tree at the base, or commits; others need nothing of these,
--- but that what is pending is made again
+-- the command reads the view, or the tree at the base, or commits; a split reads its node there;
+-- others need nothing of these, but that what is pending is made again
 abbrev pub asks_for : Held → Command → List Need
 asks_for x command.Head = []
 asks_for x (command.Refresh keep) = []
@@ -43,6 +43,7 @@ asks_for x (command.Attach id) = []
 asks_for x command.Detach = []
 asks_for x (command.Observe p deep mask) = []
 asks_for x command.Events = []
+asks_for x (command.Split p) = need.Node p ∷ []
 asks_for x m = cond (is_viewed m) (needs_of x.who x.part x.pending m) (need.All ∷ [])
 
 -- what is kept is made again, and nothing lacks of what the command asks for

@@ -8,5 +8,6 @@ pub mod Holds
 pub mod Looking
 pub mod References
 pub mod Sees
+pub mod Splits
 pub mod Unread
 pub mod Whole

@@ -6,6 +6,7 @@ use Rattle.jr_part.specs.Parts.{knows, need_path}
 use Rattle.jr_part.specs.declared.need.Need.{Need}
 use Rattle.jr_overlay.specs.Overlays.{edit_of}
 use Rattle.jcr_trans.specs.declared.command.Command.{Command}
+use Rattle.jcr_trans.specs.declared.command.Command.TheVariants as command
 use Rattle.jcr_view.specs.Needs.{needs_to_rebase}
 use Rattle.jcr_view.specs.Outcomes.{is_viewed}
 use Rattle.jcr_view.specs.Rounds.{loadable, paths_named, unknown_of}
@@ -21,6 +22,7 @@ kept_paths x = cond x.is_kept
 
 -- the paths that a command names, run with c; the root, where it asks for the whole tree
 abbrev pub asked_paths : Call → Command → List Path
+asked_paths c (command.Split p) = p ∷ []
 asked_paths c m = cond (is_viewed m) (paths_named c.who (node_at c.state.view) m) ([] ∷ [])
 
 -- all that may be loaded before the command: each node of the tree and its children, and the nodes

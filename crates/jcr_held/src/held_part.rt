@@ -107,7 +107,7 @@ impl HeldPart {
     }
 
     // Whether a node is known to be at a path.
-    fn has(&self, path: &Path) -> bool
+    pub(crate) fn has(&self, path: &Path) -> bool
         ensures { result ≡ is_some (node_at self.now.nodes path.now) }
     {
         match self.part.node(path) {

@@ -13,8 +13,10 @@ mod looking;
 mod observing;
 mod references;
 mod seeing;
+mod splits;
 
 pub use checkpoints::NextCheckpoint;
 pub use committing::commits;
 pub use held::Held;
 pub use laws::replies_without_commit_keep_tokens;
+pub use splits::NextSplit;

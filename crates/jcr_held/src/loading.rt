@@ -23,13 +23,15 @@ use crate::references::{References, ask};
 use jcr_trans::Command;
 use jcr_view::{each_round_learns, is_viewed, rebases_count};
 use jr_part::Need;
+use jr_path::{DeepCopy, Path};
 use std::alloc::{AllocError, Global};
 
 impl Held {
     /// What to read next of the tree at the base, a node or the children of one, before a command
     /// is run; None where all is known that it asks for, and nothing is kept from an earlier base.
     /// Commands that commit, and queries, ask for the whole tree (JSR 283, 6 Query; 10.11 Saving);
-    /// `head`, `refresh`, `attach`, `detach`, `observe` and `events` for nothing. Before one that
+    /// `split` for its node; `head`, `refresh`, `attach`, `detach`, `observe` and `events` for
+    /// nothing. Before one that
     /// commits, it is asked once at each base whether a REFERENCE dangles there, where that isn't
     /// known (3.8.2 Referential Integrity).
     pub fn next_load(&mut self, command: &Command) -> Result<Option<Need>, AllocError>
@@ -191,6 +193,7 @@ impl Held {
             Command::Head | Command::Refresh(_) => Ok(Vec::new(self.alloc)),
             Command::Attach(_) | Command::Detach => Ok(Vec::new(self.alloc)),
             Command::Observe(_, _, _) | Command::Events => Ok(Vec::new(self.alloc)),
+            Command::Split(path) => node_at(self.alloc, path),
             _ => self.asked_of_tree(command),
         }
     }
@@ -258,6 +261,15 @@ fn note(part: &mut HeldPart, need: &Need)
         Need::All => part.note_whole(),
         Need::Node(_) | Need::Children(_) | Need::Subtree(_) => {}
     }
+}
+
+// The need of the node at a path.
+fn node_at(alloc: Global, path: &Path) -> Result<Vec<Need>, AllocError>
+    ensures { IfOk result (λ needs. needs.items ≡ need.Node path.now ∷ []) }
+{
+    let mut needs = Vec::new(alloc);
+    needs.push(Need::Node(path.copy()?))?;
+    Ok(needs)
 }
 
 // The need of the whole tree.

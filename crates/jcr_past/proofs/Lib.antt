@@ -1,4 +1,3 @@
 pub mod Coming
 mod States
 pub mod Known
-pub mod NoFloat

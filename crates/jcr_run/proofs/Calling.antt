@@ -1,5 +1,5 @@
 -- A session's calls of its port: the law stays, and what a call answers is of the same law.
-use Rattle.std.proofs.Common.{◌≡◌, ℕ, false, Bool, Some, Option, List, Result, Ok, Err, IfOk, OnErr, sym, ap, ◌∙◌, subst}
+use Rattle.std.proofs.Common.{◌≡◌, ℕ, false, Bool, Some, Option, List, Result, Ok, Err, IfOk, OnErr, sym, ap, ◌∙◌, subst, refl}
 use Rattle.std.specs.Prelude.{slice_get, string_bytes}
 use Rattle.std.specs.declared.alloc.AllocError.{AllocError}
 use Rattle.std.specs.declared.alloc.Global.{Global}
@@ -8,7 +8,7 @@ use mathlib.Core.Bool.{false≢true}
 use Rattle.jr_path.specs.declared.name.Name.{Name}
 use Rattle.jr_path.specs.Lists.{Text}
 use Rattle.jr_value.specs.declared.value.Value.{Value}
-use Rattle.oak_port.specs.Ports.{Idle, OthersAlone, Shown, Starting, Steps, Work}
+use Rattle.oak_port.specs.Ports.{Idle, IsAtRest, OthersAlone, Shown, Starting, Steps, Work}
 use Rattle.oak_port.specs.declared.task.StepOut.{StepOut}
 use Rattle.oak_port.specs.declared.task.Task.{Task}
 use Rattle.jcr_trans.specs.declared.command.Command.{Command}
@@ -24,18 +24,21 @@ use Rattle.jcr_held.specs.Holds.{Holds}
 use Rattle.jcr_held.specs.declared.held.Held.{Held}
 use Rattle.jcr_run.specs.declared.run.SessionRun.{SessionRun}
 use Rattle.jcr_run.specs.declared.turn.Turn.{Turn}
-use Rattle.jcr_run.specs.Asked.{ComesNext, IsQueriedAs, MayAnswer, MayForgo}
+use Rattle.jcr_run.specs.Asked.{ComesNext, IsQueriedAs, MayAnswer, MayForgo, MaySettle}
 use Rattle.jcr_run.specs.Standing.{HasCounted, IsBeside, Stands}
 use Rattle.jcr_run.proofs.Nexts.{same_next}
-use Rattle.jcr_run.proofs.Saying.{answer_later, forgo_waits, idle_later, said_later}
+use Rattle.jcr_run.proofs.Saying.{answer_later, forgo_waits, idle_later, rests_waits, said_later, settle_waits}
+use Rattle.jcr_run.proofs.Telling.{rest_idle}
+use Rattle.jcr_run.proofs.Turning.{has_turned_later, kept, never_ends}
+use Rattle.jcr_run.proofs.Waiting.{by_waits, in_beside}
 
 abbrev pub is_idle : Work → Bool
 is_idle Idle = Rattle.std.proofs.Common.true
 is_idle _ = false
 
 -- a task that was begun is being done
-pub busy_by : {A : Type 0} (w : Work) (t : Task) → w ≡ Starting t → w ≡ Idle → A
-busy_by w t is idle = absurd (false≢true (sym (ap is_idle is) ∙ ap is_idle idle))
+pub busy_by : {A : Type 0} (w : Work) (t : Task) → w ≡ Starting t → IsAtRest w → A
+busy_by w t is rests = absurd (subst (λ (x : Work). IsAtRest x) is rests)
 
 module _ (law later : JcrLaw) (laws : later ≡ law) where
   pub steps_law : (mid new : Shown) (answer : StepOut) → Steps (starts_of later) (says_of later) mid new answer → Steps (starts_of law) (says_of law) mid new answer
@@ -59,10 +62,26 @@ module _ (law later : JcrLaw) (laws : later ≡ law) where
   -- behind a call by which nothing is being done
   module _ (old mid : Shown) (beside : IsBeside law old mid) (idle : mid.work ≡ Idle) (run : SessionRun) (drew : Bool) (may : MayForgo law old run drew) where
     pub forgo_behind : MayForgo later mid run drew
-    forgo_behind = forgo_law mid run drew (forgo_waits law old mid run drew beside idle may)
+    forgo_behind = forgo_law mid run drew (forgo_waits law old mid run drew beside (rest_idle mid.session mid.work idle) may)
 
     pub turned_idle : (new : Shown) (now : SessionRun) (t : Turn) → HasCounted later mid new run now t → HasCounted law old new run now t
-    turned_idle new now t turned = idle_later law old mid new run now t may.asked.inside may.asked.idle idle beside (turned_law mid new run now t turned)
+    turned_idle new now t turned = idle_later law old mid new run now t may.asked.inside may.asked.rests idle beside (turned_law mid new run now t turned)
+
+  -- behind a place that was kept, or wasn't, where want of memory may be answered
+  module _ (old mid : Shown) (run : SessionRun) (drew : Bool) (may : MayForgo law old run drew) (room : Option ℕ) (waits : OthersAlone (starts_of law) (says_of law) old mid old.work room) where
+    beside_place : IsBeside law old mid
+    beside_place = by_waits law old mid old.work room waits
+
+    pub forgo_behind_place : MayForgo later mid run drew
+    forgo_behind_place = forgo_law mid run drew (forgo_waits law old mid run drew beside_place (rests_waits law may.command may.call old mid run may.asked beside_place waits.work_is) may)
+
+    pub forgone_behind_place : (new : Shown) (now : SessionRun) (t : Turn) → HasCounted later mid new run now t → HasCounted law old new run now t
+    forgone_behind_place new now t turned =
+        has_turned_later law old mid new run now t may.asked.inside.nodes (kept waits.work_is (waits.same_due refl)) beside_place
+        (never_ends law mid new run now (in_beside law old mid beside_place may.asked.inside.nodes may.asked.inside)) (turned_law mid new run now t turned)
+
+    pub settle_behind_place : (text : Text) → MaySettle law old run text → MaySettle later mid run text
+    settle_behind_place text settles = subst (λ (l : JcrLaw). MaySettle l mid run text) (sym laws) (settle_waits law old mid run text beside_place waits.work_is settles)
 
   -- behind a place that was kept, or wasn't
   module _ (old mid : Shown) (run : SessionRun) (text : Text) (may : MayAnswer law old run text) (room : Option ℕ) (waits : OthersAlone (starts_of law) (says_of law) old mid old.work room) where

@@ -1,5 +1,5 @@
 -- Which replies the law lets a session say between its commands.
-use Rattle.std.proofs.Common.{◌≡◌, ℕ, ◌≤◌, length, Bool, true, false, cond, Some, None, Option, List, [], ◌∷◌, is_some, nat_eq, nat_lt, Result, Ok, Err, refl, sym, ap, ◌∙◌, subst}
+use Rattle.std.proofs.Common.{◌≡◌, ℕ, ◌≤◌, length, Bool, true, false, cond, Some, None, Option, List, [], ◌∷◌, ◌++◌, is_some, nat_eq, nat_lt, Result, Ok, Err, refl, sym, ap, ◌∙◌, subst}
 use Rattle.std.specs.Prelude.{option_map, slice_get, string_bytes}
 use Rattle.std.specs.Option.{option_map_or}
 use Rattle.std.specs.declared.alloc.Global.{Global}
@@ -13,11 +13,11 @@ use Rattle.jr_tree.specs.declared.shared.Refusal.{Refusal}
 use Rattle.jr_tree.specs.declared.shared.Who.{Who}
 use Rattle.jr_items.specs.Refusals.{unsupported}
 use Rattle.jcr_trans.specs.Commands.{word_of}
-use Rattle.oak_machine.specs.History.{History}
-use Rattle.oak_machine.specs.Laws.{Asks}
+use Rattle.oak_machine.specs.History.{History, Past}
+use Rattle.oak_machine.specs.Laws.{Asks, after}
 use Rattle.oak_machine.specs.Commits.{is_committed}
-use Rattle.oak_machine.specs.Sessions.{base_of, is_attached}
-use Rattle.oak_port.specs.Ports.{HasRoom, Idle, Shown}
+use Rattle.oak_machine.specs.Sessions.{base_of, drawn_since, is_attached}
+use Rattle.oak_port.specs.Ports.{HasRoom, Idle, Shown, Work, end_told}
 use Rattle.jcr_trans.specs.Answers.{Refused, ShowsVector}
 use Rattle.jcr_trans.specs.Texts.{answer_text, memory_text}
 use Rattle.jcr_trans.specs.declared.command.Command.{Command}
@@ -50,12 +50,13 @@ use Rattle.jcr_run.specs.declared.run.Fetch.{Fetch}
 use Rattle.jcr_run.specs.declared.run.Phase.{Phase}
 use Rattle.jcr_run.specs.declared.run.Phase.TheVariants as phase
 use Rattle.jcr_run.specs.declared.run.SessionRun.{SessionRun}
-use Rattle.jcr_run.specs.Asked.{ComesNext, HasSeen, IsAsked, IsQueried, IsUnviewedNext, MayAnswer, MayForgo, MaySettle, Settles, has_drawn}
+use Rattle.jcr_run.specs.Asked.{ComesNext, HasSeen, IsAsked, IsQueried, IsUnviewedNext, MayAnswer, MayForgo, MaySettle, Settles, has_drawn, history_told}
 use Rattle.jcr_run.specs.Standing.{HasCursor, IsBetweenCommands, IsCalled, IsIn, IsBaseMoved, IsReading, Stands, StandsAt, due_by, due_for, due_to, is_allowed}
 use Rattle.jcr_run.specs.Standing.{is_attaching, is_moving, reads_for}
 use Rattle.jcr_run.proofs.Cursors.{accepts_by, cursor_refused, cursor_settled}
 use Rattle.jcr_run.proofs.Nexts.{allowed_due, barred_due, due_at, due_number, only_head, only_query, seen_viewed, sets_cursor, sets_none, unviewed_due}
 use Rattle.jcr_run.proofs.Saying.{asked_like, room_less}
+use Rattle.jcr_run.proofs.Telling.{IsToldOver, rest_idle, told_over}
 
 -- ---- how a command is asked for
 
@@ -91,9 +92,36 @@ module _ (law : JcrLaw) (p : Shown) (run : SessionRun) (m : Command) (c : Call) 
   pub attached_still : IsUnmoved p.history p.session → is_attached p.history.past p.session ≡ run.attached
   attached_still unmoved = attached_stands p.history.past p.session unmoved ∙ is.inside.began
 
-  says_memory : option_map_or (is_committed p.history.past) (Rattle.oak_machine.specs.Sessions.drawn_since p.history.past p.session) false
-      ≡ false → IsUnmoved p.history p.session → IsUnpinned p.history p.session → SaysBy law p.history p.session run.index memory_text
-  says_memory none unmoved unpinned = (m, command_is, memory (asked_by p.history p.session m) is.still none unmoved unpinned)
+  -- where nothing is to be told with the reply
+  pub says_idle : p.work ≡ Idle → (text : Text) → SaysBy law p.history p.session run.index text → SaysBy law (history_told p) p.session run.index text
+  says_idle idle text says = subst (λ (w : Work). SaysBy law (after (end_told w) p.history) p.session run.index text) (sym idle) says
+
+  over : IsToldOver p.session (end_told p.work) p.history.past
+  over = told_over p.session p.work is.rests p.history.past
+
+  -- behind what is told with the reply
+  pub says_behind_told : (text : Text) → is_allowed run.attached m ≡ true → MaySay law (history_told p) p.session (Allowed m) text → SaysBy law (history_told p) p.session run.index text
+  says_behind_told text allowed may = (
+    m,
+    command_is,
+    subst (λ (a : Asked). MaySay law (history_told p) p.session a text)
+        (sym (asked_allowed (history_told p) p.session run.attached m (ap (λ (q : Past). is_attached q p.session) over.before ∙ is.inside.began) allowed)) may,
+  )
+
+  uncommitted_told : (o : Option Revision) → option_map_or (is_committed (end_told p.work ++ p.history.past)) o false ≡ option_map_or (is_committed p.history.past) o false
+  uncommitted_told None = refl
+  uncommitted_told (Some r) = over.committed r
+
+  says_memory : option_map_or (is_committed p.history.past) (drawn_since p.history.past p.session) false
+      ≡ false → IsUnmoved p.history p.session → IsUnpinned p.history p.session → SaysBy law (history_told p) p.session run.index memory_text
+  says_memory none unmoved unpinned = (
+    m,
+    command_is,
+    memory (asked_by (history_told p) p.session m) (over.idle is.still)
+        (ap (λ (o : Option Revision). option_map_or (is_committed (end_told p.work ++ p.history.past)) o false) over.drawn
+        ∙ (uncommitted_told (drawn_since p.history.past p.session) ∙ none))
+        (over.unmoved ∙ unmoved) (over.unpinned ∙ unpinned),
+  )
 
 -- ---- once what is held is brought up to the reply
 
@@ -107,8 +135,8 @@ module _ (law : JcrLaw) (p : Shown) (run now : SessionRun) where
     pub settled_attached : now.attached ≡ run.attached
     settled_attached = ap (λ (r : SessionRun). r.attached) settles.same
 
-    pub settled_says : (text : Text) → SaysBy law p.history p.session run.index text → SaysBy law p.history p.session now.index text
-    settled_says text says = subst (λ (i : ℕ). SaysBy law p.history p.session i text) (sym (ap (λ (r : SessionRun). r.index) settles.same)) says
+    pub settled_says : (text : Text) → SaysBy law (history_told p) p.session run.index text → SaysBy law (history_told p) p.session now.index text
+    settled_says text says = subst (λ (i : ℕ). SaysBy law (history_told p) p.session i text) (sym (ap (λ (r : SessionRun). r.index) settles.same)) says
 
     pub settled_leaves : (m : Command) (c : Call) (text : Text) → slice_get run.commands run.index ≡ Some m → Holds c run.held → (ok ≡ true → AcceptsAs run.held tokens c m)
         → is_ok_text text ≡ ok → has_drawn p ≡ drew → Holds (call_after (is_ok_text text) (has_drawn p) c m) now.held
@@ -173,7 +201,7 @@ module _ (law : JcrLaw) (p : Shown) (run : SessionRun) (stands : Stands law p ru
       few = stands.few;
       commands = stands.commands;
       index = stands.index;
-      idle = idle_by unread;
+      rests = rest_idle p.session p.work (idle_by unread);
       unread = unread;
       still = at_between.1.fresh.idle;
       next = next;
@@ -198,7 +226,7 @@ module _ (law : JcrLaw) (p : Shown) (run : SessionRun) (stands : Stands law p ru
       command = m;
       call = at_between.1.call;
       asked = between_asked;
-      says = says;
+      says = says_idle law p run m at_between.1.call between_asked (idle_by unread) text says;
       first = ap is_some at_between.1.fresh.first;
       unmoved = at_between.1.unmoved;
       cursor = cursor;
@@ -295,7 +323,7 @@ module _ (law : JcrLaw) (p : Shown) (run : SessionRun) (stands : Stands law p ru
         command = m;
         call = c;
         asked = between_asked;
-        says = says_due x.due (string_bytes text) x.is_due x.comes;
+        says = says_idle law p run m c between_asked (idle_by unread) (string_bytes text) (says_due x.due (string_bytes text) x.is_due x.comes);
         first = ap is_some at_between.1.fresh.first;
         unmoved = at_between.1.unmoved;
         cursor = cursor_settled p.history.past p.session (is_ok_text (string_bytes text)) false c m none_set cursor_between;
@@ -314,9 +342,10 @@ module _ (law : JcrLaw) (p : Shown) (run : SessionRun) (stands : Stands law p ru
           command = m;
           call = c;
           asked = asked_like law m c p run (record now { attached = run.attached }) (ap (λ (r : SessionRun). r.session) same) (ap (λ (r : SessionRun). r.commands) same) (ap (λ (r : SessionRun). r.index) same) (ap (λ (r : SessionRun). r.fetch) same) refl between_asked;
-          says = subst (λ (i : ℕ). SaysBy law p.history p.session i (string_bytes text)) (sym (ap (λ (r : SessionRun). r.index) same))
+          says = subst (λ (i : ℕ). SaysBy law (history_told p) p.session i (string_bytes text)) (sym (ap (λ (r : SessionRun). r.index) same))
+              (says_idle law p run m c between_asked (idle_by unread) (string_bytes text)
               (says_allowed law p run m c between_asked (string_bytes text) a.0
-              (subst (λ (t : Text). MaySay law p.history p.session (Allowed m) t) (sym x.text) (viewed m c (seen_viewed run.attached m a.0 a.1) at_between.1.is at_between.1.unmoved)));
+              (subst (λ (t : Text). MaySay law p.history p.session (Allowed m) t) (sym x.text) (viewed m c (seen_viewed run.attached m a.0 a.1) at_between.1.is at_between.1.unmoved))));
           leaves = subst (λ (b : Bool). Holds (call_after (is_ok_text (string_bytes text)) b c m) now.held) (sym (ap is_some at_between.1.fresh.first)) x.holds;
           stands = attached_still law p run m c between_asked at_between.1.unmoved ∙ sym (ap (λ (r : SessionRun). r.attached) same);
           cursor = cursor_settled p.history.past p.session (is_ok_text (string_bytes text)) (has_drawn p) c m
@@ -395,7 +424,7 @@ module _ (law : JcrLaw) (p : Shown) (run : SessionRun) (stands : Stands law p ru
     few = stands.few;
     commands = stands.commands;
     index = stands.index;
-    idle = at_moved.1.idle;
+    rests = rest_idle p.session p.work at_moved.1.idle;
     unread = at_moved.1.for.unread;
     still = at_moved.1.for.fresh.idle;
     next = at_moved.1.for.next;
@@ -424,8 +453,9 @@ module _ (law : JcrLaw) (p : Shown) (run : SessionRun) (stands : Stands law p ru
       command = moved_command;
       call = moved_call;
       asked = moved_asked;
-      says = subst (λ (i : ℕ). SaysBy law p.history p.session i text) (sym (ap (λ (r : SessionRun). r.index) same ∙ ap (λ (r : SessionRun). r.index) settles.same))
-          (subst (λ (t : Text). SaysBy law p.history p.session run.index t) (sym told) at_moved.1.says);
+      says = subst (λ (i : ℕ). SaysBy law (history_told p) p.session i text) (sym (ap (λ (r : SessionRun). r.index) same ∙ ap (λ (r : SessionRun). r.index) settles.same))
+          (says_idle law p run moved_command moved_call asked_there at_moved.1.idle text
+          (subst (λ (t : Text). SaysBy law p.history p.session run.index t) (sym told) at_moved.1.says));
       leaves = subst (λ (h : Held). Holds (call_after (is_ok_text text) (has_drawn p) moved_call moved_command) h) (sym (ap (λ (r : SessionRun). r.held) same))
           (settled_leaves law p run settled true false None settles moved_command moved_call text at_moved.1.for.next at_moved.1.for.holds (λ ok. moved_accepts)
           (ap is_ok_text told ∙ answer_accepts (ShowsVector v)) (ap is_some at_moved.1.for.fresh.first));

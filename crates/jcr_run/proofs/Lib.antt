@@ -18,6 +18,7 @@ pub mod Since
 pub mod Stages
 pub mod Starting
 pub mod Staying
+pub mod Telling
 pub mod Turning
 pub mod Waiting
 pub mod Works

@@ -1,5 +1,5 @@
 -- What a session reads before its turn leaves it where the history says.
-use Rattle.std.proofs.Common.{◌≡◌, ◌≤◌, ℕ, Bool, List, length, true, false, Some, None, Option, [], refl, sym, ap, ◌∙◌, subst, arith}
+use Rattle.std.proofs.Common.{◌≡◌, ◌≤◌, ◌||◌, inl, inr, ℕ, Bool, List, length, true, false, Some, None, Option, [], refl, sym, ap, ◌∙◌, subst, arith}
 use Rattle.std.specs.Prelude.{slice_get}
 use mathlib.Core.Bool.{false≢true}
 use Rattle.jr_part.specs.declared.need.Need.TheVariants as need
@@ -19,6 +19,7 @@ use Rattle.jcr_run.specs.declared.run.SessionRun.{SessionRun}
 use Rattle.jcr_run.specs.declared.turn.Turn.{Turn}
 use Rattle.jcr_run.specs.declared.turn.Turn.TheVariants as turn
 use Rattle.jcr_run.specs.Asked.{MayForgo}
+use Rattle.jcr_run.specs.Standing.{HasTurned, is_between, is_committing, is_tidying}
 use Rattle.jcr_run.specs.Standing.{AreSince, HasLooked, HasCounted, IsBeside, IsBetweenCommands, IsCalled, IsFetchFor, IsIn, IsReading, IsRefused, IsSame, IsTurned, IsWantedNext, Stands, StandsAt, is_revision_written, may_read, stage_at, stage_of}
 use Rattle.jcr_run.proofs.Lawful.{at_between, between_forgoes}
 use Rattle.jcr_run.proofs.Nexts.{reads_between, reads_due, reads_next, same_reads}
@@ -137,6 +138,43 @@ module _ (law : JcrLaw) (a b c : Shown) (run like now : SessionRun) (t : Turn) (
   turned_behind idle turned =
       has_turned_later law a b c run now t old.nodes (link_read idle) looked.beside ends_read
       (turned_like law b c run like now t looked.same.session looked.same.commands looked.same.index (λ k is. subst (λ (f : Phase). stage_at run.phase b.work ≤ stage_at f b.work) (sym looked.same.phase) (let le : stage_at run.phase b.work ≤ stage_at run.phase b.work = omega arith in le)) turned)
+
+  -- a turn, or a reading step of its own task
+  pub turned_on : b.work ≡ Idle → HasTurned law b c like now t → HasTurned law a c run now t
+  turned_on idle turned = by t turned
+    where
+      between : run.phase ≡ phase.Between
+      between = reads_between run reads
+
+      between_like : like.phase ≡ phase.Between
+      between_like = looked.same.phase ∙ between
+
+      counted : (x : Turn) → HasCounted law b c like now x → HasCounted law a c run now x
+      counted x is =
+          has_turned_later law a b c run now x old.nodes (link_read idle) looked.beside ends_read
+          (turned_like law b c run like now x looked.same.session looked.same.commands looked.same.index (λ k same. subst (λ (f : Phase). stage_at run.phase b.work ≤ stage_at f b.work) (sym looked.same.phase) (let le : stage_at run.phase b.work ≤ stage_at run.phase b.work = omega arith in le)) is)
+
+      by : (x : Turn) → HasTurned law b c like now x → HasTurned law a c run now x
+      by (turn.Stepped k) is = counted (turn.Stepped k) is
+      by (turn.Said i) is = counted (turn.Said i) is
+      by (turn.Waiting q) is = counted (turn.Waiting q) is
+      by turn.Ended is = counted turn.Ended is
+      by turn.Memory is = tt
+      by turn.Read (inl more) = inl (looked_both law law a b c run like now refl old.nodes looked more.0, reads)
+      by turn.Read (inr (inl back)) = absurd (false≢true (sym (ap is_committing between_like) ∙ back.commits))
+      by turn.Read (inr (inr on)) = inr (inr (record {
+        before = ap (λ (f : Phase). is_between f || is_tidying f) between;
+        behind = on.behind;
+        stands = on.stands;
+        same = record {
+          session = on.same.session ∙ looked.same.session;
+          commands = on.same.commands ∙ looked.same.commands;
+          index = on.same.index ∙ looked.same.index;
+          phase = refl;
+          attached = on.same.attached ∙ looked.same.attached;
+        };
+        beside = beside_both law a b c old.nodes looked.beside on.beside;
+      }))
 
 -- a session that has left makes no step
 pub over_ends : (law : JcrLaw) (p : Shown) (run : SessionRun) → Stands law p run → run.phase ≡ phase.Over → HasCounted law p p run run turn.Ended

@@ -35,7 +35,7 @@ use Rattle.jcr_run.proofs.Waiting.{called_beside}
 
 -- ---- what is being done ends sooner
 
-nobody : (o : Option (List Seat)) (others : Past) → is_some o ≡ true → IfSome o (λ seats. others ≡ []) → others ≡ []
+pub nobody : (o : Option (List Seat)) (others : Past) → is_some o ≡ true → IfSome o (λ seats. others ≡ []) → others ≡ []
 nobody (Some seats) others some h = h
 nobody None others some h = absurd (false≢true some)
 

@@ -36,6 +36,8 @@ due_number due.Attach = 8
 due_number due.Detach = 9
 due_number due.Observe = 10
 due_number due.Events = 11
+due_number due.Split = 12
+due_number due.Collect = 13
 
 -- of different things to be done
 pub apart : {A : Type 0} (x y : Due) → nat_eq (due_number x) (due_number y) ≡ false → x ≡ y → A
@@ -66,6 +68,8 @@ not_barred (command.Attach id) = refl
 not_barred command.Detach = refl
 not_barred (command.Observe p deep mask) = refl
 not_barred command.Events = refl
+not_barred (command.Split p) = refl
+not_barred command.Collect = refl
 not_barred m = refl
 
 -- nor is it a leave
@@ -90,6 +94,8 @@ not_left (command.Attach id) = refl
 not_left command.Detach = refl
 not_left (command.Observe p deep mask) = refl
 not_left command.Events = refl
+not_left (command.Split p) = refl
+not_left command.Collect = refl
 not_left m = refl
 
 -- what is due for a command that the session may run
@@ -130,6 +136,8 @@ only_head (command.Attach id) h = apart due.Attach due.ShowBase refl h
 only_head command.Detach h = apart due.Detach due.ShowBase refl h
 only_head (command.Observe p deep mask) h = apart due.Observe due.ShowBase refl h
 only_head command.Events h = apart due.Events due.ShowBase refl h
+only_head (command.Split p) h = apart due.Split due.ShowBase refl h
+only_head command.Collect h = apart due.Collect due.ShowBase refl h
 only_head m h = apart due.See due.ShowBase refl h
 
 pub only_refresh : (m : Command) → due_by m ≡ due.Refresh → (keep : Bool) × (m ≡ command.Refresh keep)
@@ -153,6 +161,8 @@ only_refresh (command.Attach id) h = apart due.Attach due.Refresh refl h
 only_refresh command.Detach h = apart due.Detach due.Refresh refl h
 only_refresh (command.Observe p deep mask) h = apart due.Observe due.Refresh refl h
 only_refresh command.Events h = apart due.Events due.Refresh refl h
+only_refresh (command.Split p) h = apart due.Split due.Refresh refl h
+only_refresh command.Collect h = apart due.Collect due.Refresh refl h
 only_refresh m h = apart due.See due.Refresh refl h
 
 pub only_query : (m : Command) → due_by m ≡ due.Query → (text : Text) × (vars : List (Name × Value)) × (m ≡ command.Query text vars)
@@ -176,6 +186,8 @@ only_query (command.Attach id) h = apart due.Attach due.Query refl h
 only_query command.Detach h = apart due.Detach due.Query refl h
 only_query (command.Observe p deep mask) h = apart due.Observe due.Query refl h
 only_query command.Events h = apart due.Events due.Query refl h
+only_query (command.Split p) h = apart due.Split due.Query refl h
+only_query command.Collect h = apart due.Collect due.Query refl h
 only_query m h = apart due.See due.Query refl h
 
 -- a command for which a commit is due commits
@@ -200,6 +212,8 @@ commits_due (command.Attach id) h = apart due.Attach due.Commit refl h
 commits_due command.Detach h = apart due.Detach due.Commit refl h
 commits_due (command.Observe p deep mask) h = apart due.Observe due.Commit refl h
 commits_due command.Events h = apart due.Events due.Commit refl h
+commits_due (command.Split p) h = apart due.Split due.Commit refl h
+commits_due command.Collect h = apart due.Collect due.Commit refl h
 commits_due m h = apart due.See due.Commit refl h
 
 -- the view answers the others that the session may run
@@ -218,8 +232,8 @@ seen_viewed b (command.Restore p version) a h = apart due.Commit due.See refl h
 seen_viewed b command.BackWrite a h = apart due.Errand due.See refl h
 seen_viewed b command.BackRead a h = apart due.Errand due.See refl h
 seen_viewed b command.Sweep a h = apart due.Errand due.See refl h
-seen_viewed b (command.Split p) a h = absurd (false≢true a)
-seen_viewed b command.Collect a h = absurd (false≢true a)
+seen_viewed b (command.Split p) a h = apart due.Split due.See refl h
+seen_viewed b command.Collect a h = apart due.Collect due.See refl h
 seen_viewed b command.Checkpoint a h = apart due.Errand due.See refl h
 seen_viewed b (command.Attach id) a h = apart due.Attach due.See refl h
 seen_viewed b (command.Release id) a h = apart due.Errand due.See refl h
@@ -261,6 +275,8 @@ only_errand (command.Unlabel p label) h = absurd (false≢true h)
 only_errand (command.Restore p version) h = absurd (false≢true h)
 only_errand (command.Attach id) h = absurd (false≢true h)
 only_errand command.Detach h = absurd (false≢true h)
+only_errand (command.Split p) h = absurd (false≢true h)
+only_errand command.Collect h = absurd (false≢true h)
 only_errand m h = absurd (false≢true h)
 
 -- the view answers none of them
@@ -326,6 +342,8 @@ between_is (phase.Committed e a) b h = absurd (false≢true h)
 between_is (phase.Working e) b h = absurd (false≢true h)
 between_is (phase.Told t) b h = absurd (false≢true h)
 between_is phase.Detaching b h = absurd (false≢true h)
+between_is phase.Tidying b h = absurd (false≢true h)
+between_is (phase.Tidied t) b h = absurd (false≢true h)
 between_is phase.Over b h = absurd (false≢true h)
 
 -- before a command that reads
@@ -431,6 +449,8 @@ only_attach (command.Attach id) h = (id, refl)
 only_attach command.Detach h = apart due.Detach due.Attach refl h
 only_attach (command.Observe p deep mask) h = apart due.Observe due.Attach refl h
 only_attach command.Events h = apart due.Events due.Attach refl h
+only_attach (command.Split p) h = apart due.Split due.Attach refl h
+only_attach command.Collect h = apart due.Collect due.Attach refl h
 only_attach command.Head h = apart due.ShowBase due.Attach refl h
 only_attach (command.Refresh keep) h = apart due.Refresh due.Attach refl h
 only_attach (command.Query text vars) h = apart due.Query due.Attach refl h
@@ -454,6 +474,8 @@ only_detach command.Detach h = refl
 only_detach (command.Attach id) h = apart due.Attach due.Detach refl h
 only_detach (command.Observe p deep mask) h = apart due.Observe due.Detach refl h
 only_detach command.Events h = apart due.Events due.Detach refl h
+only_detach (command.Split p) h = apart due.Split due.Detach refl h
+only_detach command.Collect h = apart due.Collect due.Detach refl h
 only_detach command.Head h = apart due.ShowBase due.Detach refl h
 only_detach (command.Refresh keep) h = apart due.Refresh due.Detach refl h
 only_detach (command.Query text vars) h = apart due.Query due.Detach refl h

@@ -27,6 +27,8 @@ events_due due.Attach h = absurd (false≢true h)
 events_due due.Detach h = absurd (false≢true h)
 events_due due.Observe h = absurd (false≢true h)
 events_due due.See h = absurd (false≢true h)
+events_due due.Split h = absurd (false≢true h)
+events_due due.Collect h = absurd (false≢true h)
 
 pub not_events : (d e : Due) → d ≡ e → (d ≡ due.Events → ⊥) → is_events e ≡ false
 not_events d e same other = ap is_events (sym same) ∙ by d other
@@ -56,6 +58,8 @@ only_events (command.Release id) h = apart due.Errand due.Events refl h
 only_events (command.Attach id) h = apart due.Attach due.Events refl h
 only_events command.Detach h = apart due.Detach due.Events refl h
 only_events (command.Observe p deep mask) h = apart due.Observe due.Events refl h
+only_events (command.Split p) h = apart due.Split due.Events refl h
+only_events command.Collect h = apart due.Collect due.Events refl h
 only_events m h = apart due.See due.Events refl h
 
 both : (a b : Bool) → (a && b) ≡ true → (a ≡ true) × (b ≡ true)

@@ -21,6 +21,7 @@ use Rattle.jcr_law.specs.Makes.{commit_stages, commits, stages_of, steps_of}
 use Rattle.jcr_law.specs.State.{command_at}
 use Rattle.jcr_run.specs.declared.run.Pledge.{Pledge}
 use Rattle.jcr_steps.specs.declared.errand.Told.TheVariants as told
+use Rattle.jcr_steps.specs.declared.tidying.Tidied.TheVariants as tidied
 use Rattle.jcr_run.specs.declared.run.Phase.{Phase}
 use Rattle.jcr_run.specs.declared.run.Phase.TheVariants as phase
 use Rattle.jcr_run.specs.declared.run.SessionRun.{SessionRun}
@@ -78,6 +79,9 @@ stage_later (phase.Told (told.Published r)) w v h = let le : 1 ≤ 1 = omega ari
 stage_later (phase.Told (told.Observed f)) w v h = let le : 1 ≤ 1 = omega arith in le
 stage_later (phase.Told told.Done) w v h = let le : 1 ≤ 1 = omega arith in le
 stage_later (phase.Told (told.Text text)) w v h = let le : 1 ≤ 1 = omega arith in le
+stage_later phase.Tidying w v h = h
+stage_later (phase.Tidied (tidied.Split e)) w v h = let le : 1 ≤ 1 = omega arith in le
+stage_later (phase.Tidied (tidied.Collected c)) w v h = let le : 2 ≤ 2 = omega arith in le
 stage_later phase.Outside w v h = h
 stage_later phase.Between w v h = h
 stage_later (phase.Committing a) w v h = h

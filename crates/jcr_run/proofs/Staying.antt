@@ -19,12 +19,13 @@ use Rattle.jcr_law.specs.Since.{draw_since}
 use Rattle.jcr_law.specs.State.{Call, command_at, is_ok_text}
 use Rattle.core_calls.specs.Seeing.{SeesTrees, SeesTyped}
 use Rattle.jcr_run.specs.declared.limits.TheConstants.{MOST_COMMANDS}
-use Rattle.jcr_steps.specs.declared.limits.TheConstants.{VECTOR_REPLY_BYTES}
+use Rattle.jcr_steps.specs.declared.limits.TheConstants.{COMMIT_REPLY_BYTES, VECTOR_REPLY_BYTES}
 use Rattle.jcr_run.specs.declared.run.Pledge.{Pledge}
 use Rattle.jcr_run.specs.declared.run.Phase.{Phase}
 use Rattle.jcr_run.specs.declared.run.Phase.TheVariants as phase
 use Rattle.jcr_run.specs.declared.run.SessionRun.{SessionRun}
 use Rattle.jcr_steps.specs.Kept.{HasPlace}
+use Rattle.jcr_run.specs.Standing.{IsEndFor, IsTidyWork}
 use Rattle.jcr_run.specs.Standing.{IsBeside, IsCommitting, IsFor, IsIn, IsNew, IsOutside, IsPlace, IsReading, IsWorkFor}
 use Rattle.jcr_run.specs.Standing.{Stands, StandsAt}
 use Rattle.jcr_steps.specs.Kept.{kept_for, kept_of, reply_of}
@@ -153,6 +154,33 @@ module _ (law : JcrLaw) (p q : Shown) (run : SessionRun) (stands : Stands law p 
       cursor = has_cursor_beside law p q beside stands.nodes (call_after (is_ok_text (reply_of t)) false h.1.call h.1.command) h.1.cursor;
       place = subst (λ (x : Option ℕ). HasPlace x (kept_of t)) (sym room) h.1.place;
       eight = h.1.eight;
+    },
+  )
+  at_now phase.Tidying h = (
+    in_now h.0,
+    record {
+      command = h.1.command;
+      call = h.1.call;
+      for = command_beside law p q beside stands.nodes run h.1.command h.1.call h.1.for;
+      tidies = h.1.tidies;
+      unmoved = unmoved_beside law p q beside stands.nodes h.1.unmoved;
+      unpinned = unpinned_beside law p q beside stands.nodes h.1.unpinned;
+      works = subst (λ (w : Work). IsTidyWork h.1.command w) (sym work) h.1.works;
+      place = subst (λ (x : Option ℕ). HasRoom x COMMIT_REPLY_BYTES) (sym room) h.1.place;
+    },
+  )
+  at_now (phase.Tidied t) h = (
+    in_now h.0,
+    record {
+      command = h.1.command;
+      call = h.1.call;
+      for = command_beside law p q beside stands.nodes run h.1.command h.1.call h.1.for;
+      tidies = h.1.tidies;
+      unmoved = unmoved_beside law p q beside stands.nodes h.1.unmoved;
+      unpinned = unpinned_beside law p q beside stands.nodes h.1.unpinned;
+      works = subst (λ (w : Work). IsEndFor q.session h.1.command t w) (sym work)
+          (subst (λ (n : ℕ). IsEndFor n h.1.command t p.work) (sym beside.session) h.1.works);
+      place = subst (λ (x : Option ℕ). HasRoom x COMMIT_REPLY_BYTES) (sym room) h.1.place;
     },
   )
   at_now phase.Over h = record {

@@ -12,8 +12,8 @@ use Rattle.oak_machine.specs.Commits.{is_committed}
 use Rattle.oak_machine.specs.Laws.{AreOthers, after}
 use Rattle.oak_machine.specs.Runs.{AreNodes, IsRun}
 use Rattle.oak_machine.specs.Sessions.{cursor_at, has_left, is_attached, next_index}
-use Rattle.oak_port.specs.Ports.{Awaiting, Beside, Deciding, Detaching, Idle, IsFinish, Learning, Passing, Publishing, Seat, Shown, Starting}
-use Rattle.oak_port.specs.Ports.{Sweeping, Undoing, Work, Writing, WritesOn, is_by_due}
+use Rattle.oak_port.specs.Ports.{Awaiting, Beside, Collecting, Deciding, Detaching, Idle, IsFinish, Learning, Passing, Publishing, Seat, Shown, Starting}
+use Rattle.oak_port.specs.Ports.{Sweeping, Telling, Undoing, Work, Writing, WritesOn, is_by_due}
 use Rattle.jcr_law.specs.declared.law.JcrLaw.{JcrLaw}
 use Rattle.jcr_law.specs.Lasting.{says_of, starts_of}
 use Rattle.jcr_law.specs.Since.{before_turn, draw_since, is_unpinned}
@@ -49,6 +49,8 @@ unawaited h (Publishing r) never = tt
 unawaited h (Learning u) never = tt
 unawaited h (Passing r) never = tt
 unawaited h (Sweeping r) never = tt
+unawaited h Collecting never = tt
+unawaited h (Telling e) never = tt
 unawaited h (Detaching v) never = tt
 unawaited h (Writing r) never = tt
 unawaited h (Undoing r e) never = tt

@@ -16,7 +16,7 @@ use Rattle.oak_machine.specs.Runs.{AreNodes, IsRun}
 use Rattle.oak_machine.specs.Sessions.{has_left, has_login, is_attached, is_login_of, next_index, refreshed_since, since}
 use Rattle.oak_machine.proofs.Induction.{neither}
 use Rattle.oak_machine.proofs.Stays.{any_later}
-use Rattle.oak_port.specs.Ports.{Awaiting, Deciding, HasRoom, Idle, Shown, Starting, Undoing, OthersAlone, Work, Writing, Publishing, Learning, Passing, Sweeping}
+use Rattle.oak_port.specs.Ports.{Awaiting, Deciding, HasRoom, Idle, Shown, Starting, Undoing, OthersAlone, Work, Writing, Publishing, Learning, Passing, Sweeping, Collecting, Telling}
 use Rattle.oak_port.specs.Ports.{Detaching}
 use Rattle.oak_commit.specs.declared.outcome.CommitEnd.{CommitEnd}
 use Rattle.oak_commit.specs.declared.outcome.CommitEnd.TheVariants as commit
@@ -100,6 +100,8 @@ module _ (law : JcrLaw) (h : History) (s : ℕ) (added : Past) (nodes : AreNodes
   committing_still (Learning u) h1 = h1
   committing_still (Passing r) h1 = h1
   committing_still (Sweeping r) h1 = h1
+  committing_still Collecting h1 = h1
+  committing_still (Telling e) h1 = h1
   committing_still (Detaching v) h1 = h1
 
   -- what was local, and what was published, when the command began

@@ -1,6 +1,6 @@
 -- What a session finds before it answers its next command.
 use Rattle.std.specs.Prelude.{◌≡◌, ◌≤◌, ℕ, Bool, false, List, length, slice_get}
-use Rattle.std.specs.Prelude.{Option, None, Some, is_some, IsTrue, IsFalse, string_bytes}
+use Rattle.std.specs.Prelude.{Option, None, Some, is_some, IsTrue, IsFalse, string_bytes, ⊤}
 use Rattle.std.specs.Prelude.{Result}
 use Rattle.std.specs.Option.{option_map_or}
 use Rattle.std.specs.declared.alloc.AllocError.{AllocError}
@@ -10,8 +10,11 @@ use Rattle.jr_path.specs.declared.name.Name.{Name}
 use Rattle.jr_path.specs.Lists.{Text}
 use Rattle.jr_value.specs.declared.value.Value.{Value}
 use Rattle.oak_machine.specs.Commits.{is_committed}
+use Rattle.oak_machine.specs.History.{History}
+use Rattle.oak_machine.specs.Laws.{after}
+use Rattle.oak_machine.specs.Runs.{is_task_end}
 use Rattle.oak_machine.specs.Sessions.{drawn_since, is_attached, is_drawing, next_index}
-use Rattle.oak_port.specs.Ports.{Idle, Shown}
+use Rattle.oak_port.specs.Ports.{Idle, Shown, Telling, Work, end_told}
 use Rattle.jr_types.specs.Rules.{TypesOk}
 use Rattle.jcr_trans.specs.declared.command.Command.{Command}
 use Rattle.jcr_trans.specs.declared.command.Command.TheVariants as command
@@ -32,8 +35,19 @@ use Rattle.jcr_run.specs.declared.limits.TheConstants.{MOST_COMMANDS}
 use Rattle.jcr_run.specs.declared.run.SessionRun.{SessionRun}
 use Rattle.jcr_run.specs.Standing.{HasCursor, IsCalled, IsIn}
 
--- the session is in, with nothing being done for it and nothing of it in flight; its next command
--- is m, which is run with c
+-- nothing is left to be done for s but to tell how a split or a collection of its own ended
+abbrev pub IsResting : ℕ → Work → Type 0
+IsResting s Idle = ⊤
+IsResting s (Telling e) = IsTrue (is_task_end s e)
+IsResting s _ = ⊥
+
+-- the session's history once it is told how a split or a collection ended, where that is left to
+-- be told
+abbrev pub history_told : Shown → History
+history_told p = after (end_told p.work) p.history
+
+-- the session is in, with nothing being done for it but what is told with its reply, and nothing of
+-- it in flight; its next command is m, which is run with c
 pub record IsAsked (law : JcrLaw) (p : Shown) (run : SessionRun) (m : Command) (c : Call)
     : Type 0 where
   pub inside : IsIn law p run.attached
@@ -41,7 +55,7 @@ pub record IsAsked (law : JcrLaw) (p : Shown) (run : SessionRun) (m : Command) (
   pub few : length run.commands ≤ MOST_COMMANDS
   pub commands : (i : ℕ) → command_at law run.session i ≡ slice_get run.commands i
   pub index : run.index ≡ next_index p.history.past run.session
-  pub idle : p.work ≡ Idle
+  pub rests : IsResting p.session p.work
   pub unread : run.fetch ≡ None
   pub still : IsFalse (is_drawing p.history.past p.session)
   pub next : slice_get run.commands run.index ≡ Some m
@@ -51,15 +65,15 @@ pub record IsAsked (law : JcrLaw) (p : Shown) (run : SessionRun) (m : Command) (
 abbrev pub has_drawn : Shown → Bool
 has_drawn p = is_some (drawn_since p.history.past p.session)
 
--- the text may be said now as the reply to the next command, which began attached or not; what the
--- session holds is what the command after it is run with then, it is attached as it then is, and
--- the cursor stands where the history has it
+-- the text may be said now as the reply to the next command, behind what is told with it, which
+-- began attached or not; what the session holds is what the command after it is run with then, it
+-- is attached as it then is, and the cursor stands where the history has it
 pub record MayAnswer (law : JcrLaw) (p : Shown) (run : SessionRun) (text : Text) : Type 0 where
   pub began : Bool
   pub command : Command
   pub call : Call
   pub asked : IsAsked law p (record run { attached = began }) command call
-  pub says : SaysBy law p.history p.session run.index text
+  pub says : SaysBy law (history_told p) p.session run.index text
   pub leaves : Holds (call_after (is_ok_text text) (has_drawn p) call command) run.held
   pub stands : is_attached p.history.past p.session ≡ run.attached
   pub cursor : HasCursor p.history.past p.session
@@ -78,14 +92,14 @@ pub record MayForgo (law : JcrLaw) (p : Shown) (run : SessionRun) (drew : Bool) 
       (drawn_since p.history.past p.session) false)
   pub holds : Holds call run.held
 
--- the text may be said now as the reply to the next command, which the view doesn't answer, for
--- which nothing was drawn and the base hasn't moved, before what the session holds is brought up to
--- that reply
+-- the text may be said now as the reply to the next command, behind what is told with it, which
+-- the view doesn't answer, for which nothing was drawn and the base hasn't moved, before what the
+-- session holds is brought up to that reply
 pub record MaySettle (law : JcrLaw) (p : Shown) (run : SessionRun) (text : Text) : Type 0 where
   pub command : Command
   pub call : Call
   pub asked : IsAsked law p run command call
-  pub says : SaysBy law p.history p.session run.index text
+  pub says : SaysBy law (history_told p) p.session run.index text
   pub first : has_drawn p ≡ false
   pub unmoved : IsUnmoved p.history p.session
   pub cursor : HasCursor p.history.past p.session

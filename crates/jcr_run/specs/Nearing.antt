@@ -1,5 +1,5 @@
 -- How reading steps and turns bring a session nearer to its end.
-use Rattle.std.specs.Prelude.{◌≡◌, ◌⊎◌, ◌<◌, ◌-◌, ◌+◌, ◌*◌, ◌&&◌, ℕ, Bool, true, false, ⊤, cond}
+use Rattle.std.specs.Prelude.{◌≡◌, ◌⊎◌, ◌<◌, ◌≤◌, ◌-◌, ◌+◌, ◌*◌, ◌&&◌, ℕ, Bool, true, false, ⊤, cond}
 use Rattle.std.specs.Prelude.{length, slice_get, is_some, IsTrue}
 use Rattle.std.specs.Option.{option_map_or}
 use Rattle.oak_machine.specs.Laws.{is_revision_of}
@@ -8,7 +8,7 @@ use Rattle.jcr_law.specs.declared.law.JcrLaw.{JcrLaw}
 use Rattle.jcr_law.specs.State.{Call}
 use Rattle.jcr_held.specs.Unread.{unread}
 use Rattle.jr_rev.specs.declared.revision.Revision.{Revision}
-use Rattle.jcr_run.specs.Standing.{IsCalled, is_committing, is_working, lacks_changes}
+use Rattle.jcr_run.specs.Standing.{IsCalled, is_working, lacks_changes}
 use Rattle.jcr_run.specs.declared.run.Phase.{Phase}
 use Rattle.jcr_run.specs.declared.run.Phase.TheVariants as phase
 use Rattle.jcr_run.specs.declared.run.SessionRun.{SessionRun}
@@ -54,6 +54,8 @@ stages_left (phase.Moved v) = 1
 stages_left phase.Detaching = 2
 stages_left (phase.Working e) = 2
 stages_left (phase.Told t) = 1
+stages_left phase.Tidying = 2
+stages_left (phase.Tidied t) = 1
 stages_left phase.Over = 0
 
 -- how many replies a session has not said yet, five times, and how near it is to the next one
@@ -78,17 +80,25 @@ abbrev pub ComesNearer : (sooner : Type 0) → (before now : ℕ) → Turn → T
 ComesNearer sooner before now (turn.Said i) = now < before
 ComesNearer sooner before now t = StepsOn sooner before now t
 
--- a reading step brings nearer what the next command asks for; inside a commit it ends sooner
-abbrev pub BringsNearer : (commits : Bool) → (sooner : Type 0) → JcrLaw → Shown
+-- a reading step brings nearer what the next command asks for, or it begins a split, and fewer
+-- stages are left; inside a commit, a split or a collection it ends sooner, and no more stages are
+-- left
+abbrev pub BringsNearer : (works : Bool) → (sooner : Type 0) → JcrLaw → Shown
     → (old new : SessionRun) → Type 0
-BringsNearer true sooner law p old new = sooner
-BringsNearer false sooner law p old new = HasNeared sooner law p old new
+BringsNearer true sooner law p old new = sooner × (turns_left new ≤ turns_left old)
+BringsNearer false sooner law p old new =
+    HasNeared sooner law p old new ⊎ (turns_left new < turns_left old)
 
 -- what a reading step brings nearer
 abbrev pub ReadsOn : (sooner : Type 0) → JcrLaw → Shown → (old new : SessionRun) → Turn → Type 0
 ReadsOn sooner law p old new turn.Read =
-    BringsNearer (is_committing old.phase) sooner law p old new
+    BringsNearer (is_working old.phase) sooner law p old new
 ReadsOn sooner law p old new _ = ⊤
+
+-- a reading step that begins a split leaves fewer stages
+abbrev pub BeginsNearer : (before now : ℕ) → Turn → Type 0
+BeginsNearer before now turn.Read = now < before
+BeginsNearer before now _ = ⊤
 
 -- what session s has drawn it had drawn before
 abbrev pub DrawsNoOther : Shown → Shown → Type 0

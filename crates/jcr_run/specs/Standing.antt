@@ -26,12 +26,12 @@ use Rattle.oak_machine.specs.History.{History, Past}
 use Rattle.oak_machine.specs.Commits.{is_committed, is_ended, refusal_of, tree_at}
 use Rattle.oak_machine.specs.Heads.{head_of, local, published}
 use Rattle.oak_machine.specs.Laws.{after, is_revision_of}
-use Rattle.oak_machine.specs.Runs.{AreNodes, IsRun}
+use Rattle.oak_machine.specs.Runs.{AreNodes, IsRun, is_task_end}
 use Rattle.oak_machine.specs.Sessions.{base_of, cursor_at, drawn_since, has_left, has_login}
 use Rattle.oak_machine.specs.Sessions.{is_attached, is_drawing, next_index, refreshed_since, since}
 use Rattle.oak_machine.specs.Steps.{is_appended_by, is_kind}
-use Rattle.oak_port.specs.Ports.{Awaiting, Deciding, Detaching, Grows, HasRoom, HoldsBack, Idle}
-use Rattle.oak_port.specs.Ports.{IsSessionOn, Passing, Sweeping}
+use Rattle.oak_port.specs.Ports.{Awaiting, Collecting, Deciding, Detaching, Grows, HasRoom}
+use Rattle.oak_port.specs.Ports.{HoldsBack, Idle, IsSessionOn, Passing, Sweeping, Telling}
 use Rattle.oak_port.specs.Ports.{Learning, Publishing, Shown, Starting, Undoing, Work, Writing}
 use Rattle.oak_port.specs.Ports.{is_by_due, is_due}
 use Rattle.oak_port.specs.declared.task.Task.TheVariants as task
@@ -76,6 +76,8 @@ use Rattle.jcr_steps.specs.declared.errand.Errand.{Errand}
 use Rattle.jcr_steps.specs.declared.errand.Errand.TheVariants as errand
 use Rattle.jcr_steps.specs.declared.errand.Told.{Told}
 use Rattle.jcr_steps.specs.declared.errand.Told.TheVariants as told
+use Rattle.jcr_steps.specs.declared.tidying.Tidied.{Tidied}
+use Rattle.jcr_steps.specs.declared.tidying.Tidied.TheVariants as tidied
 use Rattle.jcr_steps.specs.Kept.{HasPlace, IsEight, kept_for, kept_of, reply_of}
 use Rattle.jcr_run.specs.declared.run.Fetch.{Fetch}
 use Rattle.jcr_run.specs.declared.run.Fetch.TheVariants as fetch
@@ -105,6 +107,8 @@ due_by (command.Attach id) = due.Attach
 due_by command.Detach = due.Detach
 due_by (command.Observe p deep mask) = due.Observe
 due_by command.Events = due.Events
+due_by (command.Split p) = due.Split
+due_by command.Collect = due.Collect
 due_by m = cond (commits m) due.Commit due.See
 
 -- what is to be done for a command; one that the session may not run is refused
@@ -130,6 +134,7 @@ reads_for due.See = true
 reads_for due.Attach = true
 reads_for due.Detach = true
 reads_for due.Events = true
+reads_for due.Split = true
 reads_for _ = false
 
 -- what is to be done moves the base, and its reply shows where it then stands
@@ -152,6 +157,12 @@ is_errand _ = false
 abbrev pub is_told_for : Due → Bool
 is_told_for due.Attach = true
 is_told_for d = is_errand d
+
+-- what is to be done is a split or a collection
+abbrev pub is_tidy : Due → Bool
+is_tidy due.Split = true
+is_tidy due.Collect = true
+is_tidy _ = false
 
 -- what is to be done shows the events since the cursor
 abbrev pub is_events : Due → Bool
@@ -188,9 +199,20 @@ abbrev pub is_detaching : Phase → Bool
 is_detaching phase.Detaching = true
 is_detaching _ = false
 
--- a commit, a task of the cluster node or of the settings, or a detach is under way
+-- a split or a collection is under way
+abbrev pub is_tidying : Phase → Bool
+is_tidying phase.Tidying = true
+is_tidying _ = false
+
+-- a split or a collection has ended, and its command isn't answered yet
+abbrev pub is_tidied : Phase → Bool
+is_tidied (phase.Tidied t) = true
+is_tidied _ = false
+
+-- a commit, a task of the cluster node or of the settings, a detach, a split or a collection is
+-- under way
 abbrev pub is_working : Phase → Bool
-is_working f = is_committing f || is_on_errand f || is_detaching f
+is_working f = is_committing f || is_on_errand f || is_detaching f || is_tidying f
 
 -- the session is before a command for which it may have to read
 abbrev pub may_read : SessionRun → Bool
@@ -605,6 +627,43 @@ pub record IsErrandTold (law : JcrLaw) (p : Shown) (run : SessionRun) (t : Told)
   pub place : HasPlace p.room (kept_of t)
   pub eight : IsEight t
 
+-- what is being done for a split or a collection
+abbrev pub IsTidyWork : Command → Work → Type 0
+IsTidyWork (command.Split p) (Starting (task.Split q)) = q ≡ p
+IsTidyWork command.Collect (Starting task.Collect) = ⊤
+IsTidyWork command.Collect Collecting = ⊤
+IsTidyWork m work = ⊥
+
+-- the split or the collection of a command is under way, and want of memory has a place as its
+-- reply; neither the base nor the cursor has moved since the command began
+pub record IsInTidying (law : JcrLaw) (p : Shown) (run : SessionRun) : Type 0 where
+  pub command : Command
+  pub call : Call
+  pub for : IsOnCommand law p run command call
+  pub tidies : IsTrue (is_tidy (due_for run))
+  pub unmoved : IsTrue (is_unmoved p.history.past p.session)
+  pub unpinned : IsTrue (is_unpinned p.history.past p.session)
+  pub works : IsTidyWork command p.work
+  pub place : HasRoom p.room COMMIT_REPLY_BYTES
+
+-- of a split or a collection of session s that has ended so it is left to tell that
+abbrev pub IsEndFor : ℕ → Command → Tidied → Work → Type 0
+IsEndFor s (command.Split p) (tidied.Split e) work = work ≡ Telling (event.Split s p e)
+IsEndFor s command.Collect (tidied.Collected c) work = work ≡ Telling (event.Collected s c)
+IsEndFor s m t work = ⊥
+
+-- the split or the collection of a command has ended so, which is told with the reply, and want of
+-- memory has a place as that; neither the base nor the cursor has moved since the command began
+pub record IsTidyTold (law : JcrLaw) (p : Shown) (run : SessionRun) (t : Tidied) : Type 0 where
+  pub command : Command
+  pub call : Call
+  pub for : IsOnCommand law p run command call
+  pub tidies : IsTrue (is_tidy (due_for run))
+  pub unmoved : IsTrue (is_unmoved p.history.past p.session)
+  pub unpinned : IsTrue (is_unpinned p.history.past p.session)
+  pub works : IsEndFor p.session command t p.work
+  pub place : HasRoom p.room COMMIT_REPLY_BYTES
+
 -- the session has answered all its commands, and has left
 pub record IsGone (p : Shown) (run : SessionRun) : Type 0 where
   pub idle : p.work ≡ Idle
@@ -624,6 +683,8 @@ StandsAt law p run (phase.Committed e pledge) =
     IsIn law p run.attached × IsAtEnd law p run e pledge
 StandsAt law p run (phase.Working e) = IsIn law p run.attached × IsOnErrand law p run e
 StandsAt law p run (phase.Told t) = IsIn law p run.attached × IsErrandTold law p run t
+StandsAt law p run phase.Tidying = IsIn law p run.attached × IsInTidying law p run
+StandsAt law p run (phase.Tidied t) = IsIn law p run.attached × IsTidyTold law p run t
 StandsAt law p run phase.Over = IsGone p run
 
 -- the port is the session's; its history is a run by the law, where sessions see trees that meet
@@ -657,11 +718,12 @@ MovesBase law h s =
 
 -- ---- in which order
 
--- how many stages of a commit, of a background read or of a sweep are behind, by what is being
--- done; of anything else none is
+-- how many stages of a commit, of a background read, of a sweep or of a collection are behind, by
+-- what is being done; of anything else none is
 abbrev pub stage_of : Work → ℕ
 stage_of (Learning v) = 1
 stage_of (Sweeping r) = 1
+stage_of Collecting = 1
 stage_of (Writing r) = 1
 stage_of (Undoing r e) = 3
 stage_of (Deciding r) = 4
@@ -677,6 +739,8 @@ stage_at (phase.Told (told.Learnt v)) work = 2
 stage_at (phase.Told (told.Swept r)) work = 2
 stage_at (phase.Told t) work = 1
 stage_at (phase.Committed e pledge) work = 6
+stage_at (phase.Tidied (tidied.Split e)) work = 1
+stage_at (phase.Tidied (tidied.Collected c)) work = 2
 stage_at f work = stage_of work
 
 -- the kind is of one of the stages, from this place on until that one
@@ -723,6 +787,7 @@ is_step_event (event.Went t k) = true
 is_step_event (event.Out k r) = true
 is_step_event (event.In k v) = true
 is_step_event (event.Sweep k r) = true
+is_step_event (event.Bound m t) = true
 is_step_event (event.Checkpoint id v) = true
 is_step_event (event.Release id) = true
 is_step_event (event.Attach t id) = true
@@ -734,11 +799,18 @@ abbrev pub IsOneStep : Past → Type 0
 IsOneStep own = ((e : Event) × (own ≡ e ∷ []) × IsTrue (is_step_event e))
     ⊎ ((k : ℕ) × (v : RevVec) × (r : Revision) × (own ≡ event.Head k v ∷ event.End r ∷ []))
 
+-- how a split or a collection of s ended, or nothing
+abbrev pub AreEnds : ℕ → Past → Type 0
+AreEnds s [] = ⊤
+AreEnds s (e ∷ []) = IsTrue (is_task_end s e)
+AreEnds s _ = ⊥
+
 -- the events that a turn adds, the newest first: those of one counted step of its kind, or the next
--- reply, or none
+-- reply, directly behind how a split or a collection ended, where that is told with it, or none
 abbrev pub Tells : History → ℕ → ℕ → Turn → Past → Type 0
 Tells h s i (turn.Stepped k) own = IsTrue (is_appended_by h s k (reverse own)) × IsOneStep own
-Tells h s i (turn.Said j) own = (j ≡ i) × (text : Text) × (own ≡ event.Said s i text ∷ [])
+Tells h s i (turn.Said j) own = (j ≡ i) × (text : Text) × (ended : Past)
+    × AreEnds s ended × (own ≡ event.Said s i text ∷ ended)
 Tells h s i (turn.Waiting q) own = own ≡ []
 Tells h s i turn.Ended own = own ≡ []
 Tells h s i turn.Read own = ⊥
@@ -834,11 +906,22 @@ pub record HasLookedBack (law : JcrLaw) (old new : Shown) (run now : SessionRun)
   pub same : now ≡ run
   pub beside : IsBeside law old new
 
--- a reading step was made, before a command that reads or inside a commit; or memory was refused,
--- or another turn was made
+-- a reading step of a split or a collection, which it may begin or end: commands and replies stay,
+-- and whether the session is attached
+pub record HasReadOn (law : JcrLaw) (old new : Shown) (run now : SessionRun) : Type 0 where
+  pub before : IsTrue (is_between run.phase || is_tidying run.phase)
+  pub behind : IsTrue (is_tidying now.phase || is_tidied now.phase)
+  pub stands : Stands law new now
+  pub same : IsSame (record run { phase = now.phase }) now
+  pub beside : IsBeside law old new
+
+-- a reading step was made, before a command that reads, inside a commit, or of a split or a
+-- collection; or memory was refused, or another turn was made
 abbrev pub HasTurned : JcrLaw → Shown → Shown → SessionRun → SessionRun → Turn → Type 0
 HasTurned law old new run now turn.Read =
-    (HasLooked law old new run now × IsTrue (may_read run)) ⊎ HasLookedBack law old new run now
+    (HasLooked law old new run now × IsTrue (may_read run))
+    ⊎ HasLookedBack law old new run now
+    ⊎ HasReadOn law old new run now
 HasTurned law old new run now answer = HasCounted law old new run now answer
 
 -- from the draw of its commit until its reply
@@ -853,9 +936,10 @@ base_has_moved (phase.Moved v) = true
 base_has_moved phase.Detaching = true
 base_has_moved _ = false
 
--- a task of the cluster node or of the settings was begun for a command that isn't answered yet
+-- a task of the cluster node or of the settings, a split or a collection was begun for a command
+-- that isn't answered yet
 abbrev pub has_begun : Phase → Bool
-has_begun f = is_on_errand f || is_told f
+has_begun f = is_on_errand f || is_told f || is_tidying f || is_tidied f
 
 -- a turn doesn't answer that memory was refused
 abbrev pub IsGranted : Turn → Type 0

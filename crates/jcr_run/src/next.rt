@@ -32,6 +32,10 @@ pub enum Due {
     Observe,
     /// What changed since the session's cursor is shown.
     Events,
+    /// The document of a node is split.
+    Split,
+    /// Garbage is collected.
+    Collect,
     /// Another command is answered by the view.
     See,
 }
@@ -85,6 +89,8 @@ fn due_by(command: &Command) -> Due
         Command::Detach => Due::Detach,
         Command::Observe(_, _, _) => Due::Observe,
         Command::Events => Due::Events,
+        Command::Split(_) => Due::Split,
+        Command::Collect => Due::Collect,
         _ => {
             if commits(command) {
                 Due::Commit
@@ -102,6 +108,6 @@ fn reads_for(due: Due) -> bool
 {
     !matches!(
         due,
-        Due::Leave | Due::Bar | Due::ShowBase | Due::Errand | Due::Observe
+        Due::Leave | Due::Bar | Due::ShowBase | Due::Errand | Due::Observe | Due::Collect
     )
 }

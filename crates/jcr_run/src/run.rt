@@ -1,11 +1,11 @@
 // A session of a script, and where it stands.
 ghost use Rattle.std.specs.Prelude.{◌≡◌, ◌≤◌, IfOk, is_some, length};
-ghost use Rattle.jcr_run.specs.Standing.{IsNew, is_committing, is_working};
+ghost use Rattle.jcr_run.specs.Standing.{IsNew, is_committing, is_tidying, is_working};
 
 use crate::limits::MOST_COMMANDS;
 use jcr_call::Accepted;
 use jcr_held::Held;
-use jcr_steps::{Errand, Told};
+use jcr_steps::{Errand, Tidied, Told};
 use jcr_trans::Command;
 use jr_part::Need;
 use jr_path::List;
@@ -78,6 +78,11 @@ pub enum Phase {
     /// A task of the cluster node, of the settings or of the cursor has ended so, and is not
     /// answered yet; its reply has a place.
     Told(Told),
+    /// A split or a collection is under way; its reply has a place for want of memory.
+    Tidying,
+    /// A split or a collection has ended so, and is not answered yet; its reply has a place for
+    /// want of memory.
+    Tidied(Tidied),
     /// The session has left.
     Over,
 }
@@ -138,7 +143,7 @@ impl SessionRun {
     {
         matches!(
             self.phase,
-            Phase::Committing(_) | Phase::Working(_) | Phase::Detaching
+            Phase::Committing(_) | Phase::Working(_) | Phase::Detaching | Phase::Tidying
         )
     }
 
@@ -147,5 +152,12 @@ impl SessionRun {
         ensures { result ≡ is_committing self.now.phase }
     {
         matches!(self.phase, Phase::Committing(_))
+    }
+
+    /// Whether a split or a collection of the session is under way.
+    pub fn is_tidying(&self) -> bool
+        ensures { result ≡ is_tidying self.now.phase }
+    {
+        matches!(self.phase, Phase::Tidying)
     }
 }

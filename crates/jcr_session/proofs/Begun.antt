@@ -54,7 +54,7 @@ use Rattle.jcr_run.specs.declared.run.Phase.{Phase}
 use Rattle.jcr_run.specs.declared.run.Phase.TheVariants as phase
 use Rattle.jcr_run.specs.declared.run.SessionRun.{SessionRun}
 use Rattle.jcr_run.specs.declared.turn.Turn.{Turn}
-use Rattle.jcr_run.specs.Asked.{IsAsked, IsUnviewedNext, MayAnswer, MayForgo, MaySettle}
+use Rattle.jcr_run.specs.Asked.{IsAsked, IsUnviewedNext, MayAnswer, MayForgo, MaySettle, history_told}
 use Rattle.jcr_session.specs.Begins.{IsSaidAtOnce, IsTaskFor, MayObserve, MaySetOut}
 use Rattle.jcr_run.specs.Asked.{ObservesNext, SettlesBy}
 use Rattle.jcr_session.specs.Begins.{MayTell, StartsNext, StartsWith}
@@ -65,7 +65,8 @@ use Rattle.jcr_steps.specs.Kept.{kept_for, kept_of, reply_of}
 use Rattle.jcr_run.specs.Standing.{stage_of}
 use Rattle.jcr_run.proofs.Lawful.{asks_of}
 use Rattle.jcr_run.proofs.Cursors.{accepts_by}
-use Rattle.jcr_run.proofs.Lawful.{at_between, attached_still, between_asked, refusal_settles, refused_text, says_allowed}
+use Rattle.jcr_run.proofs.Lawful.{at_between, attached_still, between_asked, idle_by, refusal_settles, refused_text, says_allowed, says_idle}
+use Rattle.jcr_run.proofs.Telling.{rest_idle}
 use Rattle.jcr_run.proofs.Nexts.{IsErrand, allowed_due, due_at, errand_checkpoint, errand_events, errand_observe, errand_read}
 use Rattle.jcr_run.proofs.Nexts.{errand_release, errand_some, errand_sweep, errand_there, errand_viewed, errand_write, only_attach}
 use Rattle.jcr_run.proofs.Nexts.{only_errand, same_next, unattached_runs}
@@ -160,8 +161,9 @@ module _ (law : JcrLaw) (p : Shown) (run : SessionRun) (stands : Stands law p ru
     command = m.0;
     call = here.1.call;
     asked = asked_now;
-    says = subst (λ (t : Text). SaysBy law p.history p.session run.index t) (sym told)
-        (says_now command.Events (events_reply []) is (uncursored here.1.call here.1.is none here.1.unmoved));
+    says = subst (λ (t : Text). SaysBy law (history_told p) p.session run.index t) (sym told)
+        (says_idle law p run m.0 here.1.call asked_now (idle_by law p run stands between unread) (events_reply [])
+        (says_now command.Events (events_reply []) is (uncursored here.1.call here.1.is none here.1.unmoved)));
     first = ap is_some here.1.fresh.first;
     unmoved = here.1.unmoved;
     cursor = subst (λ (x : Command). HasCursor p.history.past p.session (call_after (is_ok_text text) false here.1.call x)) (sym is)
@@ -193,7 +195,8 @@ module _ (law : JcrLaw) (p : Shown) (run : SessionRun) (stands : Stands law p ru
       let s = starts p.history m.0 here.1.call m.1 here.1.holds here.1.changes in record {
         command = m.0;
         call = here.1.call;
-        asked = asked_waits law m.0 here.1.call p mid run asked beside idle;
+        asked = asked_waits law m.0 here.1.call p mid run asked beside (rest_idle mid.session mid.work idle);
+        idle = idle;
         between = between;
         first = drawn_waits law m.0 here.1.call p mid run asked beside ∙ here.1.fresh.first;
         unmoved = unmoved_beside law p mid beside here.0.nodes here.1.unmoved;
@@ -367,7 +370,7 @@ module _ (law : JcrLaw) (old : Shown) (run : SessionRun) (t : Task) (e : Errand)
     begun_turns later same new now x turned =
         turned_like law old new run working now x refl refl refl (λ k is. none_behind)
         (has_turned_later law old mid new working now x may.asked.inside.nodes
-        (started old mid (ap is_revision_written begins.work_is) (ap is_awaiting begins.work_is) may.asked.idle) beside
+        (started old mid (ap is_revision_written begins.work_is) (ap is_awaiting begins.work_is) may.idle) beside
         (never_ends law mid new working now inside_mid) (subst (λ (l : JcrLaw). HasCounted l mid new working now x) same turned))
 
 -- ---- the reply
@@ -410,7 +413,7 @@ module _ (law : JcrLaw) (p : Shown) (run : SessionRun) (t : Told) (stands : Stan
     few = stands.few;
     commands = stands.commands;
     index = stands.index;
-    idle = told_here.1.idle;
+    rests = rest_idle p.session p.work told_here.1.idle;
     unread = told_here.1.for.unread;
     still = told_here.1.for.fresh.idle;
     next = told_here.1.for.next;
@@ -432,7 +435,7 @@ told_tells law p run (ended.Observed filter) stands =
       command = is.command;
       call = is.call;
       asked = told_asked law p run (ended.Observed filter) stands;
-      says = is.says;
+      says = says_idle law p run is.command is.call (told_asked law p run (ended.Observed filter) stands) is.idle (answer_text Done) is.says;
       first = ap is_some is.for.fresh.first;
       unmoved = is.unmoved;
       cursor = is.cursor;
@@ -444,7 +447,7 @@ told_tells law p run t stands =
       command = is.command;
       call = is.call;
       asked = told_asked law p run t stands;
-      says = is.says;
+      says = says_idle law p run is.command is.call (told_asked law p run t stands) is.idle (reply_of t) is.says;
       first = ap is_some is.for.fresh.first;
       unmoved = is.unmoved;
       cursor = is.cursor;
@@ -468,7 +471,7 @@ observed_answers law p run now filter may settles = record {
   asked = asked_like law may.command may.call p run (record now { attached = run.attached }) (ap (λ (r : SessionRun). r.session) settles.same)
       (ap (λ (r : SessionRun). r.commands) settles.same) (ap (λ (r : SessionRun). r.index) settles.same)
       (ap (λ (r : SessionRun). r.fetch) settles.same) refl may.asked;
-  says = subst (λ (i : ℕ). SaysBy law p.history p.session i (answer_text Done)) (sym (ap (λ (r : SessionRun). r.index) settles.same)) may.says;
+  says = subst (λ (i : ℕ). SaysBy law (history_told p) p.session i (answer_text Done)) (sym (ap (λ (r : SessionRun). r.index) settles.same)) may.says;
   leaves = subst (λ (b : Bool). Holds (call_after true b may.call may.command) now.held) (sym may.first)
       (settles.holds may.command may.call may.asked.next may.holds tt);
   stands = attached_still law p run may.command may.call may.asked may.unmoved ∙ sym (ap (λ (r : SessionRun). r.attached) settles.same);

@@ -57,6 +57,7 @@ use Rattle.jcr_run.proofs.Nexts.{allowed_due, commits_due, commits_forbidden, du
 use Rattle.jcr_run.proofs.Stages.{commit_order, next_later}
 use Rattle.jcr_run.proofs.Starting.{some_is}
 use Rattle.jcr_run.proofs.Saying.{asked_like, asked_waits, drawn_waits, get_within}
+use Rattle.jcr_run.proofs.Telling.{rest_idle}
 use Rattle.jcr_run.proofs.Turning.{is_awaiting, not_ended, plain_step, started, turned_later}
 use Rattle.jcr_run.proofs.Waiting.{by_waits, called_beside, in_beside, next_beside, unmoved_beside, unpinned_beside}
 
@@ -110,7 +111,8 @@ module _ (law : JcrLaw) (p : Shown) (run : SessionRun) (stands : Stands law p ru
       let x = comes m.0 c m.1 here.holds (called_typed law p c (at_between law p run stands between).0 here.is) in record {
         command = m.0;
         call = c;
-        asked = asked_waits law m.0 c p mid planned_run asked_planned beside idle;
+        asked = asked_waits law m.0 c p mid planned_run asked_planned beside (rest_idle mid.session mid.work idle);
+        idle = idle;
         first = drawn_waits law m.0 c p mid planned_run asked_planned beside ∙ here.fresh.first;
         unmoved = unmoved_beside law p mid beside asked_planned.inside.nodes here.unmoved;
         unpinned = unpinned_beside law p mid beside asked_planned.inside.nodes here.unpinned;
@@ -340,7 +342,7 @@ module _ (law : JcrLaw) (mid : Shown) (run : SessionRun) (plan : Plan) (may : Ma
 
     -- it draws, and the session is in its commit
     pub draw_turns : HasCounted law mid new run run (turn.Stepped kind.Draw)
-    draw_turns = turned_later law mid begun new run run (turn.Stepped kind.Draw) may.asked.inside.nodes (started mid begun (ap is_revision_written begins.work_is) (ap is_awaiting begins.work_is) may.asked.idle) first_beside
+    draw_turns = turned_later law mid begun new run run (turn.Stepped kind.Draw) may.asked.inside.nodes (started mid begun (ap is_revision_written begins.work_is) (ap is_awaiting begins.work_is) may.idle) first_beside
         (not_ended (turn.Stepped kind.Draw) refl) draws_new
 
   -- memory was refused for its draw

@@ -54,10 +54,11 @@ use Rattle.jcr_session.specs.Begins.{HasClashed, SeesCommit}
 use Rattle.jcr_run.specs.Standing.{IsAtEnd, IsCalled, IsMadeFor, IsUnmade, Stands, due_by}
 use Rattle.jcr_session.proofs.Drawing.{commit_allowed, commit_detached}
 use Rattle.jcr_run.proofs.Cursors.{accepts_by, cursor_refused, cursor_settled}
-use Rattle.jcr_run.proofs.Lawful.{attached_still, forgo_answers, refused_text, says_allowed, settled_asked, settled_attached, settled_leaves}
+use Rattle.jcr_run.proofs.Lawful.{attached_still, forgo_answers, refused_text, says_allowed, says_idle, settled_asked, settled_attached, settled_leaves}
 use Rattle.jcr_run.proofs.Lawful.{settled_says}
 use Rattle.jcr_run.proofs.Nexts.{allowed_due, apart, due_at, due_number, sets_cursor, sets_none, unviewed_due}
 use Rattle.jcr_run.proofs.Saying.{asked_like}
+use Rattle.jcr_run.proofs.Telling.{rest_idle}
 
 -- ---- the command whose commit has ended
 
@@ -75,7 +76,7 @@ module _ (law : JcrLaw) (p : Shown) (run : SessionRun) (e : CommitEnd) (a : Pled
     few = stands.few;
     commands = stands.commands;
     index = stands.index;
-    idle = ended.idle;
+    rests = rest_idle p.session p.work ended.idle;
     unread = ended.unread;
     still = still;
     next = ended.for.next;
@@ -107,6 +108,7 @@ module _ (law : JcrLaw) (p : Shown) (run : SessionRun) (a : Pledge) where
         command = x.for.command;
         call = x.call;
         asked = end_asked law p run (commit.Clash item o) a stands x.call x.ended.2.unmade.idle x.ended.1;
+        idle = x.idle;
         revision = x.ended.0;
         clash = x.ended.2;
         commits = x.for.commits;
@@ -128,8 +130,9 @@ module _ (law : JcrLaw) (p : Shown) (run now : SessionRun) (item : Item) (o : Re
     call = has.call;
     asked = settled_asked law p run now false true None settles has.command has.call has.asked;
     says = settled_says law p run now false true None settles (no_text (clash_refusal item o))
+        (says_idle law p run has.command has.call has.asked has.idle (no_text (clash_refusal item o))
         (says_allowed law p run has.command has.call has.asked (no_text (clash_refusal item o)) (commit_allowed run has.command has.asked.next has.commits)
-        (clashed has.command has.revision o item has.clash.unmade.drawn has.clash.ended has.clash.told has.clash.unmade.unmoved));
+        (clashed has.command has.revision o item has.clash.unmade.drawn has.clash.ended has.clash.told has.clash.unmade.unmoved)));
     leaves = settled_leaves law p run now false true None settles has.command has.call (no_text (clash_refusal item o)) has.asked.next has.holds (λ ok. absurd (false≢true ok)) (refused_text (clash_refusal item o)) clash_forgoes.drew_is;
     stands = attached_still law p run has.command has.call has.asked has.clash.unmade.unmoved ∙ sym (settled_attached law p run now false true None settles);
     cursor = cursor_refused p.history.past p.session (no_text (clash_refusal item o)) (has_drawn p) has.call has.command (refused_text (clash_refusal item o))
@@ -166,6 +169,8 @@ moved_tokens c v t (command.Attach id) h = apart due.Attach due.Commit refl h
 moved_tokens c v t command.Detach h = apart due.Detach due.Commit refl h
 moved_tokens c v t (command.Observe p deep mask) h = apart due.Observe due.Commit refl h
 moved_tokens c v t command.Events h = apart due.Events due.Commit refl h
+moved_tokens c v t (command.Split p) h = apart due.Split due.Commit refl h
+moved_tokens c v t command.Collect h = apart due.Collect due.Commit refl h
 moved_tokens c v t m h = apart due.See due.Commit refl h
 
 -- and it is no refusal
@@ -240,10 +245,11 @@ module _ (law : JcrLaw) (p : Shown) (run : SessionRun) (r : Revision) (a : Pledg
       call = moved;
       asked = settled_asked law p (record run { held = held }) now true true (Some a.accepted.tokens) settles here.for.command moved (asked_like law here.for.command moved p run (record run { held = held }) refl refl refl refl refl asked_made);
       says = settled_says law p (record run { held = held }) now true true (Some a.accepted.tokens) settles (accepted_text a.accepted r)
+          (says_idle law p run here.for.command moved asked_made here.idle (accepted_text a.accepted r)
           (says_allowed law p run here.for.command moved asked_made (accepted_text a.accepted r) (commit_allowed run here.for.command here.for.next here.for.commits)
           (subst (λ (t : Text). MaySay law p.history p.session (Allowed here.for.command) t) (sym answer_is)
           (committed here.for.command moved made.made made.base made.draw begun_made ended_made committed_made made.moved
-          (ap (Rattle.jr_rev.specs.Vectors.sees made.base) made.revision ∙ made.seen) made.call)));
+          (ap (Rattle.jr_rev.specs.Vectors.sees made.base) made.revision ∙ made.seen) made.call))));
       leaves = settled_leaves law p (record run { held = held }) now true true (Some a.accepted.tokens) settles here.for.command moved (accepted_text a.accepted r) here.for.next holds
           (λ ok. accepts_by moved held here.for.command (Some a.accepted.tokens) none_set holds (here.for.accepts.tokens ∙ sym (moved_tokens c made.base made.tree here.for.command allowed))) accepts (ap is_some made.drawn);
       stands = made.detached ∙ sym (settled_attached law p (record run { held = held }) now true true (Some a.accepted.tokens) settles ∙ commit_detached run here.for.command here.for.next here.for.commits);

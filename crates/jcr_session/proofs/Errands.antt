@@ -24,7 +24,7 @@ use Rattle.oak_machine.specs.Runs.{IsRun}
 use Rattle.oak_machine.specs.Sessions.{cursor_at, has_left, is_attached, kept_checkpoint, next_index, pinned_at, session_base, since}
 use Rattle.oak_machine.specs.Commits.{is_committed}
 use Rattle.oak_machine.specs.Steps.{is_appended_by, is_kind}
-use Rattle.oak_port.specs.Ports.{AreOfStep, Grows, HasRoom, Idle, IsSessionOn, Makes, Shown, Steps, Work}
+use Rattle.oak_port.specs.Ports.{AreOfStep, Grows, HasRoom, Idle, IsAtRest, IsSessionOn, Makes, Shown, Steps, Work}
 use Rattle.oak_port.specs.declared.task.StepOut.{StepOut}
 use Rattle.oak_port.specs.declared.task.StepOut.TheVariants as out
 use Rattle.oak_port.specs.declared.task.TaskEnd.TheVariants as end
@@ -74,7 +74,7 @@ use Rattle.jcr_run.specs.Standing.{AreInStageOrder, IsAllOut, IsKeptFor, IsOnCom
 use Rattle.jcr_steps.specs.Kept.{kept_for}
 use Rattle.jcr_steps.specs.Kept.{kept_of, reply_of}
 use Rattle.jcr_run.specs.Standing.{stage_at, stage_of}
-use Rattle.jcr_run.proofs.Calling.{is_idle}
+use Rattle.jcr_run.proofs.Telling.{rest_idle}
 use Rattle.jcr_run.proofs.Committing.{own as same_number, same_itself}
 use Rattle.jcr_run.proofs.Cursors.{cursor_settled, has_cursor_over}
 use Rattle.jcr_run.proofs.Lawful.{asked_allowed}
@@ -788,7 +788,7 @@ module _ (law : JcrLaw) (old new : Shown) (answer : StepOut) (run : SessionRun) 
       index = stands.index ∙
           (ap (next_index old.history.past) (sym stands.session) ∙
           (sym (next_beside law old new beside) ∙ ap (next_index new.history.past) (steps.session ∙ stands.session)));
-      idle = (refused_quiet memory).1;
+      rests = rest_idle new.session new.work (refused_quiet memory).1;
       unread = for.unread;
       still = for.fresh.idle;
       next = for.next;
@@ -823,22 +823,22 @@ module _ (law : JcrLaw) (old new : Shown) (answer : StepOut) (run : SessionRun) 
 
 -- a task under way is something that is being done
 pub errand_busy : (law : JcrLaw) (p : Shown) (run : SessionRun) (e : Errand) → Stands law p (record run { phase = phase.Working e }) →
-    p.work ≡ Idle → ⊥
-errand_busy law p run e stands idle = by stands.at.1.command stands.at.1.call p.work
-    (work_case p.history p.session stands.at.1.call stands.at.1.command p.work stands.at.1.works) idle
+    IsAtRest p.work → ⊥
+errand_busy law p run e stands rests = by stands.at.1.command stands.at.1.call p.work
+    (work_case p.history p.session stands.at.1.call stands.at.1.command p.work stands.at.1.works) rests
   where
-    by : (m : Command) (c : Call) (w : Work) → WorkCase p.history p.session c m w → w ≡ Idle → ⊥
-    by _ c _ to_write is = false≢true (ap is_idle is)
-    by _ c _ (publishing r all) is = false≢true (ap is_idle is)
-    by _ c _ to_read is = false≢true (ap is_idle is)
-    by _ c _ (learning u all) is = false≢true (ap is_idle is)
-    by _ c _ to_sweep is = false≢true (ap is_idle is)
-    by _ c _ (passing r all) is = false≢true (ap is_idle is)
-    by _ c _ (sweeping r all has) is = false≢true (ap is_idle is)
-    by _ c _ (to_keep id named counted) is = false≢true (ap is_idle is)
-    by _ c _ (to_release id i same) is = false≢true (ap is_idle is)
-    by _ c _ (to_observe q deep mask within) is = false≢true (ap is_idle is)
-    by _ c _ to_show is = false≢true (ap is_idle is)
+    by : (m : Command) (c : Call) (w : Work) → WorkCase p.history p.session c m w → IsAtRest w → ⊥
+    by _ c _ to_write is = is
+    by _ c _ (publishing r all) is = is
+    by _ c _ to_read is = is
+    by _ c _ (learning u all) is = is
+    by _ c _ to_sweep is = is
+    by _ c _ (passing r all) is = is
+    by _ c _ (sweeping r all has) is = is
+    by _ c _ (to_keep id named counted) is = is
+    by _ c _ (to_release id i same) is = is
+    by _ c _ (to_observe q deep mask within) is = is
+    by _ c _ to_show is = is
 
 -- what a refusal is
 pub memory_is : (answer : StepOut) → IsErrandAnswer answer → came_by answer ≡ coming.Refused → answer ≡ out.Memory

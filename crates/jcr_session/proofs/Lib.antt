@@ -12,4 +12,5 @@ pub mod Pinned
 pub mod Plain
 pub mod Rising
 pub mod Stepping
+pub mod Tidying
 pub mod Undrawn

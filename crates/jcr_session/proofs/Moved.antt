@@ -18,7 +18,7 @@ use Rattle.oak_machine.specs.Laws.{after}
 use Rattle.oak_machine.specs.Runs.{IsRun}
 use Rattle.oak_machine.specs.Sessions.{base_of, is_attached, kept_checkpoint, next_index, refreshed_among, refreshed_since, since}
 use Rattle.oak_machine.specs.Steps.{is_appended_by}
-use Rattle.oak_port.specs.Ports.{Appends, AreOfStep, Detaching, Grows, HasRoom, Idle, IsAskedOf, Makes, MayBegin, OthersAlone, Shown, Starting}
+use Rattle.oak_port.specs.Ports.{Appends, AreOfStep, Detaching, Grows, HasRoom, Idle, IsAskedOf, IsAtRest, Makes, MayBegin, OthersAlone, Shown, Starting}
 use Rattle.oak_port.specs.Ports.{Steps, Work, is_by_due}
 use Rattle.oak_port.specs.declared.task.StepOut.{StepOut}
 use Rattle.oak_port.specs.declared.task.StepOut.TheVariants as out
@@ -56,18 +56,18 @@ use Rattle.jcr_run.specs.declared.run.SessionRun.{SessionRun}
 use Rattle.jcr_run.specs.declared.turn.Turn.{Turn}
 use Rattle.jcr_run.specs.declared.turn.Turn.TheVariants as turn
 use Rattle.jcr_run.specs.Nearing.{IsReply}
-use Rattle.jcr_run.specs.Asked.{IsAsked, MayAnswer, Settles, has_drawn}
+use Rattle.jcr_run.specs.Asked.{IsAsked, MayAnswer, Settles, has_drawn, history_told}
 use Rattle.jcr_session.specs.Begins.{IsTargetNext, IsTargetOf, MayStayHalf}
 use Rattle.jcr_run.specs.Standing.{HasAwaited, HasCounted, IsBeside, IsBetweenCommands, IsDetaching, IsFresh, IsHalfDetached, IsIn}
 use Rattle.jcr_run.specs.Standing.{AreInStageOrder, IsBaseMoved, Stands, StandsAt, due_for, is_allowed, is_attaching, is_moving, is_told_for}
 use Rattle.jcr_run.specs.Standing.{is_revision_written, stage_at}
 use Rattle.jcr_run.proofs.Lawful.{asks_of}
+use Rattle.jcr_run.proofs.Telling.{rest_idle}
 use Rattle.jcr_session.proofs.Bases.{IsBased, attached_base, based_attached, by_event, first_of, first_turn, looked_on, missed_came, refreshed_base}
 use Rattle.jcr_session.proofs.Bases.{says_event, unmoved_then}
 use Rattle.jcr_run.proofs.Committing.{own}
 use Rattle.jcr_run.proofs.Cursors.{cursor_refused}
-use Rattle.jcr_run.proofs.Calling.{is_idle}
-use Rattle.jcr_run.proofs.Lawful.{asked_allowed, at_between, refused_text, settled_leaves}
+use Rattle.jcr_run.proofs.Lawful.{asked_allowed, at_between, refused_text, says_idle, settled_leaves}
 use Rattle.jcr_run.proofs.Nexts.{allowed_due, due_at, next_due, only_attach, only_detach, only_refresh, unattached_runs, detaches_attached}
 use Rattle.jcr_run.proofs.Saying.{asked_like, room_less}
 use Rattle.jcr_run.proofs.Stages.{inside_order, next_is}
@@ -325,10 +325,10 @@ module _ (law : JcrLaw) (old mid new : Shown) (room : Option ℕ) (run : Session
 -- ---- the second step of a detach
 
 -- it is to be made
-pub detaching_busy : (law : JcrLaw) (p : Shown) (run : SessionRun) → Stands law p run → run.phase ≡ phase.Detaching → p.work ≡ Idle → ⊥
-detaching_busy law p run stands detaching idle =
+pub detaching_busy : (law : JcrLaw) (p : Shown) (run : SessionRun) → Stands law p run → run.phase ≡ phase.Detaching → IsAtRest p.work → ⊥
+detaching_busy law p run stands detaching rests =
     let half : IsIn law p run.attached × IsDetaching law p run = subst (λ (f : Phase). StandsAt law p run f) detaching stands.at in
-    false≢true (sym (ap is_idle half.1.works) ∙ ap is_idle idle)
+    subst (λ (w : Work). IsAtRest w) half.1.works rests
 
 quiet_detach : (s : ℕ) → IsQuiet s (event.Detach s ∷ [])
 quiet_detach s = record { left = λ q. refl; next = λ q. refl; attached = λ q. refl; begins = λ q. refl; calls = refl; draws = λ q. refl; pins = λ q h. h; cursor = λ q h. refl }
@@ -512,7 +512,7 @@ module _ (law : JcrLaw) (p : Shown) (run : SessionRun) (may : MayStayHalf law p 
     few = may.few;
     commands = may.commands;
     index = may.index;
-    idle = may.idle;
+    rests = rest_idle p.session p.work may.idle;
     unread = may.half.unread;
     still = may.half.fresh.idle;
     next = may.half.next;
@@ -541,7 +541,8 @@ module _ (law : JcrLaw) (p : Shown) (run : SessionRun) (may : MayStayHalf law p 
             index
             (ap (λ (r : SessionRun). r.fetch) same ∙ ap (λ (r : SessionRun). r.fetch) settles.same)
             refl asked_half;
-        says = subst (λ (i : ℕ). SaysBy law p.history p.session i memory_text) (sym index) says_half;
+        says = subst (λ (i : ℕ). SaysBy law (history_told p) p.session i memory_text) (sym index)
+            (says_idle law p run may.half.command c asked_half may.idle memory_text says_half);
         leaves = subst (λ (h : Held). Holds (call_after (is_ok_text memory_text) (has_drawn p) c may.half.command) h) (sym (ap (λ (r : SessionRun). r.held) same))
             (settled_leaves law p (record run { held = held }) settled false false None settles may.half.command c memory_text may.half.next holds (λ ok. absurd (false≢true ok))
             (answer_accepts (Refused 16 [])) (ap is_some may.half.fresh.first));

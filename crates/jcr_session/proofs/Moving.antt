@@ -4,7 +4,7 @@ use Rattle.std.specs.Prelude.{slice_get}
 use mathlib.Core.Bool.{false≢true}
 use Rattle.oak_machine.specs.History.{Past}
 use Rattle.oak_machine.specs.Sessions.{has_left, has_login}
-use Rattle.oak_port.specs.Ports.{Awaiting, Deciding, Detaching, Idle, Learning, Passing, Publishing, Shown, Starting, Sweeping, Undoing, Work, Writing}
+use Rattle.oak_port.specs.Ports.{Awaiting, Collecting, Deciding, Detaching, Idle, Learning, Passing, Publishing, Shown, Starting, Sweeping, Telling, Undoing, Work, Writing}
 use Rattle.oak_commit.specs.declared.outcome.CommitEnd.{CommitEnd}
 use Rattle.oak_commit.specs.declared.outcome.CommitEnd.TheVariants as commit
 use Rattle.jcr_trans.specs.declared.command.Command.{Command}
@@ -42,6 +42,8 @@ still_there past s (Publishing r) h = absurd h
 still_there past s (Learning u) h = absurd h
 still_there past s (Passing r) h = absurd h
 still_there past s (Sweeping r) h = absurd h
+still_there past s Collecting h = absurd h
+still_there past s (Telling e) h = absurd h
 still_there past s (Detaching v) h = absurd h
 
 module _ (law : JcrLaw) (p : Shown) (run : SessionRun) (stands : Stands law p run) (login : has_login p.history.past p.session ≡ true) (stays : has_left p.history.past p.session ≡ false) (moved : is_unmoved p.history.past p.session ≡ false) where
@@ -63,6 +65,8 @@ module _ (law : JcrLaw) (p : Shown) (run : SessionRun) (stands : Stands law p ru
   by_phase (phase.Committed e a) h = by_commit h.1.call e h.1.ended
   by_phase (phase.Working e) h = never h.1.unmoved
   by_phase (phase.Told t) h = never h.1.unmoved
+  by_phase phase.Tidying h = never h.1.unmoved
+  by_phase (phase.Tidied t) h = never h.1.unmoved
   by_phase phase.Over h = absurd (false≢true (sym stays ∙ h.left))
 
   pub base_moves : MovesBase law p.history p.session

@@ -1,5 +1,5 @@
 -- Turns bring a session nearer to its end.
-use Rattle.std.proofs.Common.{◌≡◌, ◌⊎◌, inl, inr, ℕ, ◌<◌, ◌≤◌, ◌-◌, ◌+◌, ◌*◌, Bool, true, false, ◌||◌, is_some, List, ◌∷◌, ◌++◌, length}
+use Rattle.std.proofs.Common.{◌≡◌, ◌⊎◌, inl, inr, ℕ, ◌<◌, ◌≤◌, ◌-◌, ◌+◌, ◌*◌, Bool, true, false, ◌||◌, is_some, List, [], ◌∷◌, ◌++◌, length}
 use Rattle.std.proofs.Common.{refl, sym, ap, ◌∙◌, subst, arith}
 use mathlib.Core.Bool.{false≢true}
 use Rattle.oak_machine.specs.declared.event.Event.TheVariants as event
@@ -29,9 +29,9 @@ use Rattle.jcr_steps.specs.declared.errand.Told.{Told}
 use Rattle.jcr_steps.specs.declared.errand.Told.TheVariants as told
 use Rattle.jcr_steps.specs.Answered.{IsErrandAnswer, told_by}
 use Rattle.jcr_session.specs.Phases.{phase_by, phase_came, turn_by, turn_came}
-use Rattle.jcr_run.specs.Nearing.{BringsNearer, ComesNearer, EndsOrStays, EndsSooner, HasNeared, IsReply, ReadsOn, StaysBehindStep, StepsOn, WorksSooner}
+use Rattle.jcr_run.specs.Nearing.{BeginsNearer, BringsNearer, ComesNearer, EndsOrStays, EndsSooner, HasNeared, IsReply, ReadsOn, StaysBehindStep, StepsOn, WorksSooner}
 use Rattle.jcr_run.specs.Nearing.{turns_left, stages_left}
-use Rattle.jcr_run.specs.Standing.{HasCounted, HasTurned, IsSame, Stands, is_committing, is_detaching, is_on_errand, is_working, may_read}
+use Rattle.jcr_run.specs.Standing.{AreEnds, HasCounted, HasTurned, IsSame, Stands, is_committing, is_detaching, is_on_errand, is_saving, is_tidying, is_working, may_read}
 use Rattle.jcr_run.proofs.Nearing.{memory_sooner, sooner_by}
 use Rattle.jcr_run.proofs.Nexts.{reads_between}
 
@@ -52,6 +52,8 @@ few_stages (phase.Committing a) = let lt : 2 < 5 = omega arith in lt
 few_stages (phase.Committed e a) = let lt : 1 < 5 = omega arith in lt
 few_stages (phase.Working e) = let lt : 2 < 5 = omega arith in lt
 few_stages (phase.Told t) = let lt : 1 < 5 = omega arith in lt
+few_stages phase.Tidying = let lt : 2 < 5 = omega arith in lt
+few_stages (phase.Tidied t) = let lt : 1 < 5 = omega arith in lt
 few_stages (phase.Moved v) = let lt : 1 < 5 = omega arith in lt
 few_stages phase.Detaching = let lt : 2 < 5 = omega arith in lt
 few_stages phase.Over = let lt : 0 < 5 = omega arith in lt
@@ -97,6 +99,8 @@ committing_less phase.Detaching h = absurd (false≢true h)
 committing_less (phase.Committed e a) h = absurd (false≢true h)
 committing_less (phase.Working e) h = absurd (false≢true h)
 committing_less (phase.Told t) h = absurd (false≢true h)
+committing_less phase.Tidying h = absurd (false≢true h)
+committing_less (phase.Tidied t) h = absurd (false≢true h)
 committing_less phase.Over h = absurd (false≢true h)
 
 pub pledged_steps : (run mid now : SessionRun) (t : Turn) → run.phase ≡ phase.Between → mid.commands ≡ run.commands → mid.index ≡ run.index → is_committing mid.phase ≡ true → StaysBehindStep mid now t → StepsOn ⊥ (turns_left run) (turns_left now) t
@@ -163,6 +167,10 @@ module _ (run : SessionRun) (e : Errand) where
   begun_steps sooner now turn.Memory between h = tt
 
 -- a reply ends it
+-- what is as much is no more
+same_left : (a b : SessionRun) → turns_left a ≡ turns_left b → turns_left a ≤ turns_left b
+same_left a b same = omega arith
+
 pub reply_ends : (sooner : Type 0) (old new : SessionRun) (t : Turn) → IsReply t → EndsOrStays sooner old new t
 reply_ends sooner old new (turn.Said i) h = tt
 reply_ends sooner old new turn.Memory h = tt
@@ -173,7 +181,7 @@ pub worked_steps : (before later : ℕ) (p : Shown) (run now : SessionRun) (t : 
     (EndsSooner before later p) run now t → StepsOn (WorksSooner before later p run) (turns_left run) (turns_left now) t
 worked_steps before later p run now (turn.Stepped k) works (inl less) = inl less
 worked_steps before later p run now (turn.Stepped k) works (inr same) = inr
-    (ap turns_left same.0, (ap (λ (b : Bool). b || is_detaching run.phase) (both (is_committing run.phase) works), same.1))
+    (ap turns_left same.0, (ap (λ (b : Bool). b || is_detaching run.phase || is_tidying run.phase) (both (is_committing run.phase) works), same.1))
   where
     both : (a : Bool) {b : Bool} → b ≡ true → (a || b) ≡ true
     both true h = refl
@@ -222,16 +230,16 @@ module _ (old new : Shown) (run now : SessionRun) (a : Pledge) (commits : run.ph
       (subst (λ (x : SessionRun). StepsOn sooner (turns_left x) (turns_left (record run { phase = phase_by answer (phase.Committing a) })) (turn_by answer)) same_run (goes run a sooner answer soon)))
 
   -- a look ends sooner
-  reads_so : (law : JcrLaw) (sooner : Type 0) (answer : StepOut) (t : Turn) → t ≡ turn_by answer → IsWait answer ⊎ sooner → ReadsOn sooner law old run now t
-  reads_so law sooner answer t turns soon = subst (λ (x : Turn). ReadsOn sooner law old run now x) (sym turns) (by answer soon)
+  reads_so : (law : JcrLaw) (sooner : Type 0) (answer : StepOut) (t : Turn) → now ≡ record run { phase = phase_by answer run.phase } → t ≡ turn_by answer → IsWait answer ⊎ sooner → ReadsOn sooner law old run now t
+  reads_so law sooner answer t is turns soon = subst (λ (x : Turn). ReadsOn sooner law old run now x) (sym turns) (by answer is soon)
     where
-      by : (x : StepOut) → IsWait x ⊎ sooner → ReadsOn sooner law old run now (turn_by x)
-      by (out.Went kind.Read) (inr soon) = subst (λ (f : Phase). BringsNearer (is_committing f) sooner law old run now) (sym commits) soon
-      by (out.Went kind.Read) (inl wait) = absurd wait
-      by (out.Went k) h = tt
-      by (out.Ready (end.Commit e)) h = tt
-      by (out.Wait q) h = tt
-      by x h = tt
+      by : (x : StepOut) → now ≡ record run { phase = phase_by x run.phase } → IsWait x ⊎ sooner → ReadsOn sooner law old run now (turn_by x)
+      by (out.Went kind.Read) is (inr soon) = subst (λ (f : Phase). BringsNearer (is_working f) sooner law old run now) (sym commits) (soon, same_left now run (ap turns_left is))
+      by (out.Went kind.Read) is (inl wait) = absurd wait
+      by (out.Went k) is h = tt
+      by (out.Ready (end.Commit e)) is h = tt
+      by (out.Wait q) is h = tt
+      by x is h = tt
 
   -- it commits
   by_commit : (before later : ℕ) (answer : StepOut) → IsWait answer ⊎ EndsSooner before later old → IsWait answer ⊎ WorksSooner before
@@ -273,15 +281,37 @@ module _ (old new : Shown) (run now : SessionRun) (a : Pledge) (commits : run.ph
         (by_commit before later answer (twice_sooner starts_later says_later before between later mid first answer memory once lowers twice lowers_later))
 
     -- a look ends sooner
-    pub once_reads : (law : JcrLaw) (before later : ℕ) (answer : StepOut) (t : Turn) → Steps starts says old new answer → LastsLess before later old new answer → t ≡ turn_by answer → ReadsOn (EndsSooner before later old) law old run now t
-    once_reads law before later answer t steps lowers turns = reads_so law (EndsSooner before later old) answer t turns (sooner_by starts says old new answer steps before later lowers)
+    pub once_reads : (law : JcrLaw) (before later : ℕ) (answer : StepOut) (t : Turn) → Steps starts says old new answer → LastsLess before later old new answer → now ≡ record run { phase = phase_by answer run.phase } → t ≡ turn_by answer → ReadsOn (EndsSooner before later old) law old run now t
+    once_reads law before later answer t steps lowers is turns = reads_so law (EndsSooner before later old) answer t is turns (sooner_by starts says old new answer steps before later lowers)
 
     pub twice_reads : (law : JcrLaw) (starts_later : Starts) (says_later : Says) (before between later : ℕ) (mid : Shown) (first answer : StepOut) (t : Turn) → first ≡ out.Memory → Steps starts says old mid first → LastsLess before between old mid first
-        → Steps starts_later says_later mid new answer → LastsLess between later mid new answer → t ≡ turn_by answer → ReadsOn (EndsSooner before later old) law old run now t
-    twice_reads law starts_later says_later before between later mid first answer t memory once lowers twice lowers_later turns =
-        reads_so law (EndsSooner before later old) answer t turns (twice_sooner starts_later says_later before between later mid first answer memory once lowers twice lowers_later)
+        → Steps starts_later says_later mid new answer → LastsLess between later mid new answer → now ≡ record run { phase = phase_by answer run.phase } → t ≡ turn_by answer → ReadsOn (EndsSooner before later old) law old run now t
+    twice_reads law starts_later says_later before between later mid first answer t memory once lowers twice lowers_later is turns =
+        reads_so law (EndsSooner before later old) answer t is turns (twice_sooner starts_later says_later before between later mid first answer memory once lowers twice lowers_later)
 
 -- ---- a turn
+
+-- a session that splits or collects isn't in its commit
+pub tidying_unsaving : {A : Type 0} (f : Phase) → is_tidying f ≡ true → is_saving f ≡ true → A
+tidying_unsaving phase.Tidying tidies saves = absurd (false≢true saves)
+tidying_unsaving phase.Outside tidies saves = absurd (false≢true tidies)
+tidying_unsaving phase.Between tidies saves = absurd (false≢true tidies)
+tidying_unsaving (phase.Moved v) tidies saves = absurd (false≢true tidies)
+tidying_unsaving phase.Detaching tidies saves = absurd (false≢true tidies)
+tidying_unsaving (phase.Committing a) tidies saves = absurd (false≢true tidies)
+tidying_unsaving (phase.Committed e a) tidies saves = absurd (false≢true tidies)
+tidying_unsaving (phase.Working e) tidies saves = absurd (false≢true tidies)
+tidying_unsaving (phase.Told t) tidies saves = absurd (false≢true tidies)
+tidying_unsaving (phase.Tidied t) tidies saves = absurd (false≢true tidies)
+tidying_unsaving phase.Over tidies saves = absurd (false≢true tidies)
+
+-- how a split or a collection ended is no reply
+ended_next : (s : ℕ) (ended past : Past) (n : ℕ) → AreEnds s ended → next_index (ended ++ past) n ≡ next_index past n
+ended_next s [] past n are = refl
+ended_next s (event.Split t p e ∷ []) past n are = refl
+ended_next s (event.Collected t c ∷ []) past n are = refl
+ended_next s (e ∷ []) past n are = absurd (false≢true are)
+ended_next s (e ∷ f ∷ ended) past n are = absurd are
 
 -- a reply that was said is one that is not left
 said_less : (law : JcrLaw) (old new : Shown) (run now : SessionRun) (j : ℕ) → Stands law old run → HasCounted law old new run now (turn.Said j) → turns_left now < turns_left run
@@ -296,9 +326,10 @@ said_less law old new run now j stands turned = fewer_by (length now.commands - 
     counted : next_index new.history.past run.session ≡ run.index + 1
     counted =
         ap (λ (h : History). next_index h.past run.session) grown
-        ∙ (ap (λ (own : Past). next_index (own ++ behind) run.session) turned.tells.2
-        ∙ (subst (λ (s : ℕ). next_index (event.Said s run.index turned.tells.1 ∷ behind) run.session ≡ next_index behind run.session + 1) (sym stands.session) (next_reply behind run.session run.index turned.tells.1)
-        ∙ ap (λ (n : ℕ). n + 1) (subst (λ (s : ℕ). next_index behind s ≡ next_index old.history.past s) stands.session (next_stays behind turned.others old.history.past old.session turned.grows.theirs) ∙ sym stands.index)))
+        ∙ (ap (λ (own : Past). next_index (own ++ behind) run.session) turned.tells.4
+        ∙ (subst (λ (s : ℕ). next_index (event.Said s run.index turned.tells.1 ∷ (turned.tells.2 ++ behind)) run.session ≡ next_index (turned.tells.2 ++ behind) run.session + 1) (sym stands.session) (next_reply (turned.tells.2 ++ behind) run.session run.index turned.tells.1)
+        ∙ (ap (λ (n : ℕ). n + 1) (ended_next old.session turned.tells.2 behind run.session turned.tells.3)
+        ∙ ap (λ (n : ℕ). n + 1) (subst (λ (s : ℕ). next_index behind s ≡ next_index old.history.past s) stands.session (next_stays behind turned.others old.history.past old.session turned.grows.theirs) ∙ sym stands.index))))
 
     index_now : now.index ≡ run.index + 1
     index_now = turned.stands.index ∙ (ap (next_index new.history.past) turned.same.0 ∙ counted)
@@ -329,7 +360,16 @@ commit_nearer law old new run now sooner turn.Memory stands turned h = tt
 
 -- a reading step before a command is none inside a commit
 pub reads_nearer : (law : JcrLaw) (old : Shown) (run now : SessionRun) (sooner : Type 0) → may_read run ≡ true → HasNeared sooner law old run now → ReadsOn sooner law old run now turn.Read
-reads_nearer law old run now sooner reads nears = subst (λ (b : Bool). BringsNearer b sooner law old run now) (sym (ap is_committing (reads_between run reads))) nears
+reads_nearer law old run now sooner reads nears = subst (λ (b : Bool). BringsNearer b sooner law old run now) (sym (ap is_working (reads_between run reads))) (inl nears)
+
+-- one that begins a split leaves fewer stages
+pub begins_reads : (law : JcrLaw) (old : Shown) (run now : SessionRun) (sooner : Type 0) (t : Turn) → run.phase ≡ phase.Between → BeginsNearer (turns_left run) (turns_left now) t → ReadsOn sooner law old run now t
+begins_reads law old run now sooner turn.Read between less = subst (λ (b : Bool). BringsNearer b sooner law old run now) (sym (ap is_working between)) (inr less)
+begins_reads law old run now sooner (turn.Said j) between less = tt
+begins_reads law old run now sooner (turn.Stepped k) between less = tt
+begins_reads law old run now sooner (turn.Waiting q) between less = tt
+begins_reads law old run now sooner turn.Ended between less = tt
+begins_reads law old run now sooner turn.Memory between less = tt
 
 -- a counted turn reads nothing
 pub counted_reads : (law : JcrLaw) (old new : Shown) (run now : SessionRun) (sooner : Type 0) (t : Turn) → HasCounted law old new run now t → ReadsOn sooner law old run now t
@@ -339,6 +379,14 @@ counted_reads law old new run now sooner (turn.Waiting q) turned = tt
 counted_reads law old new run now sooner turn.Read turned = absurd turned.tells
 counted_reads law old new run now sooner turn.Ended turned = tt
 counted_reads law old new run now sooner turn.Memory turned = tt
+
+pub counted_begins : (law : JcrLaw) (old new : Shown) (run now : SessionRun) (before later : ℕ) (t : Turn) → HasCounted law old new run now t → BeginsNearer before later t
+counted_begins law old new run now before later (turn.Said j) turned = tt
+counted_begins law old new run now before later (turn.Stepped k) turned = tt
+counted_begins law old new run now before later (turn.Waiting q) turned = tt
+counted_begins law old new run now before later turn.Read turned = absurd turned.tells
+counted_begins law old new run now before later turn.Ended turned = tt
+counted_begins law old new run now before later turn.Memory turned = tt
 
 pub counted_turns : (law : JcrLaw) (old new : Shown) (run now : SessionRun) (t : Turn) → HasCounted law old new run now t → HasTurned law old new run now t
 counted_turns law old new run now (turn.Said j) turned = turned

@@ -1,5 +1,5 @@
 -- Each step of a commit leaves its session where the history says.
-use Rattle.std.proofs.Common.{◌≡◌, ◌⊎◌, inl, inr, ℕ, ◌≤◌, Bool, true, false, cond, None, Some, Option, List, [], ◌∷◌, ◌++◌, refl, sym, ap, ◌∙◌, subst, arith}
+use Rattle.std.proofs.Common.{◌≡◌, ◌⊎◌, ◌||◌, inl, inr, ℕ, ◌≤◌, Bool, true, false, cond, None, Some, Option, List, [], ◌∷◌, ◌++◌, refl, sym, ap, ◌∙◌, subst, arith}
 use Rattle.std.specs.Prelude.{reverse, slice_get}
 use Rattle.std.specs.List.{list_any}
 use mathlib.Core.Bool.{false≢true}
@@ -16,8 +16,8 @@ use Rattle.oak_machine.specs.Runs.{AreNodes, IsRun}
 use Rattle.oak_machine.specs.Sessions.{base_of, has_left, has_login, is_attached, is_login_of, next_index, refreshed_since}
 use Rattle.oak_machine.specs.Steps.{is_appended_by, is_kind}
 use Rattle.oak_machine.proofs.Stays.{any_later}
-use Rattle.oak_port.specs.Ports.{AreOfStep, Awaiting, Deciding, Detaching, Grows, Idle, IsFinish, Learning, Makes, Passing, Publishing, Shown, Sweeping}
-use Rattle.oak_port.specs.Ports.{ReadsAsDue, Starting, Steps, Undoing, Work, Writing, WritesOn, is_by_due, is_due}
+use Rattle.oak_port.specs.Ports.{AreOfStep, Awaiting, Collecting, Deciding, Detaching, Grows, Idle, IsAtRest, IsFinish, Learning, Makes, Passing, Publishing, Shown, Sweeping}
+use Rattle.oak_port.specs.Ports.{ReadsAsDue, Starting, Steps, Telling, Undoing, Work, Writing, WritesOn, is_by_due, is_due}
 use Rattle.oak_commit.specs.declared.outcome.CommitEnd.{CommitEnd}
 use Rattle.oak_commit.specs.declared.outcome.CommitEnd.TheVariants as commit
 use Rattle.oak_port.specs.declared.task.StepOut.{StepOut}
@@ -40,7 +40,7 @@ use Rattle.jcr_run.specs.declared.turn.Turn.{Turn}
 use Rattle.jcr_run.specs.declared.turn.Turn.TheVariants as turn
 use Rattle.jcr_steps.specs.Answered.{kind_of_end}
 use Rattle.jcr_session.specs.Phases.{phase_by, turn_by}
-use Rattle.jcr_run.specs.Standing.{HasAwaited, HasCommitted, HasDrawnFor, HasCounted, HasLookedBack, HasTurned, IsBeside, IsCalled, IsCommitting, IsFor, IsIn, IsInCommit, AreInStageOrder, IsMade, IsMadeFor, IsPlace, IsSeenFor, IsStep, IsToldEnd, IsTurned, KeepsCursor, Stands, StandsAt, Tells, is_between, is_committing, is_revision_written, may_read, stage_at, stage_of}
+use Rattle.jcr_run.specs.Standing.{HasAwaited, HasCommitted, HasDrawnFor, HasCounted, HasLookedBack, HasTurned, IsBeside, IsCalled, IsCommitting, IsFor, IsIn, IsInCommit, AreInStageOrder, is_tidying, IsMade, IsMadeFor, IsPlace, IsSeenFor, IsStep, IsToldEnd, IsTurned, KeepsCursor, Stands, StandsAt, Tells, is_between, is_committing, is_revision_written, may_read, stage_at, stage_of}
 use Rattle.jcr_run.proofs.Cursors.{cursor_moved, has_cursor_over}
 use Rattle.jcr_run.proofs.Committing.{clash_end, committing_finish, committing_undo, committing_write, own, still_moved, unmade_end}
 use Rattle.jcr_session.proofs.Drawing.{commit_commits}
@@ -112,7 +112,7 @@ module _ (law : JcrLaw) (old new : Shown) (answer : StepOut) (run : SessionRun) 
     at = at;
   }
 
-  stands_quiet : (f : Phase) → next_index (steps.own ++ moment.past) old.session ≡ next_index moment.past old.session → StandsAt law new (record run { phase = f }) f → Stands law new (record run { phase = f })
+  pub stands_quiet : (f : Phase) → next_index (steps.own ++ moment.past) old.session ≡ next_index moment.past old.session → StandsAt law new (record run { phase = f }) f → Stands law new (record run { phase = f })
   stands_quiet f next at = stands_with run.held f next at
 
   -- the step is a turn, behind which this is held
@@ -312,7 +312,7 @@ module _ (law : JcrLaw) (old new : Shown) (answer : StepOut) (run : SessionRun) 
 
     step_by : (work : Work) (x : StepOut) → old.work ≡ work → IsCommitting old.history.past old.session work
         → Makes moment old.session work x steps.own new.work → AreOfStep moment old.session work x steps.own → ((r : Revision) → work ≡ Writing r → ReadsAsDue (is_due kind.Read old.due) x steps.own) → Turned x
-    step_by (Writing r) (out.Went kind.Read) at committing m told reads = inr (looks_back r at committing m (reads r refl))
+    step_by (Writing r) (out.Went kind.Read) at committing m told reads = inr (inl (looks_back r at committing m (reads r refl)))
     step_by (Writing r) (out.Went k) at committing m told reads =
         let quiet = quiet_write old.session r k steps.own new.work m in
         turned_quiet (phase.Committing a) (turn.Stepped k) (told, one_write old.session r k steps.own new.work (λ e. cc) m)
@@ -367,6 +367,8 @@ module _ (law : JcrLaw) (old new : Shown) (answer : StepOut) (run : SessionRun) 
     step_by (Learning u) x at committing m told reads = absurd committing
     step_by (Passing r) x at committing m told reads = absurd committing
     step_by (Sweeping r) x at committing m told reads = absurd committing
+    step_by Collecting x at committing m told reads = absurd committing
+    step_by (Telling e) x at committing m told reads = absurd committing
     step_by (Detaching v) x at committing m told reads = absurd committing
 
     -- a step of a commit is a turn
@@ -412,6 +414,8 @@ module _ (law : JcrLaw) (old new : Shown) (answer : StepOut) (run : SessionRun) 
     refused_by (Learning u) committing m = absurd committing
     refused_by (Passing r) committing m = absurd committing
     refused_by (Sweeping r) committing m = absurd committing
+    refused_by Collecting committing m = absurd committing
+    refused_by (Telling e) committing m = absurd committing
     refused_by (Detaching v) committing m = absurd committing
 
     refused : answer ≡ out.Memory → IsRefusedStep old.work
@@ -453,7 +457,8 @@ commit_twice law old mid new answer run now t a stands commits first second is t
 
     by : (Stands law mid run × IsBeside law old mid × Link old mid) → is_revision_written mid.work ≡ false → (x : Turn) → HasTurned law mid new run now x → HasTurned law old new run now x
     by r writes turn.Read (inl h) = absurd (never_reads h.1)
-    by r writes turn.Read (inr h) = absurd (false≢true (sym writes ∙ h.writes))
+    by r writes turn.Read (inr (inl h)) = absurd (false≢true (sym writes ∙ h.writes))
+    by r writes turn.Read (inr (inr h)) = absurd (false≢true (sym (ap (λ (f : Phase). is_between f || is_tidying f) commits) ∙ h.before))
     by r writes turn.Memory h = tt
     by r writes (turn.Said j) h = later r (turn.Said j) h
     by r writes (turn.Stepped k) h = later r (turn.Stepped k) h
@@ -461,17 +466,21 @@ commit_twice law old mid new answer run now t a stands commits first second is t
     by r writes turn.Ended h = later r turn.Ended h
 
 -- a commit under way is something that is being done
-pub commit_busy : (law : JcrLaw) (p : Shown) (run : SessionRun) (a : Pledge) → Stands law p run → run.phase ≡ phase.Committing a → p.work ≡ Idle → ⊥
-commit_busy law p run a stands commits idle =
-    subst (λ (w : Work). IsCommitting p.history.past p.session w) idle (subst (λ (f : Phase). StandsAt law p run f) commits stands.at).1.commits
+pub commit_busy : (law : JcrLaw) (p : Shown) (run : SessionRun) (a : Pledge) → Stands law p run → run.phase ≡ phase.Committing a → IsAtRest p.work → ⊥
+commit_busy law p run a stands commits rests = by p.work rests (subst (λ (f : Phase). StandsAt law p run f) commits stands.at).1.commits
+  where
+    by : (w : Work) → IsAtRest w → IsCommitting p.history.past p.session w → ⊥
+    by Idle h committing = committing
+    by (Telling e) h committing = committing
+    by w h committing = absurd h
 
 -- a commit that was refused memory goes on
 pub refused_stands : (law : JcrLaw) (old mid : Shown) (run : SessionRun) (a : Pledge) → Stands law old run → run.phase ≡ phase.Committing a → Steps (starts_of law) (says_of law) old mid out.Memory → Stands law mid run
 refused_stands law old mid run a stands commits first = (commit_refused law old mid out.Memory run stands (inside_commit law old run a stands commits) first a commits refl).0
 
-pub refused_busy : (law : JcrLaw) (old mid : Shown) (run : SessionRun) (a : Pledge) → Stands law old run → run.phase ≡ phase.Committing a → Steps (starts_of law) (says_of law) old mid out.Memory → mid.work ≡ Idle → ⊥
-refused_busy law old mid run a stands commits first idle =
-    commit_busy law mid run a (refused_stands law old mid run a stands commits first) commits idle
+pub refused_busy : (law : JcrLaw) (old mid : Shown) (run : SessionRun) (a : Pledge) → Stands law old run → run.phase ≡ phase.Committing a → Steps (starts_of law) (says_of law) old mid out.Memory → IsAtRest mid.work → ⊥
+refused_busy law old mid run a stands commits first rests =
+    commit_busy law mid run a (refused_stands law old mid run a stands commits first) commits rests
 
 -- a step of a commit for which memory was refused, and one more
 pub memory_first : (law : JcrLaw) (old mid : Shown) (answer : StepOut) → answer ≡ out.Memory → Steps (starts_of law) (says_of law) old mid answer → Steps (starts_of law) (says_of law) old mid out.Memory

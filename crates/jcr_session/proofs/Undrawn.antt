@@ -14,8 +14,8 @@ use Rattle.oak_machine.specs.History.{History, Past}
 use Rattle.oak_machine.specs.Commits.{draw_of}
 use Rattle.oak_machine.specs.Laws.{AreOthers, Says, Starts, after, is_revision_of}
 use Rattle.oak_machine.proofs.Induction.{neither}
-use Rattle.oak_port.specs.Ports.{Awaiting, Deciding, Detaching, Idle, IsFinish, Learning, Makes, Passing, Publishing, Shown, Starting, Steps, Sweeping}
-use Rattle.oak_port.specs.Ports.{Undoing, Work, Writing, WritesOn}
+use Rattle.oak_port.specs.Ports.{Awaiting, Collecting, Deciding, Detaching, Idle, IsFinish, Learning, Makes, Passing, Publishing, Shown, Starting, Steps, Sweeping}
+use Rattle.oak_port.specs.Ports.{Telling, Undoing, Work, Writing, WritesOn}
 use Rattle.oak_port.specs.declared.task.StepOut.{StepOut}
 use Rattle.oak_port.specs.declared.task.StepOut.TheVariants as out
 use Rattle.oak_port.specs.declared.task.TaskEnd.TheVariants as end
@@ -27,7 +27,7 @@ use Rattle.jcr_run.specs.declared.run.SessionRun.{SessionRun}
 use Rattle.jcr_run.specs.declared.turn.Turn.{Turn}
 use Rattle.jcr_run.specs.declared.turn.Turn.TheVariants as turn
 use Rattle.jcr_run.specs.Nearing.{DrawsNoOther, IsReply}
-use Rattle.jcr_run.specs.Standing.{HasCounted, IsCommitting, IsGranted, Stands, StandsAt}
+use Rattle.jcr_run.specs.Standing.{AreEnds, HasCounted, IsCommitting, IsGranted, Stands, StandsAt}
 use Rattle.jcr_run.proofs.Others.{is_draw_of, no_draws}
 
 -- ---- events with no draw of a session
@@ -88,6 +88,8 @@ made_undrawn n past h s (Publishing r) x own v c m = absurd c
 made_undrawn n past h s (Learning u) x own v c m = absurd c
 made_undrawn n past h s (Passing r) x own v c m = absurd c
 made_undrawn n past h s (Sweeping r) x own v c m = absurd c
+made_undrawn n past h s Collecting x own v c m = absurd c
+made_undrawn n past h s (Telling e) x own v c m = absurd c
 made_undrawn n past h s (Detaching u) x own v c m = absurd c
 
 pub step_undrawn : (law : JcrLaw) (old new : Shown) (run : SessionRun) (a : Pledge) → Stands law old run → run.phase ≡ phase.Committing a → (starts : Starts) (says : Says) (answer : StepOut) → Steps starts says old new answer → DrawsNoOther old new
@@ -98,9 +100,18 @@ step_undrawn law old new run a stands commits starts says answer steps =
 
 -- ---- a reply
 
+-- how a split or a collection ended draws nothing
+ends_undrawn : (n s : ℕ) (ended : Past) → AreEnds s ended → list_any (is_draw_of n) ended ≡ false
+ends_undrawn n s [] are = refl
+ends_undrawn n s (event.Split t p e ∷ []) are = refl
+ends_undrawn n s (event.Collected t c ∷ []) are = refl
+ends_undrawn n s (e ∷ []) are = absurd (false≢true are)
+ends_undrawn n s (e ∷ f ∷ ended) are = absurd are
+
 pub reply_undrawn : (law : JcrLaw) (old new : Shown) (run now : SessionRun) (t : Turn) → Stands law old run → IsReply t → IsGranted t → HasCounted law old new run now t → DrawsNoOther old new
 reply_undrawn law old new run now (turn.Said j) stands reply granted turned =
     draws_none old new turned.others turned.own turned.grows.grown (turned.stands.session ∙ (turned.same.0 ∙ sym stands.session)) turned.grows.theirs
-    (events_are old.session turned.own (event.Said old.session run.index turned.tells.1 ∷ []) turned.tells.2 refl)
+    (events_are old.session turned.own (event.Said old.session run.index turned.tells.1 ∷ turned.tells.2) turned.tells.4
+    (ends_undrawn old.session old.session turned.tells.2 turned.tells.3))
 reply_undrawn law old new run now turn.Memory stands reply granted turned = absurd granted
 reply_undrawn law old new run now t stands reply granted turned = absurd reply

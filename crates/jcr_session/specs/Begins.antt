@@ -52,7 +52,7 @@ use Rattle.jcr_steps.specs.Kept.{HasPlace}
 use Rattle.jcr_run.specs.Standing.{AreSince, HasCursor, IsClash, IsHalfDetached, IsIn}
 use Rattle.jcr_run.specs.Standing.{IsKeptFor, IsPlace, due_for, is_errand}
 use Rattle.jcr_steps.specs.Kept.{kept_for, reply_of}
-use Rattle.jcr_run.specs.Asked.{IsAsked, MaySettle, has_drawn}
+use Rattle.jcr_run.specs.Asked.{IsAsked, MaySettle, has_drawn, history_told}
 
 -- ---- a move of the base
 
@@ -87,6 +87,7 @@ pub record MayDrawFor (law : JcrLaw) (p : Shown) (run : SessionRun) (plan : Plan
   pub command : Command
   pub call : Call
   pub asked : IsAsked law p run command call
+  pub idle : p.work ≡ Idle
   pub first : drawn_since p.history.past p.session ≡ None
   pub unmoved : IsUnmoved p.history p.session
   pub unpinned : IsUnpinned p.history p.session
@@ -117,6 +118,7 @@ pub record HasClashed (law : JcrLaw) (p : Shown) (run : SessionRun) (item : Item
   pub command : Command
   pub call : Call
   pub asked : IsAsked law p run command call
+  pub idle : p.work ≡ Idle
   pub revision : Revision
   pub clash : IsClash p.history.past p.session revision (commit.Clash item o)
   pub commits : due_for run ≡ due.Commit
@@ -132,7 +134,7 @@ pub record MayObserve (law : JcrLaw) (p : Shown) (run : SessionRun) (filter : Fi
   pub command : Command
   pub call : Call
   pub asked : IsAsked law p run command call
-  pub says : SaysBy law p.history p.session run.index (answer_text Done)
+  pub says : SaysBy law (history_told p) p.session run.index (answer_text Done)
   pub first : has_drawn p ≡ false
   pub unmoved : IsUnmoved p.history p.session
   pub cursor : HasCursor p.history.past p.session (call_after true false call command)
@@ -186,6 +188,7 @@ pub record MaySetOut (law : JcrLaw) (p : Shown) (run : SessionRun) (t : Task) (e
   pub command : Command
   pub call : Call
   pub asked : IsAsked law p run command call
+  pub idle : p.work ≡ Idle
   pub between : run.phase ≡ phase.Between
   pub first : drawn_since p.history.past p.session ≡ None
   pub unmoved : IsUnmoved p.history p.session

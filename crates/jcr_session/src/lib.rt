@@ -11,6 +11,7 @@ mod ends;
 mod errand;
 mod laws;
 mod moves;
+mod tidy;
 mod turns;
 
 pub use laws::bases_move_for_their_commands;

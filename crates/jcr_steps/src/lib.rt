@@ -6,6 +6,7 @@ mod answers;
 mod errand;
 mod limits;
 mod shown;
+mod tidying;
 
 pub use answers::{
     Attached, Changed, Listed, Loaded, attach_came, changes_came, has_ended, has_went, last_kind,
@@ -14,3 +15,4 @@ pub use answers::{
 pub use errand::{Came, Errand, Told, errand_came, kind_told, place_of, told_of};
 pub use limits::{COMMIT_REPLY_BYTES, VECTOR_REPLY_BYTES};
 pub use shown::shown_vector;
+pub use tidying::{Tidied, TidyCame, tidy_came};

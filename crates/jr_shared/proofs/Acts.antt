@@ -5,6 +5,7 @@ use Rattle.std.specs.Borrow.{GName}
 use Rattle.std.specs.declared.alloc.AllocError.{AllocError}
 use Rattle.std.proofs.lemmas.List.{reverse-reverse}
 use Rattle.jr_path.specs.Lists.{Text}
+use Rattle.oak_machine.specs.declared.event.Event.{Event}
 use Rattle.oak_machine.specs.declared.event.Event.TheVariants as event
 use Rattle.oak_machine.specs.declared.law.Law.{Ghosts}
 use Rattle.oak_machine.specs.History.{History, Past}
@@ -13,12 +14,15 @@ use Rattle.oak_port.specs.declared.task.StepOut.{StepOut}
 use Rattle.oak_port.specs.declared.task.Task.{Task}
 use Rattle.oak_port.specs.Ports.{Steps}
 use Rattle.oak_world.specs.Seen.{shown_at, shown_work}
-use Rattle.oak_world.specs.Worlds.{ActorState, WorldOf, actor_in, live, said_in, state_of, work_in}
+use Rattle.oak_step.specs.declared.work.Work.TheVariants as work
+use Rattle.oak_world.specs.Ends.{MayTell}
+use Rattle.oak_world.specs.Worlds.{ActorState, WorldOf, actor_in, live, reply_events, said_in, state_of, told_first, work_in}
 use Rattle.jr_shared.specs.Meanings.{frame_of, journal_of, own_events, owned_of, steady_of}
 use Rattle.jr_shared.specs.Holds.{Begun, OneActed, Reserved, Stepped}
 use Rattle.jr_shared.proofs.Lists.{begins_by, begins_itself, set_other}
 use Rattle.jr_shared.proofs.Shapes.{shaped, step_apart}
 use Rattle.jr_shared.proofs.Calm.{calm}
+use Rattle.jr_shared.proofs.Ends.{told_apart}
 
 pub apart_by : (q s : ℕ) → q ≢ s → (q == s) ≡ false
 apart_by q s apart = by (q == s) refl
@@ -52,22 +56,32 @@ module _ {L : Type 0} where
   reserve_acts s bytes w u (Ok x) h = subst (λ (y : WorldOf L). OneActed s w y) (sym h.ok) (seat_acts s w (record (actor_in w.actors s) { reply = Some bytes }))
   reserve_acts s bytes w u (Err x) h = same_acts s w u h.err
 
-  said : (s i : ℕ) (text : Text) (w : WorldOf L) → OneActed s w (said_in w s i text)
-  said s i text w = record {
-    longer = begins_by (event.Said s i text ∷ []) w.history.past (event.Said s i text ∷ w.history.past) refl;
-    frame_is = refl;
-    others = λ q apart. by q apart (s == q) refl;
-    steady_is = λ same. refl;
-  }
-    where
-      by : (q : ℕ) → q ≢ s → (b : Bool) → (s == q) ≡ b → owned_of (said_in w s i text) q ≡ owned_of w q
-      by q apart true is = absurd (apart (sym (same_number s q is)))
-      by q apart false is =
-          ap (λ (c : Bool). record { seat = slice_get (slice_set w.actors s (record (actor_in w.actors s) { reply = None })) q; events = cond c (event.Said s i text ∷ own_events w.history.past q) (own_events w.history.past q) }) is
-          ∙ owned_set s w (record (actor_in w.actors s) { reply = None }) q apart
+  -- a reply, and what is told before it, are none of another session's
+  module _ (s i : ℕ) (text : Text) (w : WorldOf L) (told : (q : ℕ) (e : Event) → work_in w.actors q ≡ work.Told e → MayTell (live w.history) q e) where
+    abbrev first : Past
+    first = told_first (work_in w.actors s)
 
-  pub say_acts : (s i : ℕ) (text : Text) (w u : WorldOf L) → u ≡ said_in w s i text → OneActed s w u
-  say_acts s i text w u is = subst (λ (y : WorldOf L). OneActed s w y) (sym is) (said s i text w)
+    abbrev quiet : ActorState
+    quiet = record (actor_in w.actors s) { work = work.Rest; reply = None }
+
+    said : OneActed s w (said_in w s i text)
+    said = record {
+      longer = begins_by (reply_events s i text (work_in w.actors s)) w.history.past (reply_events s i text (work_in w.actors s) ++ w.history.past) refl;
+      frame_is = refl;
+      others = λ q apart. by q apart (s == q) refl;
+      steady_is = λ same. refl;
+    }
+      where
+        by : (q : ℕ) → q ≢ s → (b : Bool) → (s == q) ≡ b → owned_of (said_in w s i text) q ≡ owned_of w q
+        by q apart true is = absurd (apart (sym (same_number s q is)))
+        by q apart false is =
+            ap (λ (c : Bool). record { seat = slice_get (slice_set w.actors s quiet) q; events = cond c (event.Said s i text ∷ own_events (first ++ w.history.past) q) (own_events (first ++ w.history.past) q) }) is
+            ∙ (ap (λ (xs : Past). record { seat = slice_get (slice_set w.actors s quiet) q; events = xs })
+            (told_apart w.history.past s q (work_in w.actors s) (λ e at. (told s e at).own) (apart_by q s apart))
+            ∙ owned_set s w quiet q apart)
+
+    pub say_acts : (u : WorldOf L) → u ≡ said_in w s i text → OneActed s w u
+    say_acts u is = subst (λ (y : WorldOf L). OneActed s w y) (sym is) said
 
   module _ (law : Ghosts L) (s : ℕ) (w u : WorldOf L) (o : StepOut) (h : Stepped law w s o u) (name : GName) where
     abbrev told : Steps (law.may_start w.law) (law.may_say w.law) (shown_at name w s) (shown_at name u s) o

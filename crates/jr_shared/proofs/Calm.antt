@@ -1,7 +1,10 @@
 -- A step that adds no event leaves the documents and the memories.
-use Rattle.std.proofs.Common.{◌≡◌, inl, inr, ℕ, Bool, true, false, cond, Some, None, ◌∷◌, sym, ap, ◌∙◌}
+use Rattle.std.proofs.Common.{◌≡◌, inl, inr, ℕ, Bool, true, false, cond, Some, None, [], ◌∷◌, refl, sym, ap, ◌∙◌}
 use Rattle.oak_commit.specs.Committing.{Committing}
 use Rattle.oak_commit.specs.declared.outcome.CommitEnd.TheVariants as outcome
+use Rattle.oak_gc.specs.declared.collector.Collector.{Collector}
+use Rattle.oak_gc.specs.declared.reading.Step.{Step as CollectStep}
+use Rattle.oak_gc.specs.declared.reading.Step.TheVariants as collect_step
 use Rattle.oak_machine.specs.declared.event.Event.{Event}
 use Rattle.oak_machine.specs.declared.event.StepKind.{StepKind}
 use Rattle.oak_machine.specs.declared.event.StepKind.TheVariants as kind
@@ -10,6 +13,10 @@ use Rattle.oak_port.specs.declared.task.StepOut.TheVariants as answers
 use Rattle.oak_port.specs.declared.task.TaskEnd.TheVariants as ends
 use Rattle.core_world.specs.States.{State, node_of}
 use Rattle.oak_node.specs.declared.pending.Pending.{Pending}
+use Rattle.oak_prev.specs.declared.splitter.Splitter.{Splitter}
+use Rattle.oak_prev.specs.declared.splitter.Step.{Step as SplitStep}
+use Rattle.oak_prev.specs.declared.splitter.Step.TheVariants as split_step
+use Rattle.oak_store.specs.Tables.{Table}
 use Rattle.oak_sweep.specs.Sweeping as sweeping
 use Rattle.oak_sweep.specs.declared.stage.Stage.{Stage as Swept}
 use Rattle.oak_sweep.specs.declared.stage.Stage.TheVariants as swept
@@ -20,8 +27,48 @@ use Rattle.oak_step.specs.declared.work.Work.{Work}
 use Rattle.oak_step.specs.declared.work.Work.TheVariants as work
 use Rattle.oak_step.specs.declared.upkeep.Upkeep.{Upkeep}
 use Rattle.oak_step.specs.declared.upkeep.Upkeep.TheVariants as upkeep
-use Rattle.oak_world.specs.Steps.{BeginsBackWrite, MakesState, MakesBackRead, MakesBackWrite, MakesCommit, MakesSweep, MakesUpdate, MakesUpkeep, PassesTo}
-use Rattle.jr_shared.proofs.Lists.{never_longer, never_two_longer}
+use Rattle.oak_tidy.specs.declared.tidying.Tidying.{Tidying}
+use Rattle.oak_tidy.specs.declared.tidying.Tidying.TheVariants as tidying
+use Rattle.oak_tidy.specs.Replies.{table_after}
+use Rattle.oak_tidy.specs.Tidyings.{tidy_events, tidying_ask}
+use Rattle.oak_world.specs.Steps.{BeginsBackWrite, MakesState, MakesBackRead, MakesBackWrite, MakesCommit, MakesSweep, MakesUpdate, MakesUpkeep, PassesTo, after_tidied, tidied_in}
+use Rattle.jr_shared.proofs.Lists.{never_longer, never_two_longer, none_more}
+
+-- ---- a split or a collection
+
+-- where no event is added nothing was changed, but looked for
+split_looks : (s : ℕ) (x : Splitter) (y : Tidying) (t : Table) → tidy_events s (tidying.Split x) y ≡ [] → table_after t (tidying_ask (tidying.Split x)) ≡ t
+split_looks s x y t = by x.step
+  where
+    by : (st : SplitStep) → tidy_events s (tidying.Split (record x { step = st })) y ≡ [] → table_after t (tidying_ask (tidying.Split (record x { step = st }))) ≡ t
+    by split_step.Read none = refl
+    by split_step.Root none = refl
+    by (split_step.Previous e n) none = absurd (cc)
+    by (split_step.Main e n) none = absurd (cc)
+    by (split_step.Find k o) none = refl
+    by (split_step.Remove k found o) none = absurd (cc)
+    by (split_step.Done o) none = refl
+
+collect_looks : (s : ℕ) (x : Collector) (y : Tidying) (t : Table) → tidy_events s (tidying.Collect x) y ≡ [] → table_after t (tidying_ask (tidying.Collect x)) ≡ t
+collect_looks s x y t = by x.step
+  where
+    by : (st : CollectStep) → tidy_events s (tidying.Collect (record x { step = st })) y ≡ [] → table_after t (tidying_ask (tidying.Collect (record x { step = st }))) ≡ t
+    by collect_step.Root none = refl
+    by (collect_step.Node k) none = refl
+    by collect_step.Settings none = refl
+    by collect_step.First none = refl
+    by collect_step.Next none = refl
+    by (collect_step.Listed n) none = refl
+    by collect_step.Prune none = absurd (cc)
+    by collect_step.Remove none = absurd (cc)
+    by (collect_step.RemovePrevious n read) none = absurd (cc)
+    by collect_step.Done none = refl
+
+tidying_looks : (s : ℕ) (x y : Tidying) (t : Table) → tidy_events s x y ≡ [] → table_after t (tidying_ask x) ≡ t
+tidying_looks s (tidying.Split x) y t none = split_looks s x y t none
+tidying_looks s (tidying.Collect x) y t none = collect_looks s x y t none
+
+-- ---- any step
 
 module _ (s : ℕ) (w u : State) (same : u.past ≡ w.past) where
   -- the documents and the memories are as they were
@@ -114,6 +161,11 @@ module _ (s : ℕ) (w u : State) (same : u.past ≡ w.past) where
   calm_upkeep upkeep.Observe v answers.Memory m = still m.0
   calm_upkeep upkeep.Observe v _ m = absurd m
 
+  calm_tidying : (x : Tidying) → u ≡ after_tidied w s x → IsCalm
+  calm_tidying x is =
+      let none : tidy_events s x (tidied_in w x) ≡ [] = none_more (tidy_events s x (tidied_in w x)) w.past (sym same ∙ ap (λ (y : State). y.past) is) in
+      (ap (λ (y : State). y.table) is ∙ tidying_looks s x (tidied_in w x) w.table none, ap (λ (y : State). y.memories) is)
+
   pub calm : (x v : Work) (o : StepOut) → MakesState s w x u v o → IsCalm
   calm work.Login v (answers.Ready (ends.Pinned pin)) m = never _ (ap (λ (x : State). x.past) m.0)
   calm work.Login v answers.Memory m = still m.0
@@ -140,4 +192,9 @@ module _ (s : ℕ) (w u : State) (same : u.past ≡ w.past) where
   calm (work.Move r) v (answers.Ready (ends.Commit (outcome.Committed q))) m = never _ (ap (λ (x : State). x.past) m.0)
   calm (work.Move r) v _ m = absurd m
   calm (work.Upkeep k) v o m = calm_upkeep k v o m
+  calm (work.Tidy x) v answers.Memory m = (ap (λ (y : State). y.table) m.0, ap (λ (y : State). y.memories) m.0)
+  calm (work.Tidy x) v (answers.Went k) m = calm_tidying x m.0
+  calm (work.Tidy x) v (answers.Ready e) m = calm_tidying x m.0
+  calm (work.Tidy x) v _ m = absurd m.3
+  calm (work.Told e) v o m = absurd m
   calm work.Rest v o m = absurd m

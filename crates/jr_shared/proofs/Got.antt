@@ -1,15 +1,16 @@
 -- What a pass knows of a world that it got: what was added since is of others, and its session is as it was.
 use mathlib.Core.Bool.{false≢true}
-use Rattle.std.proofs.Common.{◌≡◌, ℕ, ◌<◌, true, Option, Some, None, List, [], ◌++◌, length, is_some, refl, sym, ap, subst, ◌∙◌}
+use Rattle.std.proofs.Common.{◌≡◌, ℕ, ◌<◌, true, Option, Some, None, List, [], ◌∷◌, ◌++◌, length, is_some, refl, sym, ap, subst, ◌∙◌}
 use Rattle.std.specs.Prelude.{IfSome, reverse, slice_get}
 use Rattle.std.specs.Option.{option_and_then, option_map_or, unwrap_or}
 use Rattle.std.proofs.lemmas.Option.{slice_get-get_or, slice_get_within}
 use Rattle.std.proofs.lemmas.List.{reverse-reverse}
 use Rattle.jr_path.specs.Lists.{Text}
+use Rattle.oak_machine.specs.declared.event.Event.{Event}
 use Rattle.oak_machine.specs.declared.law.Law.{Ghosts}
 use Rattle.oak_machine.specs.History.{History, Past}
 use Rattle.oak_machine.specs.Laws.{AreOthers, Asks, after}
-use Rattle.oak_machine.specs.Runs.{AreNodes, IsRunOf, OnlyOthersActed}
+use Rattle.oak_machine.specs.Runs.{AreNodes, IsRunOf, MayFollow, OnlyOthersActed}
 use Rattle.oak_machine.specs.Sessions.{base_of, has_left, has_login, is_attached, next_index}
 use Rattle.oak_machine.proofs.Induction.{base_stays}
 use Rattle.core_heads.proofs.Passing.{next_stays}
@@ -18,14 +19,18 @@ use Rattle.oak_port.specs.declared.task.Task.{Task}
 use Rattle.oak_port.specs.declared.task.Task.TheVariants as task
 use Rattle.oak_port.specs.Ports.{IsAskedOf, MayBegin}
 use Rattle.oak_step.specs.declared.work.Work.{Work}
+use Rattle.oak_step.specs.declared.work.Work.TheVariants as work
+use Rattle.oak_world.specs.Ends.{MayTell}
 use Rattle.oak_world.specs.Left.{left_in, steps_left}
-use Rattle.oak_world.specs.Worlds.{ActorState, WorldOf, actor_in, idle, live, state_of, work_in}
+use Rattle.oak_world.specs.Worlds.{ActorState, WorldOf, actor_in, idle, live, state_of, told_first, work_in}
 use Rattle.oak_world.proofs.Staying.{login_left, stay_left}
 use Rattle.jr_shared.specs.declared.locked.WorldFrame.{WorldFrame}
 use Rattle.jr_shared.specs.Meanings.{Owned, frame_of, journal_of, own_events, owned_of}
-use Rattle.jr_shared.specs.Holds.{HasLaw, IsGot, IsTold, PassKnown, actor_by, has_seat, owned_by, seat_by}
+use Rattle.jr_shared.specs.Ends.{may_tell}
+use Rattle.jr_shared.specs.Holds.{HasLaw, IsGot, IsTold, IsToldOf, PassKnown, actor_by, has_seat, owned_by, seat_by}
 use Rattle.jr_shared.specs.Seen.{clusters_by, history_by, law_by, left_by, sessions_by, state_by, the}
 use Rattle.oak_world.proofs.Others.{attached_left, cursor_stays}
+use Rattle.jr_shared.proofs.Ends.{end_follows, end_own, tell_follows, work_told}
 use Rattle.jr_shared.proofs.Events.{are_others, run_before}
 use Rattle.jr_shared.proofs.Lists.{found_part, grown_by}
 
@@ -131,8 +136,11 @@ module _ {L : Type 0} (law : Ghosts L) (old : PassKnown L) (got : WorldOf L) (g 
         ∙ ap (λ (v : Work). steps_left s got.table (memory_of (state_of got) s) v) work_got
 
     module _ (told : IsTold old) where
+      told_got : IsToldOf (reverse old.seen) s (owned_of got s)
+      told_got = subst (λ (o : Option Owned). IfSome o (IsToldOf (reverse old.seen) s)) owned_got (told s)
+
       same_events : own_events got.history.past s ≡ own_events (reverse old.seen) s
-      same_events = subst (λ (o : Option Owned). IfSome o (λ part. part.events ≡ own_events (reverse old.seen) s)) owned_got (told s)
+      same_events = told_got.0
 
       -- what was added since is of others
       pub others : AreOthers s more (reverse old.seen)
@@ -185,10 +193,23 @@ module _ {L : Type 0} (law : Ghosts L) (old : PassKnown L) (got : WorldOf L) (g 
       pub may_begin : (t : Task) → MayBegin (law.may_start got.law) (history_by old) s t → MayBegin (law.may_start got.law) (live got.history) s t
       may_begin t m = subst (λ (h : History). MayBegin (law.may_start got.law) h s t) after_is (begins t (subst (λ (h : History). MayBegin (law.may_start got.law) h s t) before_is m))
 
+      -- what is told first, behind what others added
+      follows : (e : Event) → MayTell (live got.history) s e → MayFollow (law.may_start got.law) (law.may_say got.law) (after more before) e
+      follows e tells = subst (λ (h : History). MayFollow (law.may_start got.law) (law.may_say got.law) h e) (sym after_is) (tell_follows (law.may_start got.law) (law.may_say got.law) (live got.history) s e tells)
+
+      says : (i : ℕ) (text : Text) (v : Work) → may_tell (reverse old.seen) s v ≡ true → ((e : Event) → v ≡ work.Told e → MayTell (live got.history) s e) → law.may_say got.law (after (told_first v) before) s i text → law.may_say got.law (after (told_first v) (live got.history)) s i text
+      says i text (work.Told e) tells told m = subst (λ (h : History). law.may_say got.law (after (e ∷ []) h) s i text) after_is
+          (law.says_last_behind got.law before more e s i text beside (end_own (reverse old.seen) s e tells)
+          (end_follows (law.may_start got.law) (law.may_say got.law) before s e tells, run_old)
+          (follows e (told e refl), run_got) m)
+      says i text _ tells told m = subst (λ (h : History). law.may_say got.law h s i text) after_is (law.says_last got.law before more s i text beside m)
+
       -- what may be said by the history seen may be said still
-      pub may_say : (i : ℕ) (text : Text) → law.may_say got.law (history_by old) s i text → law.may_say got.law (live got.history) s i text
-      may_say i text m = subst (λ (h : History). law.may_say got.law h s i text) after_is
-          (law.says_last got.law before more s i text beside (subst (λ (h : History). law.may_say got.law h s i text) before_is m))
+      pub may_say : (i : ℕ) (text : Text) → law.may_say got.law (after (told_first (actor_by old s).work) (history_by old)) s i text → law.may_say got.law (after (told_first (work_in got.actors s)) (live got.history)) s i text
+      may_say i text m =
+          says i text (work_in got.actors s) (work_told (reverse old.seen) s (slice_get got.actors s) told_got.1) (g.whole.told s)
+          (subst (λ (h : History). law.may_say got.law (after (told_first (work_in got.actors s)) h) s i text) before_is
+          (subst (λ (v : Work). law.may_say got.law (after (told_first v) (history_by old)) s i text) work_got m))
 
       pub next_same : next_index got.history.past s ≡ next_index (reverse old.seen) s
       next_same = ap (λ (xs : Past). next_index xs s) past_got ∙ next_stays (more ++ reverse old.seen) more (reverse old.seen) s others

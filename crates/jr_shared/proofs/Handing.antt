@@ -7,12 +7,18 @@ use Rattle.std.proofs.lemmas.List.{reverse-reverse}
 use Rattle.std.specs.Prelude.{◌==◌, IfSome, reverse}
 use Rattle.std.specs.List.{filter, range_with_len}
 use Rattle.std.specs.Map.{lookup}
-use Rattle.std.specs.Option.{option_and_then}
+use Rattle.std.specs.Option.{option_and_then, option_map_or}
+use Rattle.std.specs.Prelude.{slice_get}
+use Rattle.oak_machine.specs.declared.event.Event.{Event}
 use Rattle.oak_machine.specs.History.{Past}
-use Rattle.oak_world.specs.Worlds.{WorldOf, idle}
+use Rattle.oak_step.specs.declared.work.Work.TheVariants as work
+use Rattle.oak_world.specs.Ends.{MayTell}
+use Rattle.oak_world.specs.Worlds.{ActorState, WorldOf, idle, live, work_in}
 use Rattle.core_world.proofs.Flights.{number_itself, same_number}
 use Rattle.jr_shared.specs.Meanings.{Owned, own_events, owned_of}
-use Rattle.jr_shared.specs.Holds.{IsTold, PassKnown, first_known, has_seat, owned_by}
+use Rattle.jr_shared.specs.Ends.{may_tell}
+use Rattle.jr_shared.specs.Holds.{IsTold, IsToldOf, PassKnown, first_known, has_seat, owned_by}
+use Rattle.jr_shared.proofs.Ends.{seat_tells}
 use Rattle.jr_shared.proofs.Got.{some_within}
 
 -- found in a list that is filtered by the authors
@@ -57,7 +63,7 @@ found_of {P} f (n ∷ names) s q h = by (n == s) refl (found_of f names s q) h
     by true is rest h = let e : f n ≡ q = cc in sym e ∙ ap f (same_number n s is)
     by false is rest h = rest h
 
-told_at : (past : Past) (s : ℕ) (o : Option Owned) → (o ≡ None) → IfSome o (λ part. part.events ≡ own_events past s)
+told_at : (past : Past) (s : ℕ) (o : Option Owned) → (o ≡ None) → IfSome o (IsToldOf past s)
 told_at past s None h = tt
 told_at past s (Some p) h = absurd (false≢true (sym (ap is_some h)))
 
@@ -77,12 +83,19 @@ module _ {L : Type 0} where
   pub first_seat : (w : WorldOf L) → length w.actors ≡ length w.history.sessions → (s : ℕ) → s < length w.history.sessions → has_seat (first_known w) s ≡ true
   first_seat w seats s less = ap (λ (o : Option Owned). is_some (option_and_then (λ p. p.seat) o)) (first_owns w s less) ∙ some_within w.actors s idle (subst (λ (n : ℕ). s < n) (sym seats) less)
 
-  pub first_told : (w : WorldOf L) → IsTold (first_known w)
-  first_told w s = by (owned_by (first_known w) s) refl
+  -- what a session owns of a world is told by all of its events
+  pub told_of : (w : WorldOf L) → ((s : ℕ) (e : Event) → work_in w.actors s ≡ work.Told e → MayTell (live w.history) s e) → (s : ℕ) → IsToldOf (reverse (reverse w.history.past)) s (owned_of w s)
+  told_of w told s = (
+    ap (λ (xs : Past). own_events xs s) (sym (reverse-reverse w.history.past)),
+    subst (λ (xs : Past). option_map_or (λ (a : ActorState). may_tell xs s a.work) (slice_get w.actors s) true ≡ true) (sym (reverse-reverse w.history.past)) (seat_tells w told s),
+  )
+
+  pub first_told : (w : WorldOf L) → ((s : ℕ) (e : Event) → work_in w.actors s ≡ work.Told e → MayTell (live w.history) s e) → IsTold (first_known w)
+  first_told w told s = by (owned_by (first_known w) s) refl
     where
-      by : (o : Option Owned) → owned_by (first_known w) s ≡ o → IfSome o (λ part. part.events ≡ own_events (reverse (reverse w.history.past)) s)
+      by : (o : Option Owned) → owned_by (first_known w) s ≡ o → IfSome o (IsToldOf (reverse (reverse w.history.past)) s)
       by None is = tt
-      by (Some q) is = ap (λ (p : Owned). p.events) (found_of (owned_of w) (range_with_len 0 (length w.history.sessions)) s q is) ∙ ap (λ (xs : Past). own_events xs s) (sym (reverse-reverse w.history.past))
+      by (Some q) is = subst (λ (p : Owned). IsToldOf (reverse (reverse w.history.past)) s p) (sym (found_of (owned_of w) (range_with_len 0 (length w.history.sessions)) s q is)) (told_of w told s)
 
   -- a pass of fewer sessions that has seen as much is told too
   pub told_among : (v w : PassKnown L) (p : ℕ → Bool) → w.seen ≡ v.seen → w.parts ≡ filter (λ z. p z.0) v.parts → IsTold v → IsTold w
@@ -91,7 +104,7 @@ module _ {L : Type 0} where
       found : owned_by w s ≡ cond (p s) (owned_by v s) None
       found = ap (λ xs. lookup (λ a. a == s) xs) parts ∙ found_among p v.parts s
 
-      by : (b : Bool) → p s ≡ b → IfSome (owned_by w s) (λ part. part.events ≡ own_events (reverse w.seen) s)
-      by true is = subst (λ (o : Option Owned). IfSome o (λ part. part.events ≡ own_events (reverse w.seen) s)) (sym (found ∙ ap (λ b. cond b (owned_by v s) None) is))
-          (subst (λ xs. IfSome (owned_by v s) (λ part. part.events ≡ own_events (reverse xs) s)) (sym seen) (told s))
+      by : (b : Bool) → p s ≡ b → IfSome (owned_by w s) (IsToldOf (reverse w.seen) s)
+      by true is = subst (λ (o : Option Owned). IfSome o (IsToldOf (reverse w.seen) s)) (sym (found ∙ ap (λ b. cond b (owned_by v s) None) is))
+          (subst (λ xs. IfSome (owned_by v s) (IsToldOf (reverse xs) s)) (sym seen) (told s))
       by false is = told_at (reverse w.seen) s (owned_by w s) (found ∙ ap (λ b. cond b (owned_by v s) None) is)

@@ -2,9 +2,10 @@ pub mod Lists
 pub mod Events
 pub mod Shapes
 pub mod Calm
+pub mod Ends
 pub mod Acts
 pub mod Got
 pub mod Holding
 pub mod Over
-pub mod Through
 pub mod Handing
+pub mod Through

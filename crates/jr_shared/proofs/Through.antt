@@ -19,24 +19,25 @@ use Rattle.oak_machine.specs.Sessions.{base_of, has_left}
 use Rattle.core_world.specs.States.{State, actor_pin, memory_of}
 use Rattle.oak_port.specs.declared.task.StepOut.{StepOut}
 use Rattle.oak_port.specs.declared.task.Task.{Task}
-use Rattle.oak_port.specs.Ports.{ActedAlone, AreOfStep, Answers, Grows, Idle, IsWait, Makes, OthersAlone, ReadsAsDue, Starting, StaysSo, Steps, Work as Shows, is_by_due, is_due}
+use Rattle.oak_port.specs.Ports.{ActedAlone, AreOfStep, Answers, Grows, Idle, IsAtRest as IsShownAtRest, IsWait, Makes, OthersAlone, ReadsAsDue, SplitsAsDue, Starting, StaysSo, Steps, Work as Shows, end_told, is_by_due, is_due}
 use Rattle.oak_step.specs.declared.work.Work.{Work}
 use Rattle.oak_step.specs.declared.work.Work.TheVariants as work
 use Rattle.oak_world.specs.Left.{left_in, steps_left}
 use Rattle.oak_world.specs.Seen.{shown_at, shown_work}
 use Rattle.oak_step.specs.Works.{Begins, kind_due}
-use Rattle.oak_world.specs.Worlds.{ActorState, WorldOf, actor_in, idle, live, said_in, state_of, with_reply, with_work, work_in}
-use Rattle.oak_world.proofs.Keeping.{begins_shown}
+use Rattle.oak_world.specs.Worlds.{ActorState, IsAtRest, WorldOf, actor_in, idle, live, said_in, state_of, told_first, with_reply, with_work, work_in}
+use Rattle.oak_world.proofs.Keeping.{begins_shown, shown_rest, told_shown}
 use Rattle.oak_world.proofs.Porting.{busy_shown, reserve_left}
 use Rattle.oak_world.proofs.States.{actor_set}
 use Rattle.seat_lock.specs.declared.rule.Round.TheVariants as round
 use Rattle.jr_shared.specs.declared.locked.WorldFrame.{WorldFrame}
-use Rattle.jr_shared.specs.Meanings.{Owned, frame_of, own_events, owned_of, steady_of}
-use Rattle.jr_shared.specs.Holds.{DueIs, IsTold, PassKnown, OneHold, PinIs, Reserved, Stepped, actor_by, has_seat, owned_by, seat_by}
+use Rattle.jr_shared.specs.Meanings.{Owned, frame_of, journal_of, owned_of, steady_of}
+use Rattle.jr_shared.specs.Holds.{DueIs, IsTold, IsToldOf, PassKnown, OneHold, PinIs, Reserved, Stepped, actor_by, has_seat, owned_by, seat_by}
 use Rattle.jr_shared.specs.Seen.{history_by, law_by, left_by, shown_through, state_by}
 use Rattle.jr_shared.proofs.Acts.{step_grows}
 use Rattle.jr_shared.proofs.Got
 use Rattle.jr_shared.proofs.Got.{blank, some_within, the_is}
+use Rattle.jr_shared.proofs.Handing.{told_of}
 use Rattle.jr_shared.proofs.Lists.{found_part, found_retold}
 use Rattle.jr_shared.proofs.Over.{none_left}
 use Rattle.jr_shared.proofs.Shapes.{none_between, shaped}
@@ -93,11 +94,14 @@ module _ {L : Type 0} (law : Ghosts L) (old new : PassKnown L) (s : ℕ) (made :
 
   -- the pass knows of each of its sessions just the events that it has seen
   pub told_new : IsTold new
-  told_new q = subst (λ (o : Option Owned). IfSome o (λ part. part.events ≡ own_events (reverse new.seen) q)) (sym (owned_new q)) (by (owned_by old q))
+  told_new q = subst (λ (o : Option Owned). IfSome o (IsToldOf (reverse new.seen) q)) (sym (owned_new q)) (by (owned_by old q))
     where
-      by : (o : Option Owned) → IfSome (option_map (λ p. owned_of left q) o) (λ part. part.events ≡ own_events (reverse new.seen) q)
+      seen_is : new.seen ≡ journal_of left
+      seen_is = ap (λ (v : PassKnown L). v.seen) h.known
+
+      by : (o : Option Owned) → IfSome (option_map (λ p. owned_of left q) o) (IsToldOf (reverse new.seen) q)
       by None = tt
-      by (Some p) = ap (λ (xs : Past). own_events xs q) (sym (ap (λ (v : PassKnown L). reverse v.seen) h.known ∙ reverse-reverse left.history.past))
+      by (Some p) = subst (λ xs. IsToldOf (reverse xs) q (owned_of left q)) (sym seen_is) (told_of left h.left_whole.told q)
 
   -- what the pass's other sessions own stays
   pub others_new : (q : ℕ) → q ≢ s → owned_by new q ≡ owned_by old q
@@ -148,16 +152,16 @@ module _ {L : Type 0} (law : Ghosts L) (old new : PassKnown L) (s : ℕ) (made :
     pub due_is : (r : Option StepKind) → DueIs got s r left → r ≡ kind_due (actor_by new s).work
     due_is r d = d.due ∙ (ap (λ (w : WorldOf L). kind_due (work_in w.actors s)) (sym d.same) ∙ sym (ap (λ (a : ActorState). kind_due a.work) actor_new))
 
-    pub busy_is : (r : Option StepKind) → DueIs got s r left → (is_some r ≡ true) ↔ (shown_work (actor_by old s).work ≢ Idle)
-    busy_is r d = subst (λ (v : Work). (is_some r ≡ true) ↔ (shown_work v ≢ Idle)) (sym (ap (λ (a : ActorState). a.work) actor_got)) (busy_shown r (work_in got.actors s) d.busy)
+    pub busy_is : (r : Option StepKind) → DueIs got s r left → (is_some r ≡ true) ↔ (IsShownAtRest (shown_work (actor_by old s).work) → ⊥)
+    busy_is r d = subst (λ (v : Work). (is_some r ≡ true) ↔ (IsShownAtRest (shown_work v) → ⊥)) (sym (ap (λ (a : ActorState). a.work) actor_got)) (busy_shown r (work_in got.actors s) d.busy)
 
-    -- where no step is left nothing is being done
-    pub over_is : (r : Option StepKind) → DueIs got s r left → left_by old s ≡ 0 → shown_work (actor_by old s).work ≡ Idle
+    -- where no step is left nothing is left to be done but to tell how a task ended
+    pub over_is : (r : Option StepKind) → DueIs got s r left → left_by old s ≡ 0 → IsShownAtRest (shown_work (actor_by old s).work)
     over_is r d none =
         let left_got : left_in got s ≡ 0 =
         subst (λ (v : Work). steps_left s got.table (memory_of (state_of got) s) v ≡ 0) (ap (λ (a : ActorState). a.work) actor_got)
         (none_left s (state_by old) (state_of got) (actor_by old s).work none) in
-        ap (λ (a : ActorState). shown_work a.work) actor_got ∙ ap shown_work (d.over left_got)
+        subst (λ (v : Work). IsShownAtRest (shown_work v)) (sym (ap (λ (a : ActorState). a.work) actor_got)) (shown_rest (work_in got.actors s) (d.over left_got))
 
     module _ (told : IsTold old) (framed : is_some old.frame ≡ true) (name : GName) where
       others : AreOthers s more (reverse old.seen)
@@ -217,14 +221,14 @@ module _ {L : Type 0} (law : Ghosts L) (old new : PassKnown L) (s : ℕ) (made :
 
       -- ---- a task begins
 
-      pub starts_ok : (t : Task) → (v : Work) × Begins (actor_pin (state_of got) s) t v × (left ≡ with_work got s v)
+      pub starts_ok : (t : Task) → (v : Work) × Begins got.history.clusters (actor_pin (state_of got) s) t v × (left ≡ with_work got s v)
           → (actor_by old s).work ≡ work.Rest
           → OthersAlone (law.may_start l) (law.may_say l) (shown_through name old s) (shown_through name new s) (Starting t) (actor_by old s).reply
       starts_ok t b rests =
           let is : actor_in left.actors s ≡ record (actor_in got.actors s) { work = b.0; began = length got.history.past } =
           ap (λ (w : WorldOf L). actor_in w.actors s) b.2 ∙ actor_set got.actors s (record (actor_in got.actors s) { work = b.0; began = length got.history.past }) (Got.seated law old got h.got_is s seat) in
           others_alone (Starting t) (actor_by old s).reply (ap (λ (w : WorldOf L). w.history) b.2)
-          (ap (λ (a : ActorState). shown_work a.work) is ∙ begins_shown _ t b.0 b.1)
+          (ap (λ (a : ActorState). shown_work a.work) is ∙ begins_shown got.history.clusters (actor_pin (state_of got) s) t b.0 b.1)
           (ap (λ (a : ActorState). a.reply) is ∙ sym (ap (λ (a : ActorState). a.reply) actor_got))
           (λ k. let e : Starting t ≡ Idle = k ∙ (ap shown_work (sym (Got.work_got law old got h.got_is s seat) ∙ rests)) in cc)
 
@@ -252,15 +256,18 @@ module _ {L : Type 0} (law : Ghosts L) (old new : PassKnown L) (s : ℕ) (made :
 
       -- ---- a reply is said
 
-      pub answers : (i : ℕ) (text : Text) → left ≡ said_in got s i text → (actor_by old s).work ≡ work.Rest → Answers (law.may_start l) (law.may_say l) (shown_through name old s) (shown_through name new s) i text
+      pub answers : (i : ℕ) (text : Text) → left ≡ said_in got s i text → IsAtRest (actor_by old s).work → Answers (law.may_start l) (law.may_say l) (shown_through name old s) (shown_through name new s) i text
       answers i text is rests =
-          let seat_is : actor_in left.actors s ≡ record (actor_in got.actors s) { reply = None } =
-          ap (λ (w : WorldOf L). actor_in w.actors s) is ∙ actor_set got.actors s (record (actor_in got.actors s) { reply = None }) (Got.seated law old got h.got_is s seat) in
+          let quiet : ActorState = record (actor_in got.actors s) { work = work.Rest; reply = None } in
+          let seat_is : actor_in left.actors s ≡ quiet = ap (λ (w : WorldOf L). actor_in w.actors s) is ∙ actor_set got.actors s quiet (Got.seated law old got h.got_is s seat) in
+          let first : told_first (work_in got.actors s) ≡ end_told (shown_work (actor_by old s).work) =
+          sym (ap told_first (ap (λ (a : ActorState). a.work) actor_got)) ∙ sym (told_shown (actor_by old s).work rests) in
           record {
             others = more;
-            grows = grows (event.Said s i text ∷ []) (ap (λ (w : WorldOf L). live w.history) is);
+            grows = grows (event.Said s i text ∷ end_told (shown_work (actor_by old s).work))
+                (ap (λ (w : WorldOf L). live w.history) is ∙ ap (λ (es : Past). after (event.Said s i text ∷ es) (live got.history)) first);
             session = refl;
-            work = ap (λ (a : ActorState). shown_work a.work) (actor_new ∙ seat_is) ∙ ap shown_work (sym (Got.work_got law old got h.got_is s seat) ∙ rests);
+            work = ap (λ (a : ActorState). shown_work a.work) (actor_new ∙ seat_is);
             room = ap (λ (a : ActorState). a.reply) (actor_new ∙ seat_is);
             beside = refl;
             alone = tt;
@@ -297,6 +304,7 @@ module _ {L : Type 0} (law : Ghosts L) (old new : PassKnown L) (s : ℕ) (made :
               (subst (λ (w : Shows). AreOfStep (after told_step.others (live got.history)) s w o told_step.own) was told_step.of_step);
           as_due = subst (λ (k : Option StepKind). is_by_due k told_step.own ≡ true) (sym (ap (λ (a : ActorState). kind_due a.work) actor_got)) told_step.as_due;
           reads_due = λ r is. subst (λ (k : Option StepKind). ReadsAsDue (is_due kind.Read k) o told_step.own) (sym (ap (λ (a : ActorState). kind_due a.work) actor_got)) (told_step.reads_due r (was ∙ is));
+          splits_due = λ p is. subst (λ (k : Option StepKind). SplitsAsDue (is_due kind.Read k) o told_step.own) (sym (ap (λ (a : ActorState). kind_due a.work) actor_got)) (told_step.splits_due p (was ∙ is));
           session = refl;
           room = ap (λ (a : ActorState). a.reply) actor_new ∙ (told_step.room ∙ sym (ap (λ (a : ActorState). a.reply) actor_got));
           beside = refl;
@@ -308,7 +316,7 @@ module _ {L : Type 0} (law : Ghosts L) (old new : PassKnown L) (s : ℕ) (made :
         none_by a =
             let grown : a.own ++ reverse old.seen ≡ told_step.own ++ (more ++ reverse old.seen) = ap (λ (x : History). x.past) (sym a.grown ∙ steps.grows.grown) in
             let same : told_step.own ++ more ≡ a.own = cancel (told_step.own ++ more) a.own (reverse old.seen) (append_assoc told_step.own more (reverse old.seen) ∙ sym grown) in
-            none_between _ a.own told_step.own more
+            none_between s (reverse old.seen) _ a.own told_step.own more others
             (shaped (history_by old) s (shown_work (actor_by old s).work) o a.own (shown_work (actor_by new s).work) a.makes)
             (shaped (after more (history_by old)) s (shown_work (actor_by old s).work) o told_step.own (shown_work (actor_by new s).work) makes)
             same

@@ -1,10 +1,10 @@
 -- What a pass of a world knows, and what a call of the world under one hold of the lock makes of
 -- both.
-use Rattle.std.specs.Prelude.{◌≡◌, ◌≢◌, ◌↔◌, ◌⊎◌, ◌<◌, ◌==◌, ℕ, ◌++◌, Bool, [], length, map, is_some, reverse, IfSome, IsFalse, IsSome, OnErr, OnOk, Option, Some, Result}
+use Rattle.std.specs.Prelude.{◌≡◌, ◌≢◌, ◌↔◌, ◌⊎◌, ◌<◌, ◌==◌, ℕ, ◌++◌, Bool, true, [], length, map, is_some, reverse, IfSome, IsFalse, IsSome, IsTrue, OnErr, OnOk, Option, Some, Result}
 use Rattle.std.specs.Borrow.{GName}
 use Rattle.std.specs.List.{range_with_len}
 use Rattle.std.specs.Map.{lookup}
-use Rattle.std.specs.Option.{option_and_then, option_map, unwrap_or}
+use Rattle.std.specs.Option.{option_and_then, option_map, option_map_or, unwrap_or}
 use Rattle.std.specs.declared.alloc.AllocError.{AllocError}
 use mathlib.Core.List.{IsPrefix}
 use Rattle.oak_machine.specs.declared.event.Event.{Event}
@@ -12,6 +12,7 @@ use Rattle.oak_machine.specs.declared.law.Law.{Ghosts}
 use Rattle.jr_rev.specs.declared.vector.Pin.{Pin}
 use Rattle.oak_machine.specs.declared.event.StepKind.{StepKind}
 use Rattle.oak_machine.specs.Asked.{AreAsked}
+use Rattle.oak_machine.specs.History.{Past}
 use Rattle.oak_machine.specs.Sessions.{base_of, has_left}
 use Rattle.core_keep.specs.Formers.{Formers}
 use Rattle.core_world.specs.Kept.{IsKept}
@@ -21,17 +22,25 @@ use Rattle.oak_port.specs.declared.task.Task.{Task}
 use Rattle.oak_port.specs.Ports.{IsWait, Steps}
 use Rattle.oak_step.specs.declared.work.Work.{Work}
 use Rattle.oak_step.specs.declared.work.Work.TheVariants as work
+use Rattle.oak_world.specs.Ends.{MayTell}
 use Rattle.oak_world.specs.Left.{left_in}
 use Rattle.oak_world.specs.Seen.{shown_at}
 use Rattle.oak_step.specs.Works.{Begins, kind_due}
 use Rattle.oak_world.specs.Steps.{StepsIn}
-use Rattle.oak_world.specs.Worlds.{ActorState, WorldOf, idle, live, state_of, with_formers, with_reply, with_work, work_in}
+use Rattle.oak_world.specs.Worlds.{ActorState, IsAtRest, WorldOf, idle, live, state_of, with_formers, with_reply, with_work, work_in}
 use Rattle.seat_lock.specs.declared.rule.Round.TheVariants as round
 use Rattle.seat_lock.specs.declared.rule.View.{View}
 use Rattle.seat_lock.specs.Views.{OwnsPart, new_places}
 use Rattle.jr_shared.specs.declared.locked.LockedWorld.{LockedWorld}
 use Rattle.jr_shared.specs.declared.locked.WorldFrame.{WorldFrame}
+use Rattle.jr_shared.specs.Ends.{may_tell}
 use Rattle.jr_shared.specs.Meanings.{Owned, frame_of, journal_of, own_events, owned_of, steady_of}
+
+-- of a session just those events are known that are among these; and how its split or collection
+-- has ended, where that is to be told, may follow these
+abbrev pub IsToldOf : Past → ℕ → Owned → Type 0
+IsToldOf past s part = (part.events ≡ own_events past s)
+    × IsTrue (option_map_or (λ a. may_tell past s a.work) part.seat true)
 
 -- what a pass of a shared world knows
 abbrev pub PassKnown : Type 0 → Type 0
@@ -91,15 +100,20 @@ module _ {L : Type 0} where
     pub steady_is : journal_of new ≡ journal_of old → steady_of new ≡ steady_of old
 
   -- what every world is: its state is one that every step keeps, each of its sessions has a seat,
-  -- and each event was made for a command that asks for it
+  -- each event was made for a command that asks for it, and how a split or a collection has ended,
+  -- where that is to be told, may be told
   pub record IsWhole (law : Ghosts L) (w : WorldOf L) : Type 0 where
-    pub kept : (formers : Formers) × IsKept (law.may_start w.law) (law.may_say w.law) (with_formers (state_of w) formers)
+    pub kept : (formers : Formers)
+        × IsKept (law.may_start w.law) (law.may_say w.law) (with_formers (state_of w) formers)
     pub seats : length w.actors ≡ length w.history.sessions
     pub asked : AreAsked (law.asks w.law) (live w.history)
+    pub told : (s : ℕ) (e : Event) → work_in w.actors s ≡ work.Told e
+        → MayTell (live w.history) s e
 
-  -- of each of its sessions the pass knows just the events that it has seen of it
+  -- of each of its sessions the pass knows just the events that it has seen of it; and how that
+  -- session's split or collection has ended, where that is to be told, may follow all it has seen
   abbrev pub IsTold : PassKnown L → Type 0
-  IsTold v = (s : ℕ) → IfSome (owned_by v s) (λ part. part.events ≡ own_events (reverse v.seen) s)
+  IsTold v = (s : ℕ) → IfSome (owned_by v s) (IsToldOf (reverse v.seen) s)
 
   -- a pass that knew this got this world: it is whole, it goes on from what the pass had seen, and
   -- the pass's sessions own what they did when the pass last had it; and the documents and the
@@ -130,7 +144,8 @@ module _ {L : Type 0} where
   -- session s is told a task; where memory is refused nothing changes
   pub record Begun (w : WorldOf L) (s : ℕ) (t : Task) (r : Result Unit AllocError)
       (u : WorldOf L) : Type 0 where
-    pub ok : OnOk r ((v : Work) × Begins (actor_pin (state_of w) s) t v × (u ≡ with_work w s v))
+    pub ok : OnOk r ((v : Work) × Begins w.history.clusters (actor_pin (state_of w) s) t v
+        × (u ≡ with_work w s v))
     pub err : OnErr r (u ≡ w)
 
   -- session s makes a step, of which a port tells what it may tell, and which lowers the number of
@@ -143,12 +158,12 @@ module _ {L : Type 0} where
     pub lowers : IsWait o ⊎ (left_in u s < left_in w s)
 
   -- the kind of the session's next step was told, and the world is as it was; where no step is
-  -- left, the session does nothing
+  -- left, nothing is left to be done but to tell how a task ended
   pub record DueIs (w : WorldOf L) (s : ℕ) (r : Option StepKind) (u : WorldOf L) : Type 0 where
     pub same : u ≡ w
     pub due : r ≡ kind_due (work_in w.actors s)
-    pub busy : IsSome r ↔ (work_in w.actors s ≢ work.Rest)
-    pub over : left_in w s ≡ 0 → work_in w.actors s ≡ work.Rest
+    pub busy : IsSome r ↔ (IsAtRest (work_in w.actors s) → ⊥)
+    pub over : left_in w s ≡ 0 → IsAtRest (work_in w.actors s)
 
   -- the pin at which the session reads was told, and the world is as it was
   pub record PinIs (w : WorldOf L) (s : ℕ) (r : Option Pin) (u : WorldOf L) : Type 0 where

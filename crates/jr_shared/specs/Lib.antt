@@ -1,3 +1,4 @@
 pub mod Meanings
+pub mod Ends
 pub mod Holds
 pub mod Seen

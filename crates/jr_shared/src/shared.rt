@@ -1,9 +1,10 @@
 // A world under a lock, and its calls for one session, each under one hold.
-ghost use Rattle.std.specs.Prelude.{◌≡◌, ◌≢◌, ◌<◌, ℕ, if◌then◌else◌, length, IfOk, IsTrue, None};
+ghost use Rattle.std.specs.Prelude.{◌≡◌, ◌<◌, ℕ, if◌then◌else◌, length, IfOk, IsTrue, None};
+ghost use Rattle.oak_machine.specs.Laws.{after};
 ghost use Rattle.oak_machine.specs.Sessions.{next_index};
 ghost use Rattle.oak_port.specs.Ports.{HasRoom, IsAskedOf, MayBegin};
 ghost use Rattle.oak_step.specs.declared.work.Work.TheVariants as work;
-ghost use Rattle.oak_world.specs.Worlds.{said_in};
+ghost use Rattle.oak_world.specs.Worlds.{IsAtRest as IsWorkAtRest, said_in, told_first};
 ghost use Rattle.seat_lock.specs.Passes.{HasFrame, HasPart, IsAtRest, IsOf, seen_of, view_of, weight_of};
 ghost use Rattle.seat_lock.specs.Views.{handed, is_one_of, joined, kept_back};
 ghost use Rattle.jr_shared.specs.Meanings.{frame_of, journal_of, owned_of};
@@ -121,7 +122,7 @@ impl<L: Law + Drop> SharedWorld<L> {
     pub fn step<R: Wait>(&self, rt: &R, pass: &mut Pass<LockedWorld<L>>, actor: u32) -> StepOut
         requires own { IsOf self.now.lock pass.old }
         requires seat { IsTrue (has_seat (view_of pass.old) actor) }
-        requires busy { (actor_by (view_of pass.old) actor).work ≢ work.Rest }
+        requires busy { IsWorkAtRest (actor_by (view_of pass.old) actor).work → ⊥ }
         ensures own { IsOf self.now.lock pass.new }
         ensures hold { OneHold L.Law (view_of pass.old) (view_of pass.new) actor
             (λ got left. Stepped L.Law got actor result left) }
@@ -134,7 +135,8 @@ impl<L: Law + Drop> SharedWorld<L> {
         out
     }
 
-    /// The kind of the next step of a session of the pass; None where it has no task.
+    /// The kind of the next step of a session of the pass; None where nothing is left to be done
+    /// but to tell how a task ended.
     pub fn due<R: Wait>(
         &self,
         rt: &R,
@@ -215,7 +217,8 @@ impl<L: Law + Drop> SharedWorld<L> {
         result
     }
 
-    /// Says the next reply of a session of the pass. The reply has a place, and so saying takes no
+    /// Says the next reply of a session of the pass, and directly before it how its split or
+    /// collection ended, where that is to be told. The reply has a place, and so saying takes no
     /// memory.
     pub fn say<R: Wait>(
         &self,
@@ -228,11 +231,12 @@ impl<L: Law + Drop> SharedWorld<L> {
         requires own { IsOf self.now.lock pass.old }
         requires seat { IsTrue (has_seat (view_of pass.old) actor) }
         requires told { IsTold (view_of pass.old) }
-        requires idle { (actor_by (view_of pass.old) actor).work ≡ work.Rest }
+        requires rest { IsWorkAtRest (actor_by (view_of pass.old) actor).work }
         requires place { HasRoom (actor_by (view_of pass.old) actor).reply (length text.now) }
         requires next { index ≡ next_index (history_by (view_of pass.old)).past actor }
         requires lawful { (law : L) → HasLaw (view_of pass.old) law
-            → L.may_say law (history_by (view_of pass.old)) actor index text.now }
+            → L.may_say law (after (told_first (actor_by (view_of pass.old) actor).work)
+            (history_by (view_of pass.old))) actor index text.now }
         ensures own { IsOf self.now.lock pass.new }
         ensures hold { OneHold L.Law (view_of pass.old) (view_of pass.new) actor
             (λ got left. left ≡ said_in got actor index text.now) }

@@ -1,5 +1,5 @@
 -- How parts go on turn by turn, and how they are closed.
-use Rattle.std.proofs.Common.{◌≡◌, ◌⊎◌, inl, inr, ℕ, Bool, true, false, ◌||◌, Option, List, [], ◌∷◌, ◌++◌, refl, sym, ap, ◌∙◌, subst, arith}
+use Rattle.std.proofs.Common.{◌≡◌, ◌⊎◌, inl, inr, ℕ, Bool, true, false, ◌||◌, None, Option, List, [], ◌∷◌, ◌++◌, refl, sym, ap, ◌∙◌, subst, arith}
 use Rattle.std.specs.Prelude.{◌==◌, reverse}
 use Rattle.std.proofs.lemmas.Bool.Decides.{nat_tests}
 use mathlib.Core.Bool.{false≢true}
@@ -13,8 +13,8 @@ use Rattle.jr_script.specs.declared.script.Entry.TheVariants as entry
 use Rattle.jr_stage.specs.declared.stage.Stage.{Stage}
 use Rattle.jr_stage.specs.Places.{history_at, is_at_last, is_over, is_resting, is_waiting}
 use Rattle.jr_stage.specs.Parts.{Rule, by_entry, events_of, is_part_over, is_part, is_turn, part_session}
-use Rattle.jr_stage.specs.SoFar.{IsCutSoFar, IsDouble, IsQuiet, IsSingle, IsStepAt, IsUnderWay, is_last_due}
-use Rattle.jr_stage.specs.Stages.{Closes, Comes, HasCome, IsStage, IsUnder, due_at, past_of}
+use Rattle.jr_stage.specs.SoFar.{AreMadeBy, IsCutSoFar, IsQuiet, IsStepAt, IsUnderWay, is_last_due}
+use Rattle.jr_stage.specs.Stages.{Closes, Comes, ComesShort, HasCome, HasOnlyRead, IsStage, IsUnder, TurnsTo, due_at, past_of}
 use Rattle.jr_stage.proofs.SoFar.{cut_closes, cut_due, cut_steps, part_turns, way_begins, way_steps}
 
 nothing_behind : {X : Type 0} (a : List X) → [] ++ a ≡ a
@@ -57,6 +57,58 @@ still_due due now s t others mine last = by (t == s) refl
     by : (b : Bool) → (t == s) ≡ b → is_last_due (now t) ≡ true
     by true same = subst (λ (x : ℕ). is_last_due (now x) ≡ true) (sym (equal t s same)) (mine (subst (λ (x : ℕ). is_last_due (due x) ≡ true) (equal t s same) last))
     by false apart = ap is_last_due (others t apart) ∙ last
+
+-- ---- reading steps
+
+module _ (old new : Stage) (s : ℕ) (read : HasOnlyRead old new s) where
+  still_last : (t : ℕ) → is_last_due (due_at old.world t) ≡ true → is_last_due (due_at new.world t) ≡ true
+  still_last t last = still_due (due_at old.world) (due_at new.world) s t read.others read.last last
+
+  over_still : (t : ℕ) → is_over old.script.value (past_of old) t ≡ true → is_over old.script.value (past_of new) t ≡ true
+  over_still t over = subst (λ (p : Past). is_over old.script.value p t ≡ true) (sym read.past) over
+
+  -- a part under way stays so
+  pub under_reads_by : (first : Stage) (rule : Rule) (part : Past) → IsUnder first old rule part → IsUnder first new rule part
+  under_reads_by first rule part under = record {
+    script = read.script ∙ under.script;
+    stage_is = read.stage;
+    over = λ t over. subst (λ (p : Past). is_over first.script.value p t ≡ true) (sym read.past) (under.over t over);
+    whole = read.past ∙ under.whole;
+    way = under.way;
+    cut = λ parts h. subst (λ (p : Past). IsCutSoFar first.script.value (due_at new.world) parts part p) (sym read.past)
+        (cut_due first.script.value (due_at old.world) (due_at new.world) still_last parts part (past_of old) (under.cut parts h));
+  }
+
+  -- the entry of a reading step has no events
+  pub only_closes : Closes old new (by_entry (entry.Read s))
+  only_closes = record {
+    script = read.script;
+    stage = read.stage;
+    over = over_still;
+    closes = λ parts h. (
+      record { rule = by_entry (entry.Read s); events = [] },
+      refl,
+      subst (λ (p : Past). IsCutSoFar old.script.value (due_at new.world) (record { rule = by_entry (entry.Read s); events = [] } ∷ parts) [] p) (sym read.past)
+          (cut_closes old.script.value (due_at new.world) (by_entry (entry.Read s)) parts [] (past_of old)
+          (cut_due old.script.value (due_at old.world) (due_at new.world) still_last parts [] (past_of old) h) refl tt),
+    );
+  }
+
+  -- turns behind them are a part as they were
+  pub closes_behind : (last : Stage) (rule : Rule) → Closes new last rule → Closes old last rule
+  closes_behind last rule c = record {
+    script = c.script ∙ read.script;
+    stage = c.stage;
+    over = λ t over. subst (λ (x : Script). is_over x (past_of last) t ≡ true) read.script (c.over t (subst (λ (x : Script). is_over x (past_of new) t ≡ true) (sym read.script) (over_still t over)));
+    closes = λ parts h.
+        let now : IsCutSoFar old.script.value (due_at new.world) parts [] (past_of new) =
+        subst (λ (p : Past). IsCutSoFar old.script.value (due_at new.world) parts [] p) (sym read.past) (cut_due old.script.value (due_at old.world) (due_at new.world) still_last parts [] (past_of old) h) in
+        let closed = c.closes parts (subst (λ (x : Script). IsCutSoFar x (due_at new.world) parts [] (past_of new)) (sym read.script) now) in
+        (closed.0, closed.1, subst (λ (x : Script). IsCutSoFar x (due_at last.world) (closed.0 ∷ parts) [] (past_of last)) read.script closed.2);
+  }
+
+pub under_reads : (first stage new : Stage) (rule : Rule) (part : Past) (s : ℕ) → IsUnder first stage rule part → HasOnlyRead stage new s → IsUnder first new rule part
+under_reads first stage new rule part s under read = under_reads_by stage new s read first rule part under
 
 -- ---- a turn of the part's session
 
@@ -143,9 +195,10 @@ rests script past s (inr h) = or_later (is_waiting script past s) _ h
 first_of_step : (script : Script) (past : Past) (s : ℕ) (due : Option StepKind) (own : Past) → IsStepAt script past s due own → is_turn script s past own ≡ true
 first_of_step script past s due own step = by step.events step.step
   where
-    by : IsSingle script past s own ⊎ IsDouble script past s own → is_one_step (history_at script past) s (reverse own) ≡ true → is_turn script s past own ≡ true
+    by : AreMadeBy script past s own → is_one_step (history_at script past) s (reverse own) ≡ true → is_turn script s past own ≡ true
     by (inl one) h = subst (λ (o : Past). is_turn script s past o ≡ true) (sym one.is) (subst (λ (o : Past). is_one_step (history_at script past) s (reverse o) ≡ true) one.is h)
-    by (inr two) h = subst (λ (o : Past). is_turn script s past o ≡ true) (sym two.is) (subst (λ (o : Past). is_one_step (history_at script past) s (reverse o) ≡ true) two.is h)
+    by (inr (inl two)) h = subst (λ (o : Past). is_turn script s past o ≡ true) (sym two.is) (subst (λ (o : Past). is_one_step (history_at script past) s (reverse o) ≡ true) two.is h)
+    by (inr (inr said)) h = subst (λ (o : Past). is_turn script s past o ≡ true) (sym said.is) (subst (λ (o : Past). is_one_step (history_at script past) s (reverse o) ≡ true) said.is h)
 
 module _ (first new : Stage) (s : ℕ) (answer : Turn) (is : IsStage first) (come : HasCome first new s answer) where
   abbrev one_turn : Rule
@@ -174,12 +227,27 @@ module _ (first new : Stage) (s : ℕ) (answer : Turn) (is : IsStage first) (com
 
   by_answer : (a : Turn) → Comes first.script.value (past_of first) s (due_at first.world s) a come.own → Closes first new (by_entry (entry.Turn s))
   by_answer (turn.Stepped k) (step, plain) = turn_steps step
-  by_answer (turn.Said i) (text, own, step) = turn_steps step
+  by_answer (turn.Said i) (text, told, own, ends, step) = turn_steps step
   by_answer (turn.Waiting q) (none, waits) = turn_rests none (rests first.script.value (past_of first) s (inl waits))
   by_answer turn.Ended (none, over) = turn_rests none (rests first.script.value (past_of first) s (inr over))
   by_answer turn.Read h = absurd h
   by_answer turn.Memory h = absurd h
 
   -- one turn is a part of a number
-  pub turn_closes : Closes first new (by_entry (entry.Turn s))
+  turn_closes : Closes first new (by_entry (entry.Turn s))
   turn_closes = by_answer answer come.came
+
+-- a turn, and the reading steps before it, are one; where no entry is given no commit comes to where one waits
+pub turn_closes_to : (first new : Stage) (s : ℕ) (answer : Turn) → TurnsTo first new s None answer → Closes first new (by_entry (entry.Turn s))
+turn_closes_to first new s answer turned = by answer turned
+  where
+    behind : (a : Turn) → ComesShort first new s None a → Closes first new (by_entry (entry.Turn s))
+    behind a t = closes_behind first t.mid s t.reads new (by_entry (entry.Turn s)) (turn_closes t.mid new s a t.reads.stage t.come)
+
+    by : (a : Turn) → TurnsTo first new s None a → Closes first new (by_entry (entry.Turn s))
+    by (turn.Stepped k) t = behind (turn.Stepped k) t
+    by (turn.Said i) t = behind (turn.Said i) t
+    by (turn.Waiting q) t = behind (turn.Waiting q) t
+    by turn.Ended t = behind turn.Ended t
+    by turn.Read t = absurd (false≢true t.1)
+    by turn.Memory t = behind turn.Memory t

@@ -18,19 +18,19 @@ use Rattle.oak_machine.specs.History.{History, Past}
 use Rattle.oak_machine.specs.Commits.{is_committed, is_ended}
 use Rattle.oak_machine.specs.Heads.{head_of}
 use Rattle.oak_machine.specs.Laws.{after, is_event_of, is_revision_of}
-use Rattle.oak_machine.specs.Runs.{AreNodes, IsRun, IsRunOf}
+use Rattle.oak_machine.specs.Runs.{AreNodes, IsRun, IsRunOf, is_task_end}
 use Rattle.oak_machine.specs.Sessions.{has_left, is_drawing, is_end_of_session, is_reply_of, is_stopped, next_index}
 use Rattle.oak_machine.specs.Steps.{is_appended_by, is_kind, moves_head, is_on, is_one_step, step_number, kinds_for, leaves_went}
 use Rattle.oak_machine.proofs.Stays.{any_later}
 use Rattle.core_heads.proofs.Passing.{next_stays}
-use Rattle.oak_port.specs.Ports.{Awaiting, Beside, Deciding, Idle, Seat as PortSeat, Shown, Starting, Undoing, Work, Writing, is_by_due, Publishing, Learning, Passing, Sweeping, Detaching}
+use Rattle.oak_port.specs.Ports.{Awaiting, Beside, Collecting, Deciding, Idle, Seat as PortSeat, Shown, Starting, Undoing, Work, Writing, is_by_due, Publishing, Learning, Passing, Sweeping, Telling, Detaching}
 use Rattle.oak_world.specs.Seen.{no_seat, seat_of, shown_at, shown_work}
 use Rattle.oak_world.specs.Worlds.{ActorState, WorldOf, actor_in, idle, live, work_in}
 use Rattle.jcr_law.specs.declared.law.JcrLaw.{JcrLaw}
 use Rattle.jcr_run.specs.declared.run.SessionRun.{SessionRun}
 use Rattle.jcr_run.specs.declared.turn.Turn.{Turn}
 use Rattle.jcr_law.specs.Lasting.{says_of, starts_of}
-use Rattle.jcr_run.specs.Standing.{HasAwaited, IsBeside, IsMade, IsOneStep, IsSeenFor, IsStep, IsTurned, Stands, Tells, is_step_event}
+use Rattle.jcr_run.specs.Standing.{AreEnds, HasAwaited, IsBeside, IsMade, IsOneStep, IsSeenFor, IsStep, IsTurned, Stands, Tells, is_step_event}
 use Rattle.jcr_run.proofs.Staying.{stands_beside}
 use Rattle.jr_script.specs.declared.script.Script.{Script}
 use Rattle.jcr_trans.specs.declared.command.SessionScript.{SessionScript}
@@ -39,12 +39,13 @@ use Rattle.jr_stage.specs.Awaited.{IsSeenBut}
 use Rattle.jr_stage.specs.declared.flight.Flight.{Flight}
 use Rattle.jr_stage.specs.Flights.{IsFlight, flight_with}
 use Rattle.jr_stage.specs.Places.{commands_of, history_at, is_commit, is_over, is_own, is_resting, is_unseen, is_waiting, is_write_or_mark, tells_of_none}
-use Rattle.jr_stage.specs.SoFar.{IsDouble, IsMadeBy, IsSingle, IsStepAt, is_last_due}
+use Rattle.jr_stage.specs.SoFar.{AreMadeBy, IsDouble, IsMadeBy, IsStepAt, is_last_due}
 use Rattle.jr_stage.specs.Stages.{IsSeated, awaited, due_at, flight_behind, law_of}
 use Rattle.jr_stage.proofs.Flying.{flight_head, flight_other, flight_own, halves, none_is_some, some_is_some}
 use Rattle.jr_stage.proofs.Renaming.{stands_renamed}
 use Rattle.jr_stage.proofs.Seen.{cluster_of, moving_sees, node_of, not_waiting, was_unseen}
-use Rattle.jr_stage.proofs.SoFar.{not_of_another, one_session, unnamed_own}
+use Rattle.jr_stage.proofs.Saving.{said_idle}
+use Rattle.jr_stage.proofs.SoFar.{not_of_another, one_session, told_own, unnamed_own}
 
 -- ---- seats
 
@@ -109,6 +110,7 @@ made_of script past s k (event.Out c r) a step idle =
 made_of script past s k (event.In c v) a step idle = inr (record { none = refl; made = where_true k (is_on (history_at script past) s c) _ a; idle = idle refl })
 made_of script past s k (event.Sweep c r) a step idle =
     inr (record { none = refl; made = or_first (is_on (history_at script past) s c) (is_stopped past c) (where_true k (is_on (history_at script past) s c) _ a); idle = idle refl })
+made_of script past s k (event.Bound m t) a step idle = inr (record { none = refl; made = refl; idle = idle refl })
 made_of script past s k (event.Checkpoint id v) a step idle = inr (record { none = refl; made = refl; idle = idle refl })
 made_of script past s k (event.Release id) a step idle = inr (record { none = refl; made = refl; idle = idle refl })
 made_of script past s k e a step idle = absurd (false≢true step)
@@ -118,6 +120,7 @@ flight_none : (e : Event) (o : Option Flight) → tells_of_none e ≡ true → f
 flight_none (event.Out k r) o none = refl
 flight_none (event.In k v) o none = refl
 flight_none (event.Sweep k r) o none = refl
+flight_none (event.Bound m t) o none = refl
 flight_none (event.Checkpoint id v) o none = refl
 flight_none (event.Release id) o none = refl
 flight_none e o none = absurd (false≢true none)
@@ -147,6 +150,34 @@ not_written due e by last = refl
 last_due : (due : Option StepKind) (e : Event) → is_by_due due (e ∷ []) ≡ true → is_commit e ≡ true → is_last_due due ≡ true
 last_due due (event.Commit r) by commits = by
 last_due due e by commits = absurd (false≢true commits)
+
+-- how a task of s ended is what it was, whatever comes, and changes nothing of what is kept of a commit
+told_event : (p q : Past) (s t : ℕ) (e : Event) → is_task_end s e ≡ true → is_own p t e ≡ false → is_event_of q t e ≡ false
+told_event p q s t (event.Split a path x) ends h = h
+told_event p q s t (event.Collected a c) ends h = h
+told_event p q s t e ends h = absurd (false≢true ends)
+
+told_flight : (s : ℕ) (e : Event) (o : Option Flight) → is_task_end s e ≡ true → flight_with e o ≡ o
+told_flight s (event.Split a path x) o ends = refl
+told_flight s (event.Collected a c) o ends = refl
+told_flight s e o ends = absurd (false≢true ends)
+
+-- it ends no revision, and it and the reply behind it are one step
+told_end : {A : Type 0} (s : ℕ) (e : Event) (r : Revision) → is_task_end s e ≡ true → e ≡ event.End r → A
+told_end s e r ends same = absurd (false≢true (subst (λ (x : Event). is_task_end s x ≡ true) same ends))
+
+told_drawing : (past : Past) (s i : ℕ) (text : _) (e : Event) → is_task_end s e ≡ true → is_drawing (event.Said s i text ∷ e ∷ past) s ≡ is_drawing past s
+told_drawing past s i text (event.Split a path x) ends = refl
+told_drawing past s i text (event.Collected a c) ends = refl
+told_drawing past s i text e ends = absurd (false≢true ends)
+
+told_step : (h : History) (s i : ℕ) (text : _) (e : Event) → is_task_end s e ≡ true → is_one_step h s (e ∷ event.Said s i text ∷ []) ≡ true
+told_step h s i text (event.Split a path x) ends = ap (λ b. list_any (λ j. true) (cond (b && (s == s)) (kind.Say ∷ []) [])) ends ∙ ap (λ b. list_any (λ j. true) (cond b (kind.Say ∷ []) [])) (itself s)
+told_step h s i text (event.Collected a c) ends = ap (λ b. list_any (λ j. true) (cond (b && (s == s)) (kind.Say ∷ []) [])) ends ∙ ap (λ b. list_any (λ j. true) (cond b (kind.Say ∷ []) [])) (itself s)
+told_step h s i text e ends = absurd (false≢true ends)
+
+not_one : {A : Type 0} (a e f : Event) (l : Past) → l ≡ a ∷ e ∷ [] → l ≡ f ∷ [] → A
+not_one a e f l two one = none_is_some e (ap (λ (p : Past). slice_get p 1) (sym one ∙ two))
 
 -- an event of session s is none of session t
 not_event_of : (past : Past) (t : ℕ) (e : Event) → is_own past t e ≡ false → is_event_of (e ∷ past) t e ≡ false
@@ -228,6 +259,8 @@ module _ (script : Script) (n : GName) (s : ℕ) (old new : WorldOf JcrLaw) (sea
   awaited_seen (Learning u) r is seen = none_is_some r is
   awaited_seen (Passing q) r is seen = none_is_some r is
   awaited_seen (Sweeping q) r is seen = none_is_some r is
+  awaited_seen Collecting r is seen = none_is_some r is
+  awaited_seen (Telling e) r is seen = none_is_some r is
   awaited_seen (Detaching v) r is seen = none_is_some r is
   awaited_seen (Writing q) r is seen = none_is_some r is
   awaited_seen (Undoing q e) r is seen = none_is_some r is
@@ -345,7 +378,7 @@ module _ (script : Script) (n : GName) (s : ℕ) (old new : WorldOf JcrLaw) (sea
         )
     stepped k calm appended (inr (c, v, r, is)) = (
       record {
-        events = inr (double k c v r is appended);
+        events = inr (inl (double k c v r is appended));
         step = subst (λ (o : Past). is_one_step (history_at script past) s (reverse o) ≡ true) (sym is) (some_kind k (kinds_for (history_at script past) s (event.End r ∷ event.Head c v ∷ [])) (sym (appended_one (history_at script past) s k (event.End r) (event.Head c v ∷ [])) ∙ subst (λ (o : Past). is_appended_by (history_at script past) s k (reverse o) ≡ true) is appended));
         awake = awake;
         written = λ f same last. not_written (due_at old s) f (subst (λ (o : Past). is_by_due (due_at old s) o ≡ true) same step.as_due) last;
@@ -380,10 +413,17 @@ module _ (script : Script) (n : GName) (s : ℕ) (old new : WorldOf JcrLaw) (sea
         subst (λ (o : Past). IsFlight (o ++ past) s (flight_behind (o ++ past) seat.flight)) (sym is)
         (flight_head script.clusters (map (λ x. x.cluster) script.sessions) nodes (starts_of old.law) (says_of old.law) s c v (event.End r ∷ past) (idle_mid k c v r is appended))
 
-    pub flight_said : (i : ℕ) (text : _) → own ≡ event.Said s i text ∷ [] → IsFlight (own ++ past) s seat.flight
-    flight_said i text is =
+    pub flight_said : (i : ℕ) (text : _) (told : Past) → AreEnds s told → own ≡ event.Said s i text ∷ told → IsFlight (own ++ past) s seat.flight
+    flight_said i text [] ends is =
         subst (λ (o : Past). IsFlight (o ++ past) s seat.flight) (sym is)
         (flight_own script.clusters (map (λ x. x.cluster) script.sessions) nodes (starts_of old.law) (says_of old.law) s (event.Said s i text) past seat.flight (run_as (event.Said s i text ∷ []) is) (itself s) seated.flight)
+    flight_said i text (e ∷ []) ends is =
+        let ran = run_as (event.Said s i text ∷ e ∷ []) is in
+        let first : IsFlight (e ∷ past) s seat.flight = subst (λ (o : Option Flight). IsFlight (e ∷ past) s o) (told_flight s e seat.flight ends)
+        (flight_own script.clusters (map (λ x. x.cluster) script.sessions) nodes (starts_of old.law) (says_of old.law) s e past seat.flight ran.1 (told_own past s e ends) seated.flight) in
+        subst (λ (o : Past). IsFlight (o ++ past) s seat.flight) (sym is)
+        (flight_own script.clusters (map (λ x. x.cluster) script.sessions) nodes (starts_of old.law) (says_of old.law) s (event.Said s i text) (e ∷ past) seat.flight ran (itself s) first)
+    flight_said i text (e ∷ f ∷ told) ends is = absurd ends
 
     seen_single : (e : Event) → own ≡ e ∷ [] → IsSeenBut script (e ∷ past) s (awaited work_now)
     seen_single e is r mine unseen = cases (was_unseen script.clusters (map (λ x. x.cluster) script.sessions) nodes (starts_of old.law) (says_of old.law) script refl past s r e (run_as (e ∷ []) is) mine unseen)
@@ -403,11 +443,37 @@ module _ (script : Script) (n : GName) (s : ℕ) (old new : WorldOf JcrLaw) (sea
             cases (inl (m, u)) = absurd (false≢true (sym (mid_seen k c v r is appended q m) ∙ u))
             cases (inr (same, m, committed)) = absurd (false≢true (ap is_end same))
 
-    pub seen_said : (i : ℕ) (text : _) → own ≡ event.Said s i text ∷ [] → IsSeenBut script (own ++ past) s (awaited work_now)
-    seen_said i text is = subst (λ (o : Past). IsSeenBut script (o ++ past) s (awaited work_now)) (sym is) (seen_single (event.Said s i text) is)
+    pub seen_said : (i : ℕ) (text : _) (told : Past) → AreEnds s told → own ≡ event.Said s i text ∷ told → IsSeenBut script (own ++ past) s (awaited work_now)
+    seen_said i text [] ends is = subst (λ (o : Past). IsSeenBut script (o ++ past) s (awaited work_now)) (sym is) (seen_single (event.Said s i text) is)
+    seen_said i text (e ∷ []) ends is = subst (λ (o : Past). IsSeenBut script (o ++ past) s (awaited work_now)) (sym is) told_seen
+      where
+        ran : IsRunOf (starts_of old.law) (says_of old.law) script.clusters (map (λ x. x.cluster) script.sessions) None (event.Said s i text ∷ e ∷ past)
+        ran = run_as (event.Said s i text ∷ e ∷ []) is
 
-    pub said : (i : ℕ) (text : _) → own ≡ event.Said s i text ∷ [] → IsStepAt script past s (due_at old s) own
-    said i text is = record {
+        first_seen : (q : Revision) → is_revision_of (e ∷ past) s q ≡ true → is_unseen script (e ∷ past) q ≡ true → awaited work_now ≡ Some q
+        first_seen q mine unseen = cases (was_unseen script.clusters (map (λ x. x.cluster) script.sessions) nodes (starts_of old.law) (says_of old.law) script refl past s q e ran.1 mine unseen)
+          where
+            cases : ((is_revision_of past s q ≡ true) × (is_unseen script past q ≡ true)) ⊎ ((e ≡ event.End q) × (is_revision_of past s q ≡ true) × (is_committed past q ≡ true)) → awaited work_now ≡ Some q
+            cases (inl (m, u)) = absurd (false≢true (sym (all_seen q m) ∙ u))
+            cases (inr (same, m, committed)) = told_end s e q ends same
+
+        told_seen : IsSeenBut script (event.Said s i text ∷ e ∷ past) s (awaited work_now)
+        told_seen q mine unseen = cases (was_unseen script.clusters (map (λ x. x.cluster) script.sessions) nodes (starts_of old.law) (says_of old.law) script refl (e ∷ past) s q (event.Said s i text) ran mine unseen)
+          where
+            cases : ((is_revision_of (e ∷ past) s q ≡ true) × (is_unseen script (e ∷ past) q ≡ true)) ⊎ ((event.Said s i text ≡ event.End q) × (is_revision_of (e ∷ past) s q ≡ true) × (is_committed (e ∷ past) q ≡ true)) → awaited work_now ≡ Some q
+            cases (inl (m, u)) = first_seen q m u
+            cases (inr (same, m, committed)) = absurd (false≢true (ap is_end same))
+    seen_said i text (e ∷ f ∷ told) ends is = absurd ends
+
+    -- behind a reply nothing of the session is in flight
+    idle_said : (i : ℕ) (text : _) (e : Event) → is_task_end s e ≡ true → own ≡ event.Said s i text ∷ e ∷ [] → is_drawing past s ≡ false
+    idle_said i text e ends is =
+        let now_past : new.history.past ≡ event.Said s i text ∷ e ∷ past = past_now ∙ ap (λ (o : Past). o ++ past) is in
+        sym (told_drawing past s i text e ends)
+        ∙ (sym (ap (λ (p : Past). is_drawing p s) now_past) ∙ said_idle old.law (shown_at n new s) now turned.stands i text (e ∷ past) now_past)
+
+    pub said : (i : ℕ) (text : _) (told : Past) → AreEnds s told → own ≡ event.Said s i text ∷ told → IsStepAt script past s (due_at old s) own
+    said i text [] ends is = record {
       events = inl (record { event = event.Said s i text; is = is; made = inl (itself s) });
       step = subst (λ (o : Past). is_one_step (history_at script past) s (reverse o) ≡ true) (sym is) (ap (λ b. list_any (λ j. true) (cond b (kind.Say ∷ []) [])) (itself s));
       awake = awake;
@@ -415,6 +481,15 @@ module _ (script : Script) (n : GName) (s : ℕ) (old new : WorldOf JcrLaw) (sea
       committed = λ f same commits. last_due (due_at old s) f (subst (λ (o : Past). is_by_due (due_at old s) o ≡ true) same step.as_due) commits;
       unnamed = λ f same none. absurd (false≢true (subst (λ (x : Event). tells_of_none x ≡ true) (sym (one_event (event.Said s i text) f own is same)) none));
     }
+    said i text (e ∷ []) ends is = record {
+      events = inr (inr (record { index = i; text = text; told = e; is = is; ends = ends; idle = idle_said i text e ends is }));
+      step = subst (λ (o : Past). is_one_step (history_at script past) s (reverse o) ≡ true) (sym is) (told_step (history_at script past) s i text e ends);
+      awake = awake;
+      written = λ f same last. not_one (event.Said s i text) e f own is same;
+      committed = λ f same commits. not_one (event.Said s i text) e f own is same;
+      unnamed = λ f same none. not_one (event.Said s i text) e f own is same;
+    }
+    said i text (e ∷ f ∷ told) ends is = absurd ends
 
   -- ---- the session itself
 
@@ -428,7 +503,7 @@ module _ (script : Script) (n : GName) (s : ℕ) (old new : WorldOf JcrLaw) (sea
 
   -- the events are none, or those of a step
   abbrev Shape : Type 0
-  Shape = (own ≡ []) ⊎ (IsSingle script past s own ⊎ IsDouble script past s own)
+  Shape = (own ≡ []) ⊎ AreMadeBy script past s own
 
   seats_same : slice_set (map seat_of new.actors) s no_seat ≡ slice_set (map seat_of old.actors) s no_seat
   seats_same = seats_are _ _ (ap (λ (b : Beside). b.seats) turned.beside)
@@ -443,7 +518,11 @@ module _ (script : Script) (n : GName) (s : ℕ) (old new : WorldOf JcrLaw) (sea
     are_others : Shape → list_any (is_event_of (own ++ past) t) own ≡ false
     are_others (inl none) = subst (λ (o : Past). list_any (is_event_of (o ++ past) t) o ≡ false) (sym none) refl
     are_others (inr (inl one)) = subst (λ (o : Past). list_any (is_event_of (o ++ past) t) o ≡ false) (sym one.is) (or_none (is_event_of (one.event ∷ past) t one.event) false (not_event_of past t one.event (not_of_another script past t s other one.event one.made)) refl)
-    are_others (inr (inr two)) = subst (λ (o : Past). list_any (is_event_of (o ++ past) t) o ≡ false) (sym two.is) refl
+    are_others (inr (inr (inl two))) = subst (λ (o : Past). list_any (is_event_of (o ++ past) t) o ≡ false) (sym two.is) refl
+    are_others (inr (inr (inr said))) = subst (λ (o : Past). list_any (is_event_of (o ++ past) t) o ≡ false) (sym said.is)
+        (or_none (s == t) _ (one_session past t s other (event.Said s said.index said.text) (itself s))
+        (or_none (is_event_of (event.Said s said.index said.text ∷ said.told ∷ past) t said.told) false
+        (told_event past (event.Said s said.index said.text ∷ said.told ∷ past) s t said.told said.ends (one_session past t s other said.told (told_own past s said.told said.ends))) refl))
 
     pub over_other : Shape → is_over script past t ≡ true → is_over script (own ++ past) t ≡ true
     over_other shape over =
@@ -490,11 +569,17 @@ module _ (script : Script) (n : GName) (s : ℕ) (old new : WorldOf JcrLaw) (sea
           by (inr (inl one)) = subst (λ (o : Past). IsFlight (o ++ past) t theirs.flight) (sym one.is)
               (flight_other script.clusters (map (λ x. x.cluster) script.sessions) nodes (starts_of old.law) (says_of old.law) t one.event past theirs.flight
               (subst (λ (o : Past). IsRunOf (starts_of old.law) (says_of old.law) script.clusters (map (λ x. x.cluster) script.sessions) None (o ++ past)) one.is run_new) (not_of_another script past t s other one.event one.made) their_seat.flight)
-          by (inr (inr two)) =
+          by (inr (inr (inl two))) =
               let run = subst (λ (o : Past). IsRunOf (starts_of old.law) (says_of old.law) script.clusters (map (λ x. x.cluster) script.sessions) None (o ++ past)) two.is run_new in
               subst (λ (o : Past). IsFlight (o ++ past) t theirs.flight) (sym two.is)
               (flight_other script.clusters (map (λ x. x.cluster) script.sessions) nodes (starts_of old.law) (says_of old.law) t (event.Head two.cluster two.head) (event.End two.revision ∷ past) theirs.flight run refl
               (flight_other script.clusters (map (λ x. x.cluster) script.sessions) nodes (starts_of old.law) (says_of old.law) t (event.End two.revision) past theirs.flight run.1 (one_session past t s other (event.End two.revision) two.theirs) their_seat.flight))
+          by (inr (inr (inr said))) =
+              let run = subst (λ (o : Past). IsRunOf (starts_of old.law) (says_of old.law) script.clusters (map (λ x. x.cluster) script.sessions) None (o ++ past)) said.is run_new in
+              subst (λ (o : Past). IsFlight (o ++ past) t theirs.flight) (sym said.is)
+              (flight_other script.clusters (map (λ x. x.cluster) script.sessions) nodes (starts_of old.law) (says_of old.law) t (event.Said s said.index said.text) (said.told ∷ past) theirs.flight run
+              (one_session (said.told ∷ past) t s other (event.Said s said.index said.text) (itself s))
+              (flight_other script.clusters (map (λ x. x.cluster) script.sessions) nodes (starts_of old.law) (says_of old.law) t said.told past theirs.flight run.1 (one_session past t s other said.told (told_own past s said.told said.ends)) their_seat.flight))
 
       awaits_same : (r : Revision) → awaited (shown_work (work_in old.actors t)) ≡ Some r → awaited (shown_work (work_in new.actors t)) ≡ Some r
       awaits_same r h = ap (λ (x : PortSeat). awaited x.work) (other_seat t other) ∙ h
@@ -513,7 +598,18 @@ module _ (script : Script) (n : GName) (s : ℕ) (old new : WorldOf JcrLaw) (sea
           by (inl none) = subst (λ (o : Past). IsSeenBut script (o ++ past) t (awaited (shown_work (work_in new.actors t)))) (sym none) (λ r m u. awaits_same r (their_seat.seen r m u))
           by (inr (inl one)) = subst (λ (o : Past). IsSeenBut script (o ++ past) t (awaited (shown_work (work_in new.actors t)))) (sym one.is)
               (λ r m u. awaits_same r (seen_event one.event (subst (λ (o : Past). IsRunOf (starts_of old.law) (says_of old.law) script.clusters (map (λ x. x.cluster) script.sessions) None (o ++ past)) one.is run_new) one.made r m u))
-          by (inr (inr two)) = subst (λ (o : Past). IsSeenBut script (o ++ past) t (awaited (shown_work (work_in new.actors t)))) (sym two.is) (λ r m u. awaits_same r (behind_head r m u))
+          by (inr (inr (inr said))) = subst (λ (o : Past). IsSeenBut script (o ++ past) t (awaited (shown_work (work_in new.actors t)))) (sym said.is) (λ r m u. awaits_same r (behind_reply r m u))
+            where
+              run_said : IsRunOf (starts_of old.law) (says_of old.law) script.clusters (map (λ x. x.cluster) script.sessions) None (event.Said s said.index said.text ∷ said.told ∷ past)
+              run_said = subst (λ (o : Past). IsRunOf (starts_of old.law) (says_of old.law) script.clusters (map (λ x. x.cluster) script.sessions) None (o ++ past)) said.is run_new
+
+              behind_reply : (r : Revision) → is_revision_of (event.Said s said.index said.text ∷ said.told ∷ past) t r ≡ true → is_unseen script (event.Said s said.index said.text ∷ said.told ∷ past) r ≡ true → awaited (shown_work (work_in old.actors t)) ≡ Some r
+              behind_reply r m u = cases (was_unseen script.clusters (map (λ x. x.cluster) script.sessions) nodes (starts_of old.law) (says_of old.law) script refl (said.told ∷ past) t r (event.Said s said.index said.text) run_said m u)
+                where
+                  cases : ((is_revision_of (said.told ∷ past) t r ≡ true) × (is_unseen script (said.told ∷ past) r ≡ true)) ⊎ ((event.Said s said.index said.text ≡ event.End r) × (is_revision_of (said.told ∷ past) t r ≡ true) × (is_committed (said.told ∷ past) r ≡ true)) → awaited (shown_work (work_in old.actors t)) ≡ Some r
+                  cases (inl (m, u)) = seen_event said.told run_said.1 (inl (told_own past s said.told said.ends)) r m u
+                  cases (inr (same, m, committed)) = absurd (false≢true (ap is_end same))
+          by (inr (inr (inl two))) = subst (λ (o : Past). IsSeenBut script (o ++ past) t (awaited (shown_work (work_in new.actors t)))) (sym two.is) (λ r m u. awaits_same r (behind_head r m u))
             where
               run_two : IsRunOf (starts_of old.law) (says_of old.law) script.clusters (map (λ x. x.cluster) script.sessions) None (event.Head two.cluster two.head ∷ event.End two.revision ∷ past)
               run_two = subst (λ (o : Past). IsRunOf (starts_of old.law) (says_of old.law) script.clusters (map (λ x. x.cluster) script.sessions) None (o ++ past)) two.is run_new

@@ -4,6 +4,7 @@ use Rattle.std.specs.Prelude.{◌==◌, nat_le}
 use Rattle.std.specs.List.{count_by, fold, list_any}
 use Rattle.std.proofs.lemmas.Bool.Decides.{nat_tests}
 use mathlib.Core.Bool.{false≢true}
+use Rattle.oak_machine.specs.declared.event.Event.{Event}
 use Rattle.oak_machine.specs.declared.event.Event.TheVariants as event
 use Rattle.oak_machine.specs.declared.event.StepKind.{StepKind}
 use Rattle.oak_machine.specs.History.{Past}
@@ -15,10 +16,11 @@ use Rattle.jr_script.specs.declared.script.Entry.TheVariants as entry
 use Rattle.jr_stage.specs.declared.stage.Stage.{Stage}
 use Rattle.jr_stage.specs.Places.{is_over, is_resting, is_waiting}
 use Rattle.jr_stage.specs.Parts.{Rule, by_entry, has_just_said, is_part_over, to_end, to_reply}
-use Rattle.jr_stage.specs.SoFar.{IsDouble, IsSingle, IsStepAt}
-use Rattle.jr_stage.specs.Stages.{Closes, HasCome, IsStage, IsUnder, due_at, past_of}
+use Rattle.jcr_run.specs.Standing.{AreEnds}
+use Rattle.jr_stage.specs.SoFar.{AreMadeBy, IsStepAt}
+use Rattle.jr_stage.specs.Stages.{Closes, HasCome, HasOnlyRead, IsStage, IsUnder, due_at, past_of}
 use Rattle.jr_stage.proofs.SoFar.{part_closes, part_replies, part_says}
-use Rattle.jr_stage.proofs.Closing.{awake_part, no_last, or_later, or_true, rests, under_begins, under_closes, under_stays, under_steps}
+use Rattle.jr_stage.proofs.Closing.{awake_part, no_last, or_later, or_true, rests, under_begins, under_closes, under_reads, under_stays, under_steps}
 
 at_least : (a b : ℕ) → a ≡ b → nat_le a b ≡ true
 at_least a b h = grind (arith, nat_tests)
@@ -38,25 +40,39 @@ number_itself n = grind (arith, nat_tests)
 -- ---- replies among the events of a step
 
 module _ (s : ℕ) (part : Past) where
-  pub not_said : (own : Past) (script : Script) (past : Past) → IsSingle script past s own ⊎ IsDouble script past s own → list_any (is_reply_of s) own ≡ false → has_just_said s (own ++ part) ≡ false
+  -- where a reply is among the events, they have none
+  unsaid : (own : Past) (e : Event) (more : Past) → own ≡ e ∷ more → is_reply_of s e ≡ true → list_any (is_reply_of s) own ≡ false → ⊥
+  unsaid own e more is said none = false≢true (sym (subst (λ (o : Past). list_any (is_reply_of s) o ≡ false) is none) ∙ ap (λ b. b || list_any (is_reply_of s) more) said)
+
+  pub not_said : (own : Past) (script : Script) (past : Past) → AreMadeBy script past s own → list_any (is_reply_of s) own ≡ false → has_just_said s (own ++ part) ≡ false
   not_said own script past (inl one) none = subst (λ (o : Past). has_just_said s (o ++ part) ≡ false) (sym one.is) (first (is_reply_of s one.event) (subst (λ (o : Past). list_any (is_reply_of s) o ≡ false) one.is none))
     where
       first : (b : Bool) → (b || false) ≡ false → b ≡ false
       first true h = h
       first false h = refl
-  not_said own script past (inr two) none = subst (λ (o : Past). has_just_said s (o ++ part) ≡ false) (sym two.is) refl
+  not_said own script past (inr (inl two)) none = subst (λ (o : Past). has_just_said s (o ++ part) ≡ false) (sym two.is) refl
+  not_said own script past (inr (inr said)) none = absurd (unsaid own (event.Said s said.index said.text) (said.told ∷ []) said.is (number_itself s) none)
 
-  pub same_count : (own : Past) (script : Script) (past : Past) → IsSingle script past s own ⊎ IsDouble script past s own → list_any (is_reply_of s) own ≡ false → count_by (is_reply_of s) (own ++ part) ≡ count_by (is_reply_of s) part
+  pub same_count : (own : Past) (script : Script) (past : Past) → AreMadeBy script past s own → list_any (is_reply_of s) own ≡ false → count_by (is_reply_of s) (own ++ part) ≡ count_by (is_reply_of s) part
   same_count own script past (inl one) none = subst (λ (o : Past). count_by (is_reply_of s) (o ++ part) ≡ count_by (is_reply_of s) part) (sym one.is)
       (ap (λ b. fold (λ n x. n + cond (is_reply_of s x) 1 0) (0 + cond b 1 0) part) (first (is_reply_of s one.event) (subst (λ (o : Past). list_any (is_reply_of s) o ≡ false) one.is none)))
     where
       first : (b : Bool) → (b || false) ≡ false → b ≡ false
       first true h = h
       first false h = refl
-  same_count own script past (inr two) none = subst (λ (o : Past). count_by (is_reply_of s) (o ++ part) ≡ count_by (is_reply_of s) part) (sym two.is) refl
+  same_count own script past (inr (inl two)) none = subst (λ (o : Past). count_by (is_reply_of s) (o ++ part) ≡ count_by (is_reply_of s) part) (sym two.is) refl
+  same_count own script past (inr (inr said)) none = absurd (unsaid own (event.Said s said.index said.text) (said.told ∷ []) said.is (number_itself s) none)
 
-  one_more : (i : ℕ) (text : _) → count_by (is_reply_of s) (event.Said s i text ∷ part) ≡ count_by (is_reply_of s) part + 1
-  one_more i text = ap (λ b. fold (λ n x. n + cond (is_reply_of s x) 1 0) (0 + cond b 1 0) part) (number_itself s) ∙ more part 0
+  -- how a task ended is no reply
+  ends_count : (told : Past) → AreEnds s told → count_by (is_reply_of s) (told ++ part) ≡ count_by (is_reply_of s) part
+  ends_count [] ends = refl
+  ends_count (event.Split a path x ∷ []) ends = refl
+  ends_count (event.Collected a c ∷ []) ends = refl
+  ends_count (e ∷ []) ends = absurd (false≢true ends)
+  ends_count (e ∷ f ∷ told) ends = absurd ends
+
+  one_more : (i : ℕ) (text : _) (told : Past) → AreEnds s told → count_by (is_reply_of s) ((event.Said s i text ∷ told) ++ part) ≡ count_by (is_reply_of s) part + 1
+  one_more i text told ends = ap (λ b. fold (λ n x. n + cond (is_reply_of s x) 1 0) (0 + cond b 1 0) (told ++ part)) (number_itself s) ∙ (more (told ++ part) 0 ∙ ap (λ n. n + 1) (ends_count told ends))
     where
       more : (list : Past) (n : ℕ) → fold (λ n x. n + cond (is_reply_of s x) 1 0) (n + 1) list ≡ fold (λ n x. n + cond (is_reply_of s x) 1 0) n list + 1
       more [] n = refl
@@ -82,6 +98,9 @@ module _ (first stage : Stage) (s n said : ℕ) where
   say_done has all = under_closes first stage (by_entry (entry.Say s n)) has.part has.under
       (part_says first.script.value (past_of first) s n has.part has.under.way (or_true (nat_le n (count_by (is_reply_of s) has.part)) _ (at_least n (count_by (is_reply_of s) has.part) (sym all ∙ has.count)))) tt
 
+  pub say_reads : HasSaid first stage s n said → (new : Stage) → HasOnlyRead stage new s → HasSaid first new s n said
+  say_reads has new read = record { part = has.part; under = under_reads first stage new (by_entry (entry.Say s n)) has.part s has.under read; count = has.count; few = has.few }
+
   module _ (has : HasSaid first stage s n said) (short : said < n) (new : Stage) where
     not_done : is_resting first.script.value (has.part ++ past_of first) s ≡ false → is_part_over first.script.value (by_entry (entry.Say s n)) (past_of first) has.part ≡ false
     not_done awake = ap (λ b. b || is_resting first.script.value (has.part ++ past_of first) s) (subst (λ (c : ℕ). nat_le n c ≡ false) has.count (short_of n said short)) ∙ awake
@@ -98,9 +117,9 @@ module _ (first stage : Stage) (s n said : ℕ) where
     pub say_said : (i : ℕ) → HasCome stage new s (turn.Said i) → HasSaid first new s n (said + 1)
     say_said i come = record {
       part = come.own ++ has.part;
-      under = under_steps first stage new (by_entry (entry.Say s n)) has.part s (turn.Said i) has.under come come.came.2 refl
-          (not_done (awake_part first stage new (by_entry (entry.Say s n)) has.part s (turn.Said i) has.under come come.came.2)) (λ t same last. no_last (by_entry (entry.Say s n)) t refl same);
-      count = ap (λ m. m + 1) has.count ∙ sym (subst (λ (o : Past). count_by (is_reply_of s) (o ++ has.part) ≡ count_by (is_reply_of s) has.part + 1) (sym come.came.1) (one_more s has.part i come.came.0));
+      under = under_steps first stage new (by_entry (entry.Say s n)) has.part s (turn.Said i) has.under come come.came.4 refl
+          (not_done (awake_part first stage new (by_entry (entry.Say s n)) has.part s (turn.Said i) has.under come come.came.4)) (λ t same last. no_last (by_entry (entry.Say s n)) t refl same);
+      count = ap (λ m. m + 1) has.count ∙ sym (subst (λ (o : Past). count_by (is_reply_of s) (o ++ has.part) ≡ count_by (is_reply_of s) has.part + 1) (sym come.came.2) (one_more s has.part i come.came.0 come.came.1 come.came.3));
       few = one_less said n short;
     }
 
@@ -129,6 +148,9 @@ module _ (first stage : Stage) (s : ℕ) where
   pub gone_begins : (rule : Rule) → IsStage stage → HasGone stage stage rule s
   gone_begins rule is = record { part = []; under = under_begins stage rule is; unsaid = refl }
 
+  pub gone_reads : (rule : Rule) → HasGone first stage rule s → (new : Stage) → HasOnlyRead stage new s → HasGone first new rule s
+  gone_reads rule has new read = record { part = has.part; under = under_reads first stage new rule has.part s has.under read; unsaid = has.unsaid }
+
   module _ (has : HasGone first stage (to_reply s) s) (new : Stage) where
     pub reply_steps : (k : StepKind) → HasCome stage new s (turn.Stepped k) → HasGone first new (to_reply s) s
     reply_steps k come = record {
@@ -139,9 +161,9 @@ module _ (first stage : Stage) (s : ℕ) where
 
     pub reply_said : (i : ℕ) → HasCome stage new s (turn.Said i) → Closes first new (to_reply s)
     reply_said i come =
-        let under = under_steps first stage new (to_reply s) has.part s (turn.Said i) has.under come come.came.2 refl has.unsaid (λ t same last. no_last (to_reply s) t refl same) in
+        let under = under_steps first stage new (to_reply s) has.part s (turn.Said i) has.under come come.came.4 refl has.unsaid (λ t same last. no_last (to_reply s) t refl same) in
         under_closes first new (to_reply s) (come.own ++ has.part) under
-        (part_replies first.script.value (past_of first) s (come.own ++ has.part) under.way (subst (λ (o : Past). has_just_said s (o ++ has.part) ≡ true) (sym come.came.1) (number_itself s))) tt
+        (part_replies first.script.value (past_of first) s (come.own ++ has.part) under.way (subst (λ (o : Past). has_just_said s (o ++ has.part) ≡ true) (sym come.came.2) (number_itself s))) tt
 
 -- turns of s were made towards its end
 pub record IsEnding (first stage : Stage) (s : ℕ) : Type 0 where
@@ -151,6 +173,9 @@ pub record IsEnding (first stage : Stage) (s : ℕ) : Type 0 where
 module _ (first stage : Stage) (s : ℕ) where
   pub end_begins : IsStage stage → IsEnding stage stage s
   end_begins is = record { part = []; under = under_begins stage (to_end s) is }
+
+  pub end_reads : IsEnding first stage s → (new : Stage) → HasOnlyRead stage new s → IsEnding first new s
+  end_reads has new read = record { part = has.part; under = under_reads first stage new (to_end s) has.part s has.under read }
 
   second : (a b : Bool) → (a || b) ≡ false → b ≡ false
   second true b h = absurd (false≢true (sym h))
@@ -168,7 +193,7 @@ module _ (first stage : Stage) (s : ℕ) where
     end_steps k come = made_one (turn.Stepped k) come come.came.0
 
     pub end_said : (i : ℕ) → HasCome stage new s (turn.Said i) → IsEnding first new s
-    end_said i come = made_one (turn.Said i) come come.came.2
+    end_said i come = made_one (turn.Said i) come come.came.4
 
     over_first : HasCome stage new s turn.Ended → is_over first.script.value (has.part ++ past_of first) s ≡ true
     over_first come = subst (λ (p : Past). is_over first.script.value p s ≡ true) has.under.whole (subst (λ (x : Script). is_over x (past_of stage) s ≡ true) has.under.script come.came.1)

@@ -16,6 +16,15 @@ use Rattle.oak_sweep.specs.declared.stage.Stage.TheVariants as swept
 use Rattle.oak_sync.specs.Learning.{stage_of}
 use Rattle.oak_sync.specs.declared.stage.Stage.{Stage as Syncing}
 use Rattle.oak_sync.specs.declared.stage.Stage.TheVariants as syncing
+use Rattle.oak_gc.specs.Stages as collect_stages
+use Rattle.oak_gc.specs.declared.stage.Stage.{Stage as Collects}
+use Rattle.oak_gc.specs.declared.stage.Stage.TheVariants as collects
+use Rattle.oak_prev.specs.Stages as split_stages
+use Rattle.oak_prev.specs.declared.stage.Stage.{Stage as Splits}
+use Rattle.oak_prev.specs.declared.stage.Stage.TheVariants as splits
+use Rattle.oak_tidy.specs.Tidyings.{kind_collect, kind_split, kind_tidied}
+use Rattle.oak_tidy.specs.declared.tidying.Tidying.{Tidying}
+use Rattle.oak_tidy.specs.declared.tidying.Tidying.TheVariants as tidying
 use Rattle.oak_world.specs.Seen.{shown_by, shown_work}
 use Rattle.oak_step.specs.Works.{kind_due}
 use Rattle.jr_stage.specs.SoFar.{is_last_due}
@@ -63,6 +72,22 @@ upkeep_commits upkeep.Detach h = false≢true h
 upkeep_commits (upkeep.Detaching pin) h = false≢true h
 upkeep_commits upkeep.Observe h = false≢true h
 
+-- a split and a collection make no last write
+split_commits : (at : Splits) → is_last_due (Some (kind_split at)) ≡ true → ⊥
+split_commits splits.Split h = false≢true h
+split_commits splits.Read h = false≢true h
+split_commits splits.Done h = false≢true h
+
+collect_commits : (at : Collects) → is_last_due (Some (kind_collect at)) ≡ true → ⊥
+collect_commits collects.Bound h = false≢true h
+collect_commits collects.Collect h = false≢true h
+collect_commits collects.Read h = false≢true h
+collect_commits collects.Done h = false≢true h
+
+tidy_commits : (x : Tidying) → is_last_due (Some (kind_tidied x)) ≡ true → ⊥
+tidy_commits (tidying.Split x) h = split_commits (split_stages.stage_of x) h
+tidy_commits (tidying.Collect x) h = collect_commits (collect_stages.stage_of x) h
+
 pub last_commits : (w : Work) → is_last_due (kind_due w) ≡ true → at_commit (shown_work w) ≡ true
 last_commits work.Rest h = absurd (false≢true h)
 last_commits work.Login h = absurd (false≢true h)
@@ -74,3 +99,5 @@ last_commits (work.Plan edit marks) h = absurd (false≢true h)
 last_commits (work.Commit c) h = commits c.revision c.outcome
 last_commits (work.Move r) h = absurd (false≢true h)
 last_commits (work.Upkeep u) h = absurd (upkeep_commits u h)
+last_commits (work.Tidy x) h = absurd (tidy_commits x h)
+last_commits (work.Told e) h = absurd (false≢true h)

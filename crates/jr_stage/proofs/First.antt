@@ -19,10 +19,10 @@ use Rattle.oak_port.specs.Ports.{HoldsBack}
 use Rattle.jr_script.specs.declared.script.Script.{Script}
 use Rattle.jr_stage.specs.Awaited.{DrawsNone, IsAlone, IsNextToReply, IsStill, KeepsWaiting, LeavesOtherSessions}
 use Rattle.jr_stage.specs.Places.{is_own}
-use Rattle.jr_stage.specs.SoFar.{IsDouble, IsSingle}
+use Rattle.jr_stage.specs.SoFar.{AreMadeBy}
 use Rattle.jr_stage.proofs.Flying.{flight_other, flying_by, halves, same_itself}
 use Rattle.jr_stage.proofs.Seen.{known}
-use Rattle.jr_stage.proofs.SoFar.{not_of_another, one_session}
+use Rattle.jr_stage.proofs.SoFar.{not_of_another, one_session, own_itself, told_own}
 
 equal : (a b : ℕ) → (a == b) ≡ true → a ≡ b
 equal a b h = grind (arith, nat_tests)
@@ -233,14 +233,20 @@ module _ (clusters : ℕ) (sessions : List ℕ) (nodes : AreNodes clusters sessi
 
   module _ (script : Script) (s : ℕ) (past : Past) where
     -- the events of a turn of s
-    pub turn_leaves : (own : Past) → IsRunOf starts says clusters sessions None (own ++ past) → (own ≡ []) ⊎ (IsSingle script past s own ⊎ IsDouble script past s own) → LeavesOtherSessions past (own ++ past) s
+    pub turn_leaves : (own : Past) → IsRunOf starts says clusters sessions None (own ++ past) → (own ≡ []) ⊎ AreMadeBy script past s own → LeavesOtherSessions past (own ++ past) s
     turn_leaves own run (inl none) = subst (λ (o : Past). LeavesOtherSessions past (o ++ past) s) (sym none) (leaves_same past s)
     turn_leaves own run (inr (inl one)) =
         subst (λ (o : Past). LeavesOtherSessions past (o ++ past) s) (sym one.is)
         (event_leaves past s one.event (subst (λ (o : Past). IsRunOf starts says clusters sessions None (o ++ past)) one.is run) (λ t apart. not_of_another script past t s apart one.event one.made))
-    turn_leaves own run (inr (inr two)) =
+    turn_leaves own run (inr (inr (inl two))) =
         let ran : IsRunOf starts says clusters sessions None (event.Head two.cluster two.head ∷ event.End two.revision ∷ past) = subst (λ (o : Past). IsRunOf starts says clusters sessions None (o ++ past)) two.is run in
         subst (λ (o : Past). LeavesOtherSessions past (o ++ past) s) (sym two.is)
         (leaves_on past (event.End two.revision ∷ past) (event.Head two.cluster two.head ∷ event.End two.revision ∷ past) s
         (event_leaves past s (event.End two.revision) ran.1 (λ t apart. one_session past t s apart (event.End two.revision) two.theirs))
         (event_leaves (event.End two.revision ∷ past) s (event.Head two.cluster two.head) ran (λ t apart. refl)))
+    turn_leaves own run (inr (inr (inr said))) =
+        let ran : IsRunOf starts says clusters sessions None (event.Said s said.index said.text ∷ said.told ∷ past) = subst (λ (o : Past). IsRunOf starts says clusters sessions None (o ++ past)) said.is run in
+        subst (λ (o : Past). LeavesOtherSessions past (o ++ past) s) (sym said.is)
+        (leaves_on past (said.told ∷ past) (event.Said s said.index said.text ∷ said.told ∷ past) s
+        (event_leaves past s said.told ran.1 (λ t apart. one_session past t s apart said.told (told_own past s said.told said.ends)))
+        (event_leaves (said.told ∷ past) s (event.Said s said.index said.text) ran (λ t apart. one_session (said.told ∷ past) t s apart (event.Said s said.index said.text) (own_itself s))))

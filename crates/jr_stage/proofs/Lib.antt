@@ -24,6 +24,7 @@ pub mod Seen
 pub mod SoFar
 pub mod Taking
 pub mod Turning
+pub mod Uncommitted
 pub mod Unnamed
 mod Waiting
 pub mod Whole

@@ -1,5 +1,5 @@
 -- Turns until so many replies are said, to the next reply, and to the end: steps, and a turn behind them.
-use Rattle.std.proofs.Common.{◌≡◌, ℕ, ◌+◌, ◌<◌, length, true, false, Some, None, Option, ◌++◌, refl, sym, ap, ◌∙◌}
+use Rattle.std.proofs.Common.{◌≡◌, ℕ, ◌+◌, ◌<◌, length, true, false, Some, None, Option, ◌++◌, refl, sym, ap, ◌∙◌, subst}
 use Rattle.std.specs.Prelude.{◌==◌, slice_get}
 use Rattle.std.specs.Option.{option_map, option_map_or}
 use mathlib.Core.Bool.{false≢true}
@@ -19,8 +19,8 @@ use Rattle.jr_stage.specs.Awaited.{IsAlone, IsNextToReply, IsStill, LeavesOtherS
 use Rattle.jr_stage.specs.Nearing.{saves_at}
 use Rattle.jr_stage.specs.Parts.{by_entry, to_end, to_reply}
 use Rattle.jr_stage.specs.Places.{commands_of, is_over}
-use Rattle.jr_stage.specs.Stages.{AreSteps, Closes, EndsSteps, HasCome, IsStage, StepsUntil, past_of}
-use Rattle.jr_stage.proofs.Counting.{HasGone, HasSaid, IsEnding, end_begins, end_is_over, end_over, end_said, end_steps, gone_begins, reply_said, reply_steps, say_over, say_said, say_steps, say_waits}
+use Rattle.jr_stage.specs.Stages.{AreSteps, Closes, EndsSteps, HasCome, HasOnlyRead, IsStage, StepsUntil, past_of}
+use Rattle.jr_stage.proofs.Counting.{HasGone, HasSaid, IsEnding, end_begins, end_is_over, end_over, end_reads, end_said, end_steps, gone_begins, gone_reads, reply_said, reply_steps, say_over, say_reads, say_said, say_steps, say_waits}
 use Rattle.jr_stage.proofs.First.{alone_first, alone_stays, alone_still, first_stays, leaves_on, leaves_same}
 use Rattle.jr_stage.proofs.Flying.{halves}
 use Rattle.jr_stage.proofs.Going.{steps_keep, until_as}
@@ -31,7 +31,7 @@ use Rattle.jr_stage.proofs.Saving.{committing_saves, flying_commits, left_idle, 
 
 module _ (first stage : Stage) (s n said : ℕ) (has : HasSaid first stage s n said) (short : said < n) where
   said_on : (last : Stage) → AreSteps s None stage last → HasSaid first last s n said
-  said_on last steps = steps_keep s None stage (λ x. HasSaid first x s n said) has (λ mid new k before none come. say_steps first mid s n said before short new k come) last steps
+  said_on last steps = steps_keep s None stage (λ x. HasSaid first x s n said) has (λ mid new k before none come. say_steps first mid s n said before short new k come) (λ mid new before read. say_reads first mid s n said before new read) last steps
 
   pub says_until : (X : Type 0) (new : Stage) (answer : Turn) (k : StepKind) → answer ≡ turn.Stepped k → StepsUntil X stage new s None answer → HasSaid first new s n said
   says_until X new answer k is h = said_on new (until_as X stage new s None answer (turn.Stepped k) is h).0
@@ -67,7 +67,7 @@ module _ (stage : Stage) (s : ℕ) (is : IsStage stage) (seat : Seat) (at : slic
   idle_left left = left_idle stage.world.law (shown_at 0 stage.world s) seat.run ((is.each s seat at).stands 0) left
 
   idle_said : (old : Stage) (i : ℕ) → HasCome old stage s (turn.Said i) → is_drawing (past_of stage) s ≡ false
-  idle_said old i come = said_idle stage.world.law (shown_at 0 stage.world s) seat.run ((is.each s seat at).stands 0) i come.came.0 (past_of old) (come.past ∙ ap (λ (o : Past). o ++ past_of old) come.came.1)
+  idle_said old i come = said_idle stage.world.law (shown_at 0 stage.world s) seat.run ((is.each s seat at).stands 0) i come.came.0 (come.came.1 ++ past_of old) (come.past ∙ ap (λ (o : Past). o ++ past_of old) come.came.2)
 
 pub has_left_over : (script : Script) (past : Past) (s : ℕ) → is_over script past s ≡ true → has_left past s ≡ true
 has_left_over script past s over = (halves (next_index past s == length (commands_of script s)) (has_left past s) over).1
@@ -94,12 +94,20 @@ replying_step first stage s has new k come = record {
   leaves = leaves_on (past_of first) (past_of stage) (past_of new) s has.leaves come.leaves;
 }
 
+replying_reads : (first stage : Stage) (s : ℕ) → IsReplying first stage s → (new : Stage) → HasOnlyRead stage new s → IsReplying first new s
+replying_reads first stage s has new read = record {
+  gone = gone_reads first stage s (to_reply s) has.gone new read;
+  saves = read.saves ∙ has.saves;
+  waits = subst (λ (p : Past). IsNextToReply p s) (sym read.past) has.waits;
+  leaves = subst (λ (p : Past). LeavesOtherSessions (past_of first) p s) (sym read.past) has.leaves;
+}
+
 module _ (first stage : Stage) (s : ℕ) (is : IsStage first) (below : s < length first.seats.items) (has : IsReplying first stage s) where
   pub replying_there : s < length stage.seats.items
   replying_there = seats_on first stage s is has.gone.under.stage_is has.gone.under.script below
 
   replying_on : (last : Stage) → AreSteps s None stage last → IsReplying first last s
-  replying_on last steps = steps_keep s None stage (λ x. IsReplying first x s) has (λ mid new k before none come. replying_step first mid s before new k come) last steps
+  replying_on last steps = steps_keep s None stage (λ x. IsReplying first x s) has (λ mid new k before none come. replying_step first mid s before new k come) (λ mid new before read. replying_reads first mid s before new read) last steps
 
   pub replies_until : (X : Type 0) (new : Stage) (answer : Turn) (k : StepKind) → answer ≡ turn.Stepped k → StepsUntil X stage new s None answer → IsReplying first new s
   replies_until X new answer k same h = replying_on new (until_as X stage new s None answer (turn.Stepped k) same h).0
@@ -131,7 +139,7 @@ module _ (first stage : Stage) (s : ℕ) (is : IsStage first) (below : s < lengt
       let before = replying_on h.mid h.steps in
       let p = seat_at h.mid.seats.items s (seats_on first h.mid s is before.gone.under.stage_is before.gone.under.script below) in
       absurd (false≢true (sym (saves_stays h.mid s before.gone.under.stage_is p.0 p.1 before.saves) ∙ has_left_over h.mid.script.value (past_of h.mid) s h.come.came.1))
-  replies_only X new turn.Read unsaid none h = absurd h.come.came
+  replies_only X new turn.Read unsaid none h = absurd (false≢true h.1)
   replies_only X new turn.Memory unsaid none h = absurd h.come.came
 
 -- ---- to the end
@@ -150,12 +158,18 @@ finishing_step first stage s has new k come = record {
   alone = alone_stays (past_of stage) (past_of new) s come.leaves has.alone;
 }
 
+finishing_reads : (first stage : Stage) (s : ℕ) → IsFinishing first stage s → (new : Stage) → HasOnlyRead stage new s → IsFinishing first new s
+finishing_reads first stage s has new read = record {
+  ending = end_reads first stage s has.ending new read;
+  alone = subst (λ (p : Past). IsAlone p s) (sym read.past) has.alone;
+}
+
 module _ (first stage : Stage) (s : ℕ) (is : IsStage first) (below : s < length first.seats.items) (has : IsFinishing first stage s) where
   pub finishing_there : s < length stage.seats.items
   finishing_there = seats_on first stage s is has.ending.under.stage_is has.ending.under.script below
 
   finishing_on : (last : Stage) → AreSteps s None stage last → IsFinishing first last s
-  finishing_on last steps = steps_keep s None stage (λ x. IsFinishing first x s) has (λ mid new k before none come. finishing_step first mid s before new k come) last steps
+  finishing_on last steps = steps_keep s None stage (λ x. IsFinishing first x s) has (λ mid new k before none come. finishing_step first mid s before new k come) (λ mid new before read. finishing_reads first mid s before new read) last steps
 
   pub finishes_until : (X : Type 0) (new : Stage) (answer : Turn) (k : StepKind) → answer ≡ turn.Stepped k → StepsUntil X stage new s None answer → IsFinishing first new s
   finishes_until X new answer k same h = finishing_on new (until_as X stage new s None answer (turn.Stepped k) same h).0
@@ -193,5 +207,5 @@ module _ (first stage : Stage) (s : ℕ) (is : IsStage first) (below : s < lengt
       let kept = h.come.kept in
       absurd (alone_first (past_of h.mid) s (finishing_on h.mid h.steps).alone kept.0 kept.1 kept.2)
   finishes_only X new turn.Ended more unsaid none h = absurd (more refl)
-  finishes_only X new turn.Read more unsaid none h = absurd h.come.came
+  finishes_only X new turn.Read more unsaid none h = absurd (false≢true h.1)
   finishes_only X new turn.Memory more unsaid none h = absurd h.come.came

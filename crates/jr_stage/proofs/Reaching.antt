@@ -9,6 +9,7 @@ use mathlib.Core.Bool.{false≢true}
 use Rattle.oak_machine.specs.declared.event.StepKind.{StepKind}
 use Rattle.oak_machine.specs.History.{History, Past}
 use Rattle.oak_machine.specs.Sessions.{is_drawing}
+use Rattle.jcr_run.specs.Nearing.{stages_left}
 use Rattle.jcr_run.specs.Standing.{is_working}
 use Rattle.jcr_run.specs.declared.turn.Turn.{Turn}
 use Rattle.jcr_run.specs.declared.turn.Turn.TheVariants as turn
@@ -21,13 +22,13 @@ use Rattle.jr_stage.specs.declared.flight.Flight.{Flight}
 use Rattle.jr_stage.specs.declared.stage.Seat.{Seat}
 use Rattle.jr_stage.specs.declared.stage.Stage.{Stage}
 use Rattle.jr_stage.specs.Flights.{IsFlight}
-use Rattle.jr_stage.specs.Nearing.{works_at, reads_at}
+use Rattle.jr_stage.specs.Nearing.{place_at, reads_at, works_at}
 use Rattle.jr_stage.specs.Places.{has_written, is_at_last, is_resting, is_write_of, since_draw}
 use Rattle.jr_stage.specs.Parts.{Rule, by_entry, has_just_said, is_entry_done}
 use Rattle.jr_stage.specs.SoFar.{IsStepAt, is_last_due}
 use Rattle.jr_stage.specs.Stages.{AreSteps, Closes, EndsSteps, HasCome, IsOfCommit, IsStage, IsUnder, StepsUntil, due_at, has_come, has_come_by, past_of}
 use Rattle.jr_stage.proofs.Closing.{awake_part, rests, under_closes, under_stays, under_steps}
-use Rattle.jr_stage.proofs.Counting.{HasGone, not_said, number_itself}
+use Rattle.jr_stage.proofs.Counting.{HasGone, gone_reads, not_said, number_itself}
 use Rattle.jr_stage.proofs.Flying.{flight_at_last, flight_decided, flight_drawing, flight_not_at_last, flight_written, idle_not_at_last}
 use Rattle.jr_stage.proofs.Going.{steps_keep, until_as}
 use Rattle.jr_stage.proofs.SoFar.{part_at_last, part_draws, part_rests, part_writes}
@@ -215,8 +216,8 @@ module _ (first stage : Stage) (s : ℕ) (e : Entry) (named : IsOfCommit s e) (h
     }
 
     pub go_said : (i : ℕ) → HasCome stage new s (turn.Said i) → Closes first new (by_entry e)
-    go_said i come = close_done first new s (come.own ++ has.part) e named (made_one (turn.Said i) come come.came.2)
-        (done_said first.script.value s (past_of first) (come.own ++ has.part) e named (subst (λ (o : Past). has_just_said s (o ++ has.part) ≡ true) (sym come.came.1) (number_itself s)))
+    go_said i come = close_done first new s (come.own ++ has.part) e named (made_one (turn.Said i) come come.came.4)
+        (done_said first.script.value s (past_of first) (come.own ++ has.part) e named (subst (λ (o : Past). has_just_said s (o ++ has.part) ≡ true) (sym come.came.2) (number_itself s)))
 
     at_rest : (answer : Turn) (come : HasCome stage new s answer) → come.own ≡ [] → is_resting stage.script.value (past_of stage) s ≡ true → Closes first new (by_entry e)
     at_rest answer come none rest = close_done first new s has.part e named (under_stays first stage new (by_entry e) has.part s answer has.under come none)
@@ -291,7 +292,8 @@ module _ (first stage : Stage) (s : ℕ) (e : Entry) (named : IsOfCommit s e) (i
   gone_on : (last : Stage) → AreSteps s (Some e) stage last → HasGone first last (by_entry e) s
   gone_on last steps =
       steps_keep s (Some e) stage (λ x. HasGone first x (by_entry e) s) has
-      (λ mid new k before short come. goes first mid s e named before (still_there first mid s e named before is below) short new k come) last steps
+      (λ mid new k before short come. goes first mid s e named before (still_there first mid s e named before is below) short new k come)
+      (λ mid new before read. gone_reads first mid s (by_entry e) before new read) last steps
 
   pub goes_until : (X : Type 0) (new : Stage) (answer : Turn) (k : StepKind) → answer ≡ turn.Stepped k → StepsUntil X stage new s (Some e) answer → HasGone first new (by_entry e) s
   goes_until X new answer k same h = gone_on new (until_as X stage new s (Some e) answer (turn.Stepped k) same h).0
@@ -309,7 +311,7 @@ module _ (first stage : Stage) (s : ℕ) (e : Entry) (named : IsOfCommit s e) (i
       by (turn.Said i) apart h = ends (turn.Said i) apart h
       by (turn.Waiting q) apart h = ends (turn.Waiting q) apart h
       by turn.Ended apart h = ends turn.Ended apart h
-      by turn.Read apart h = ends turn.Read apart h
+      by turn.Read apart h = let before = gone_on new h.0 in go_closes first new s e named before (still_there first new s e named before is below) h.1
       by turn.Memory apart h = ends turn.Memory apart h
 
 -- ---- what a seat tells
@@ -324,6 +326,9 @@ module _ (stage : Stage) (s : ℕ) (seat : Seat) (below : s < length stage.seats
 
   pub reads_of_seat : reads_at stage s ≡ is_some seat.run.fetch
   reads_of_seat = ap (λ (o : Option Seat). option_map_or (λ x. is_some x.run.fetch) o false) seat_there
+
+  pub place_of_seat : place_at stage s ≡ stages_left seat.run.phase
+  place_of_seat = ap (λ (o : Option Seat). option_map_or stages_left (option_map (λ x. x.run.phase) o) 0) seat_there
 
   pub works_of_seat : works_at stage s ≡ is_working seat.run.phase
   works_of_seat = ap (λ (o : Option Seat). option_map_or is_working (option_map (λ x. x.run.phase) o) false) seat_there

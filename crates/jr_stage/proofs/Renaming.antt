@@ -180,6 +180,32 @@ module _ (law : JcrLaw) (p : Shown) (b : Beside) (d : Option StepKind) (run : Se
       eight = h.eight;
     },
   )
+  at_renamed phase.Tidying (i, h) = (
+    in_renamed run.attached i,
+    record {
+      command = h.command;
+      call = h.call;
+      for = command_renamed h.command h.call h.for;
+      tidies = h.tidies;
+      unmoved = h.unmoved;
+      unpinned = h.unpinned;
+      works = h.works;
+      place = h.place;
+    },
+  )
+  at_renamed (phase.Tidied t) (i, h) = (
+    in_renamed run.attached i,
+    record {
+      command = h.command;
+      call = h.call;
+      for = command_renamed h.command h.call h.for;
+      tidies = h.tidies;
+      unmoved = h.unmoved;
+      unpinned = h.unpinned;
+      works = h.works;
+      place = h.place;
+    },
+  )
   at_renamed phase.Over h = record { idle = h.idle; left = h.left; all = h.all; still = h.still }
 
   pub stands_renamed : Stands law p run → Stands law q run

@@ -17,12 +17,14 @@ use Rattle.oak_machine.specs.Sessions.{drawn_among, drawn_since, has_left, has_l
 use Rattle.oak_machine.proofs.Stays.{any_later}
 use Rattle.oak_commit.specs.declared.outcome.CommitEnd.{CommitEnd}
 use Rattle.oak_commit.specs.declared.outcome.CommitEnd.TheVariants as commit
-use Rattle.oak_port.specs.Ports.{Awaiting, Deciding, HoldsBack, Idle, Learning, Passing, Publishing, Shown, Starting, Sweeping, Undoing, Work, Writing}
+use Rattle.oak_port.specs.Ports.{Awaiting, Collecting, Deciding, HoldsBack, Idle, Learning, Passing, Publishing, Shown, Starting, Sweeping, Undoing, Work, Writing}
 use Rattle.oak_port.specs.declared.task.Task.TheVariants as task
 use Rattle.core_heads.proofs.Passing.{drawn_stays, next_stays}
 use Rattle.jcr_law.specs.Lasting.{says_of, starts_of}
 use Rattle.jcr_law.specs.State.{Call}
 use Rattle.jcr_law.specs.declared.law.JcrLaw.{JcrLaw}
+use Rattle.jcr_steps.specs.declared.tidying.Tidied.{Tidied}
+use Rattle.jcr_steps.specs.declared.tidying.Tidied.TheVariants as tidied
 use Rattle.jcr_trans.specs.declared.command.Command.{Command}
 use Rattle.jcr_trans.specs.declared.command.Command.TheVariants as command
 use Rattle.jcr_run.specs.declared.run.Fetch.{Fetch}
@@ -31,7 +33,7 @@ use Rattle.jcr_run.specs.declared.run.Phase.{Phase}
 use Rattle.jcr_run.specs.declared.run.Phase.TheVariants as phase
 use Rattle.jcr_run.specs.declared.run.SessionRun.{SessionRun}
 use Rattle.jcr_run.specs.declared.turn.Turn.TheVariants as turn
-use Rattle.jcr_run.specs.Standing.{HasCommitted, HasDrawn, IsCommitting, IsIn, IsOneStep, IsReading, IsTurned, IsWorkFor, Stands, StandsAt, due_for, is_between, is_committing, is_saving, is_step_event, may_read, reads_for}
+use Rattle.jcr_run.specs.Standing.{HasCommitted, HasDrawn, IsCommitting, IsEndFor, IsIn, IsOneStep, IsReading, IsTidyWork, IsTurned, IsWorkFor, Stands, StandsAt, due_for, is_between, is_committing, is_saving, is_step_event, may_read, reads_for}
 use Rattle.jr_stage.specs.Awaited.{KeepsWaiting}
 use Rattle.jr_stage.proofs.First.{kept_by_another}
 
@@ -56,6 +58,18 @@ errand_waits h s c (command.Release id) (Starting (task.Release i)) works = refl
 errand_waits h s c (command.Observe path deep mask) (Starting task.Observe) works = refl
 errand_waits h s c command.Events (Starting task.Observe) works = refl
 errand_waits h s c m w works = absurd works
+
+-- nor does a split or a collection, under way or ended
+tidy_waits : (m : Command) (w : Work) → IsTidyWork m w → is_awaiting w ≡ false
+tidy_waits (command.Split path) (Starting (task.Split q)) works = refl
+tidy_waits command.Collect (Starting task.Collect) works = refl
+tidy_waits command.Collect Collecting works = refl
+tidy_waits m w works = absurd works
+
+told_waits : (s : ℕ) (m : Command) (t : Tidied) (w : Work) → IsEndFor s m t w → is_awaiting w ≡ false
+told_waits s (command.Split path) (tidied.Split e) w works = ap is_awaiting works
+told_waits s command.Collect (tidied.Collected c) w works = ap is_awaiting works
+told_waits s m t w works = absurd works
 
 -- ---- what a commit under way tells
 
@@ -95,6 +109,8 @@ module _ (law : JcrLaw) (p : Shown) (run : SessionRun) where
   idle_at (phase.Committed e pledge) at h = ended_idle law p at.1.call e at.1.ended
   idle_at (phase.Working e) at h = at.1.for.fresh.idle
   idle_at (phase.Told t) at h = at.1.for.fresh.idle
+  idle_at phase.Tidying at h = at.1.for.fresh.idle
+  idle_at (phase.Tidied t) at h = at.1.for.fresh.idle
   idle_at phase.Over at h = at.still
 
   in_at : (f : Phase) → StandsAt law p run f → is_saving f ≡ true → IsIn law p run.attached
@@ -137,6 +153,8 @@ module _ (law : JcrLaw) (p : Shown) (run : SessionRun) where
   awaits_at (phase.Committed e pledge) r at waits = idle_waits r at.1.idle waits
   awaits_at (phase.Working e) r at waits = working_waits r p.history at.1.call at.1.command p.work at.1.works waits
   awaits_at (phase.Told t) r at waits = idle_waits r at.1.idle waits
+  awaits_at phase.Tidying r at waits = absurd (false≢true (sym (tidy_waits at.1.command p.work at.1.works) ∙ ap is_awaiting waits))
+  awaits_at (phase.Tidied t) r at waits = absurd (false≢true (sym (told_waits p.session at.1.command t p.work at.1.works) ∙ ap is_awaiting waits))
   awaits_at phase.Over r at waits = idle_waits r at.idle waits
 
   -- ---- where it stands
@@ -241,6 +259,7 @@ module _ (law : JcrLaw) (old new : Shown) (run now : SessionRun) (k : StepKind) 
   drawn_by_one (event.Out c r) ran step = drawn_before
   drawn_by_one (event.In c v) ran step = drawn_before
   drawn_by_one (event.Sweep c r) ran step = drawn_before
+  drawn_by_one (event.Bound c v) ran step = drawn_before
   drawn_by_one (event.Checkpoint id v) ran step = drawn_before
   drawn_by_one (event.Release id) ran step = drawn_before
   drawn_by_one (event.Attach t id) ran step = drawn_before
@@ -297,4 +316,6 @@ module _ (law : JcrLaw) (old new : Shown) (run now : SessionRun) (k : StepKind) 
       by (phase.Committed e pledge) at = refl
       by (phase.Working e) at = none at.1.for.fresh.first
       by (phase.Told t) at = none at.1.for.fresh.first
+      by phase.Tidying at = none at.1.for.fresh.first
+      by (phase.Tidied t) at = none at.1.for.fresh.first
       by phase.Over at = all now.index (length now.commands) more_to_say at.all

@@ -1,8 +1,8 @@
 -- How a cut grows by steps, and how parts end.
-use Rattle.std.proofs.Common.{◌≡◌, ◌⊎◌, inl, inr, ℕ, Bool, true, false, cond, not, ◌||◌, ◌&&◌, Some, None, Option, List, [], ◌∷◌, ◌++◌, refl, sym, ap, ◌∙◌, subst, arith}
+use Rattle.std.proofs.Common.{◌≡◌, ◌⊎◌, inl, inr, ℕ, ◌+◌, Bool, true, false, cond, not, ◌||◌, ◌&&◌, Some, None, Option, List, [], ◌∷◌, ◌++◌, refl, sym, ap, ◌∙◌, subst, arith}
 use Rattle.std.specs.Prelude.{◌==◌, nat_le, reverse}
 use Rattle.std.specs.Option.{option_map_or}
-use Rattle.std.specs.List.{count_by}
+use Rattle.std.specs.List.{count_by, fold}
 use Rattle.std.proofs.lemmas.Bool.Decides.{nat_tests}
 use Rattle.std.proofs.lemmas.List.{reverse-append, reverse-reverse}
 use mathlib.Core.Bool.{false≢true}
@@ -14,13 +14,14 @@ use Rattle.oak_machine.specs.declared.event.StepKind.{StepKind}
 use Rattle.oak_machine.specs.History.{Past}
 use Rattle.oak_machine.specs.Commits.{draw_of}
 use Rattle.oak_machine.specs.Laws.{is_revision_of}
+use Rattle.oak_machine.specs.Runs.{is_task_end}
 use Rattle.oak_machine.specs.Sessions.{is_drawing, is_reply_of, is_stopped}
 use Rattle.jr_script.specs.declared.script.Script.{Script}
 use Rattle.jr_script.specs.declared.script.Entry.TheVariants as entry
 use Rattle.jr_stage.specs.Places.{is_at_last, is_commit, is_next, is_of_turn, is_own, is_resting, is_waiting, is_write_or_mark, next_of, tells_of_none}
 use Rattle.jr_stage.specs.Parts.{Rule, by_entry, to_reply, to_end, Part, part_session, is_part_over, is_part, is_turn, may_end, must_end, events_of, IsCut}
 use Rattle.jr_stage.specs.Growing.{StayParts, StaysPart, is_step_quiet}
-use Rattle.jr_stage.specs.SoFar.{AreQuiet, IsCutSoFar, IsDouble, IsMadeBy, IsQuiet, IsQuietNext, IsSingle, IsStepAt, IsUnderWay, IsUnnamed, is_last_due}
+use Rattle.jr_stage.specs.SoFar.{AreMadeBy, AreQuiet, IsCutSoFar, IsMadeBy, IsQuiet, IsQuietNext, IsSingle, IsStepAt, IsToldReply, IsUnderWay, IsUnnamed, is_last_due}
 use Rattle.jr_stage.proofs.Flying.{idle_not_at_last, none_is_some}
 use Rattle.jr_stage.proofs.Growing.{cut_grows, next_stays, part_grows}
 
@@ -62,11 +63,38 @@ module _ (past : Past) (s t : ℕ) (others : (s == t) ≡ false) where
   one_session (event.Said a i text) h = not_equal a h
   one_session e h = absurd (false≢true h)
 
+-- how a task of s ended is told of s
+pub told_own : (past : Past) (s : ℕ) (e : Event) → is_task_end s e ≡ true → is_own past s e ≡ true
+told_own past s (event.Split a path x) h = h
+told_own past s (event.Collected a c) h = h
+told_own past s e h = absurd (false≢true h)
+
+pub own_itself : (s : ℕ) → (s == s) ≡ true
+own_itself s = grind (arith, nat_tests)
+
+-- that is no write, no mark and no commit, and no reply
+told_quiet : (s : ℕ) (e : Event) → is_task_end s e ≡ true → (is_write_or_mark e ≡ false) × (is_commit e ≡ false) × (is_reply_of s e ≡ false)
+told_quiet s (event.Split a path x) h = (refl, refl, refl)
+told_quiet s (event.Collected a c) h = (refl, refl, refl)
+told_quiet s e h = absurd (false≢true h)
+
+-- while it is told the session doesn't rest, nor is anything of it in flight, where neither was before
+told_awake : (script : Script) (past : Past) (s : ℕ) (e : Event) → is_task_end s e ≡ true → is_resting script past s ≡ false → is_resting script (e ∷ past) s ≡ false
+told_awake script past s (event.Split a path x) h awake = awake
+told_awake script past s (event.Collected a c) h awake = awake
+told_awake script past s e h awake = absurd (false≢true h)
+
+told_idle : (past : Past) (s : ℕ) (e : Event) → is_task_end s e ≡ true → is_drawing past s ≡ false → is_drawing (e ∷ past) s ≡ false
+told_idle past s (event.Split a path x) h idle = idle
+told_idle past s (event.Collected a c) h idle = idle
+told_idle past s e h idle = absurd (false≢true h)
+
 -- an event that tells of no session is none of a session
 pub unnamed_own : (past : Past) (s : ℕ) (e : Event) → tells_of_none e ≡ true → is_own past s e ≡ false
 unnamed_own past s (event.Out k r) h = refl
 unnamed_own past s (event.In k v) h = refl
 unnamed_own past s (event.Sweep k r) h = refl
+unnamed_own past s (event.Bound m t) h = refl
 unnamed_own past s (event.Checkpoint id v) h = refl
 unnamed_own past s (event.Release id) h = refl
 unnamed_own past s e h = absurd (false≢true h)
@@ -135,7 +163,7 @@ module _ (script : Script) (due now : ℕ → Option StepKind) (t : ℕ) (past o
     | false ↦ λ other. theirs other step.events
   ] refl
     where
-      mine : is_last_due (due t) ≡ true → IsSingle script past t own ⊎ IsDouble script past t own → IsQuietNext (next_of past t (reverse own)) (now t)
+      mine : is_last_due (due t) ≡ true → AreMadeBy script past t own → IsQuietNext (next_of past t (reverse own)) (now t)
       mine last (inl one) =
           subst (λ (o : Past). IsQuietNext (next_of past t (reverse o)) (now t)) (sym one.is)
           (first one.made)
@@ -143,18 +171,27 @@ module _ (script : Script) (due now : ℕ → Option StepKind) (t : ℕ) (past o
           first : IsMadeBy script past t one.event → IsQuietNext (next_of past t (one.event ∷ [])) (now t)
           first (inl own) = subst (λ (o : Option Event). IsQuietNext o (now t)) (sym (next_own one.event t [] own)) (step.written one.event one.is last)
           first (inr unnamed) = absurd (false≢true (sym (step.unnamed one.event one.is unnamed.none) ∙ last))
-      mine last (inr two) =
+      mine last (inr (inl two)) =
           subst (λ (o : Past). IsQuietNext (next_of past t (reverse o)) (now t)) (sym two.is)
           (subst (λ (o : Option Event). IsQuietNext o (now t)) (sym (next_own (event.End two.revision) t (event.Head two.cluster two.head ∷ []) two.theirs)) refl)
+      mine last (inr (inr said)) =
+          subst (λ (o : Past). IsQuietNext (next_of past t (reverse o)) (now t)) (sym said.is)
+          (subst (λ (o : Option Event). IsQuietNext o (now t)) (sym (next_own said.told t (event.Said t said.index said.text ∷ []) (told_own past t said.told said.ends))) (told_quiet t said.told said.ends).0)
 
-      theirs : (s == t) ≡ false → IsSingle script past t own ⊎ IsDouble script past t own → IsQuietNext (next_of past s (reverse own)) (now s)
+      theirs : (s == t) ≡ false → AreMadeBy script past t own → IsQuietNext (next_of past s (reverse own)) (now s)
       theirs other (inl one) =
           subst (λ (o : Past). IsQuietNext (next_of past s (reverse o)) (now s)) (sym one.is)
           (subst (λ (o : Option Event). IsQuietNext o (now s)) (sym (next_other one.event s [] (not_of_another script past s t other one.event one.made)))
           (subst (λ (d : Option StepKind). is_last_due d ≡ true) (sym (others s other)) last))
-      theirs other (inr two) =
+      theirs other (inr (inl two)) =
           subst (λ (o : Past). IsQuietNext (next_of past s (reverse o)) (now s)) (sym two.is)
           (subst (λ (o : Option Event). IsQuietNext o (now s)) (sym (next_other (event.End two.revision) s (event.Head two.cluster two.head ∷ []) (one_session past s t other (event.End two.revision) two.theirs)))
+          (subst (λ (d : Option StepKind). is_last_due d ≡ true) (sym (others s other)) last))
+      theirs other (inr (inr said)) =
+          subst (λ (o : Past). IsQuietNext (next_of past s (reverse o)) (now s)) (sym said.is)
+          (subst (λ (o : Option Event). IsQuietNext o (now s))
+          (sym (next_other said.told s (event.Said t said.index said.text ∷ []) (one_session past s t other said.told (told_own past t said.told said.ends))
+          ∙ ap (λ b. cond b (Some (event.Said t said.index said.text)) None) (one_session (said.told ∷ past) s t other (event.Said t said.index said.text) (own_itself t))))
           (subst (λ (d : Option StepKind). is_last_due d ≡ true) (sym (others s other)) last))
 
   quiet_next : (q : Past) (s : ℕ) (later : List Event) → past ≡ reverse later ++ q → IsQuietNext (next_of q s later) (due s) → IsQuietNext (next_of q s (later ++ reverse own)) (now s)
@@ -242,17 +279,22 @@ and_true true b h k = k
 and_true false b h k = absurd (false≢true h)
 
 module _ (script : Script) (before : Past) where
-  -- nothing ends a part between the end of a revision and the move of the head
-  mid_done : (rule : Rule) (part : Past) (r : Revision) → is_part_over script rule before part ≡ false → is_drawing (event.End r ∷ (part ++ before)) (part_session rule) ≡ false → is_resting script (event.End r ∷ (part ++ before)) (part_session rule) ≡ false
-      → is_part_over script rule before (event.End r ∷ part) ≡ false
-  mid_done (by_entry (entry.Turn s)) part r done idle awake = refl
-  mid_done (by_entry (entry.Say s n)) part r done idle awake = ap (λ b. b || is_resting script (event.End r ∷ (part ++ before)) s) (neither (nat_le n (count_by (is_reply_of s) part)) _ done).0 ∙ awake
-  mid_done (by_entry (entry.Draw s)) part r done idle awake = ap (λ b. b || false || is_resting script (event.End r ∷ (part ++ before)) s) idle ∙ awake
-  mid_done (by_entry (entry.Write s n)) part r done idle awake = ap (λ b. (b && nat_le n (count_by (Rattle.jr_stage.specs.Places.is_write_of s) (Rattle.jr_stage.specs.Places.since_draw (event.End r ∷ (part ++ before)) s))) || false || is_resting script (event.End r ∷ (part ++ before)) s) idle ∙ awake
-  mid_done (by_entry (entry.Last s)) part r done idle awake = awake
-  mid_done (by_entry (entry.Read s)) part r done idle awake = absurd (false≢true (sym done))
-  mid_done (to_reply s) part r done idle awake = refl
-  mid_done (to_end s) part r done idle awake = (neither (is_waiting script (event.End r ∷ (part ++ before)) s) _ awake).1
+  -- nothing ends a part between two events of a step, the first of which is no reply
+  mid_done : (rule : Rule) (part : Past) (e : Event) → is_reply_of (part_session rule) e ≡ false → is_part_over script rule before part ≡ false → is_drawing (e ∷ (part ++ before)) (part_session rule) ≡ false → is_resting script (e ∷ (part ++ before)) (part_session rule) ≡ false
+      → is_part_over script rule before (e ∷ part) ≡ false
+  mid_done (by_entry (entry.Turn s)) part e unsaid done idle awake = refl
+  mid_done (by_entry (entry.Say s n)) part e unsaid done idle awake =
+      ap (λ b. nat_le n (fold (λ n x. n + cond (is_reply_of s x) 1 0) (0 + cond b 1 0) part) || is_resting script (e ∷ (part ++ before)) s) unsaid
+      ∙ (ap (λ b. b || is_resting script (e ∷ (part ++ before)) s) (neither (nat_le n (count_by (is_reply_of s) part)) _ done).0 ∙ awake)
+  mid_done (by_entry (entry.Draw s)) part e unsaid done idle awake =
+      ap (λ b. b || is_reply_of s e || is_resting script (e ∷ (part ++ before)) s) idle ∙ (ap (λ b. b || is_resting script (e ∷ (part ++ before)) s) unsaid ∙ awake)
+  mid_done (by_entry (entry.Write s n)) part e unsaid done idle awake =
+      ap (λ b. (b && nat_le n (count_by (Rattle.jr_stage.specs.Places.is_write_of s) (Rattle.jr_stage.specs.Places.since_draw (e ∷ (part ++ before)) s))) || is_reply_of s e || is_resting script (e ∷ (part ++ before)) s) idle
+      ∙ (ap (λ b. b || is_resting script (e ∷ (part ++ before)) s) unsaid ∙ awake)
+  mid_done (by_entry (entry.Last s)) part e unsaid done idle awake = ap (λ b. b || is_resting script (e ∷ (part ++ before)) s) unsaid ∙ awake
+  mid_done (by_entry (entry.Read s)) part e unsaid done idle awake = absurd (false≢true (sym done))
+  mid_done (to_reply s) part e unsaid done idle awake = unsaid
+  mid_done (to_end s) part e unsaid done idle awake = (neither (is_waiting script (e ∷ (part ++ before)) s) _ awake).1
 
   -- the part need not have ended before an event
   pub not_yet : (rule : Rule) (part : Past) (e : Event) → is_part_over script rule before part ≡ false → ((s : ℕ) → rule ≡ by_entry (entry.Last s) → (is_at_last (part ++ before) s && is_next is_commit (part ++ before) s (e ∷ [])) ≡ false) → must_end script rule before part (e ∷ []) ≡ false
@@ -311,15 +353,51 @@ module _ (script : Script) (before : Past) where
           none_next : (t : ℕ) → (is_at_last (part ++ before) t && is_next is_commit (part ++ before) t (e ∷ [])) ≡ false
           none_next t = and_false (is_at_last (part ++ before) t) _ (ap (λ b. option_map_or is_commit (cond b (Some e) None) false) (unnamed_own (part ++ before) t e un.none))
 
+      -- how a task ended, and the reply behind it
+      told_under : (said : IsToldReply (part ++ before) (part_session rule) own) → IsUnderWay script rule before (event.Said (part_session rule) said.index said.text ∷ said.told ∷ part)
+      told_under said = record {
+        goes = part_grows script rule before (said.told ∷ part) (event.Said (part_session rule) said.index said.text) first.knows first.goes
+            (not_yet rule (said.told ∷ part) (event.Said (part_session rule) said.index said.text)
+            (mid_done rule part said.told quiet.2 done (told_idle (part ++ before) (part_session rule) said.told said.ends said.idle) (told_awake script (part ++ before) (part_session rule) said.told said.ends step.awake))
+            (λ t same. none_next (said.told ∷ (part ++ before)) t (event.Said (part_session rule) said.index said.text) refl))
+            (own_of_turn script (said.told ∷ (part ++ before)) (part_session rule) (event.Said (part_session rule) said.index said.text) (own_itself (part_session rule)));
+        knows = and_true (is_own (said.told ∷ (part ++ before)) (part_session rule) (event.Said (part_session rule) said.index said.text) || not (is_at_last (said.told ∷ (part ++ before)) (part_session rule))) _
+            (ap (λ b. b || not (is_at_last (said.told ∷ (part ++ before)) (part_session rule))) (own_itself (part_session rule))) first.knows;
+      }
+        where
+          quiet : (is_write_or_mark said.told ≡ false) × (is_commit said.told ≡ false) × (is_reply_of (part_session rule) said.told ≡ false)
+          quiet = told_quiet (part_session rule) said.told said.ends
+
+          own_is : is_own (part ++ before) (part_session rule) said.told ≡ true
+          own_is = told_own (part ++ before) (part_session rule) said.told said.ends
+
+          -- no commit is next where the event is none
+          none_next : (q : Past) (t : ℕ) (e : Event) → is_commit e ≡ false → (is_at_last q t && is_next is_commit q t (e ∷ [])) ≡ false
+          none_next q t e none = by (is_at_last q t) (is_own q t e)
+            where
+              by : (a b : Bool) → (a && option_map_or is_commit (cond b (Some e) None) false) ≡ false
+              by true true = none
+              by true false = refl
+              by false b = refl
+
+          first : IsUnderWay script rule before (said.told ∷ part)
+          first = record {
+            goes = part_grows script rule before part said.told way.knows way.goes
+                (not_yet rule part said.told done (λ t same. none_next (part ++ before) t said.told quiet.1))
+                (own_of_turn script (part ++ before) (part_session rule) said.told own_is);
+            knows = and_true (is_own (part ++ before) (part_session rule) said.told || not (is_at_last (part ++ before) (part_session rule))) _ (ap (λ b. b || not (is_at_last (part ++ before) (part_session rule))) own_is) way.knows;
+          }
+
       by_one : (one : IsSingle script (part ++ before) (part_session rule) own) → IsMadeBy script (part ++ before) (part_session rule) one.event → IsUnderWay script rule before (one.event ∷ part)
       by_one one (inl own_is) = single one.event one.is own_is
       by_one one (inr un) = unnamed one.event un
 
-      by : IsSingle script (part ++ before) (part_session rule) own ⊎ IsDouble script (part ++ before) (part_session rule) own → IsUnderWay script rule before (own ++ part)
+      by : AreMadeBy script (part ++ before) (part_session rule) own → IsUnderWay script rule before (own ++ part)
       by (inl one) = subst (λ (o : Past). IsUnderWay script rule before (o ++ part)) (sym one.is) (by_one one one.made)
-      by (inr two) = subst (λ (o : Past). IsUnderWay script rule before (o ++ part)) (sym two.is) (record {
+      by (inr (inr said)) = subst (λ (o : Past). IsUnderWay script rule before (o ++ part)) (sym said.is) (told_under said)
+      by (inr (inl two)) = subst (λ (o : Past). IsUnderWay script rule before (o ++ part)) (sym two.is) (record {
         goes = part_grows script rule before (event.End two.revision ∷ part) (event.Head two.cluster two.head) first.knows first.goes
-            (not_yet rule (event.End two.revision ∷ part) (event.Head two.cluster two.head) (mid_done rule part two.revision done two.idle two.awake) (λ t same. and_none (is_at_last (event.End two.revision ∷ (part ++ before)) t)))
+            (not_yet rule (event.End two.revision ∷ part) (event.Head two.cluster two.head) (mid_done rule part (event.End two.revision) refl done two.idle two.awake) (λ t same. and_none (is_at_last (event.End two.revision ∷ (part ++ before)) t)))
             two.near;
         knows = and_true (not (is_at_last (event.End two.revision ∷ (part ++ before)) (part_session rule))) _ (ap not (idle_not_at_last (event.End two.revision ∷ (part ++ before)) (part_session rule) two.idle)) first.knows;
       })

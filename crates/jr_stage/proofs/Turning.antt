@@ -39,9 +39,9 @@ use Rattle.jr_stage.specs.declared.stage.Seat.{Seat}
 use Rattle.jr_stage.specs.declared.stage.Stage.{Stage}
 use Rattle.jr_stage.specs.Awaited.{IsSeenBut, LeavesOtherSessions}
 use Rattle.jr_stage.specs.Flights.{IsFlight}
-use Rattle.jr_stage.specs.Nearing.{IsKeptBack, SavesOn, StepsNearer, TurnsNearer, works_at, left_at, saves_at}
+use Rattle.jr_stage.specs.Nearing.{IsFurther, IsKeptBack, SavesOn, StepsNearer, TurnsNearer, left_at, place_at, saves_at, works_at}
 use Rattle.jr_stage.specs.Places.{commands_of, history_at, is_over, is_resting, is_waiting, tells_of_none}
-use Rattle.jr_stage.specs.SoFar.{IsDouble, IsSingle, is_last_due}
+use Rattle.jr_stage.specs.SoFar.{AreMadeBy, is_last_due}
 use Rattle.jr_stage.specs.Stages.{Comes, HasCome, IsSeated, IsStage, awaited, due_at, flight_behind, flight_by, law_of}
 use Rattle.jr_stage.proofs.Unnamed.{unnamed_apart, unnamed_idle}
 use Rattle.jr_stage.proofs.Coming.{appended_one, flight_said, flight_stepped, history_now, itself, made, nodes, other_seat, over_other, past_now, run_new, said, same_length, seated_other, seen_said, seen_stepped, session_now, set_other, stands_now, stepped, tells, awake}
@@ -80,11 +80,11 @@ module _ (script : Script) (n : GName) (s : ℕ) (old new : WorldOf JcrLaw) (sea
   past = old.history.past
 
   abbrev Shape : Type 0
-  Shape = (turned.own ≡ []) ⊎ (IsSingle script old.history.past s turned.own ⊎ IsDouble script old.history.past s turned.own)
+  Shape = (turned.own ≡ []) ⊎ AreMadeBy script old.history.past s turned.own
 
   -- what a turn comes to
   pub record IsComeTo (flight : Option Flight) : Type 0 where
-    pub shape : (turned.own ≡ []) ⊎ (IsSingle script old.history.past s turned.own ⊎ IsDouble script old.history.past s turned.own)
+    pub shape : (turned.own ≡ []) ⊎ AreMadeBy script old.history.past s turned.own
     pub came : Comes script old.history.past s (due_at old s) answer turned.own
     pub flown : IsFlight (turned.own ++ old.history.past) s flight
     pub seen : IsSeenBut script (turned.own ++ old.history.past) s (awaited (shown_work (work_in new.actors s)))
@@ -92,9 +92,10 @@ module _ (script : Script) (n : GName) (s : ℕ) (old new : WorldOf JcrLaw) (sea
     pub over : is_over script old.history.past s ≡ true → is_over script (turned.own ++ old.history.past) s ≡ true
     pub kept : IsKeptBack old.history.past s answer
 
-  not_none : {A : Type 0} → IsSingle script old.history.past s turned.own ⊎ IsDouble script old.history.past s turned.own → turned.own ≡ [] → A
+  not_none : {A : Type 0} → AreMadeBy script old.history.past s turned.own → turned.own ≡ [] → A
   not_none (inl one) none = none_is_some one.event (ap (λ (l : Past). slice_get l 0) (sym none ∙ one.is))
-  not_none (inr two) none = none_is_some (event.Head two.cluster two.head) (ap (λ (l : Past). slice_get l 0) (sym none ∙ two.is))
+  not_none (inr (inl two)) none = none_is_some (event.Head two.cluster two.head) (ap (λ (l : Past). slice_get l 0) (sym none ∙ two.is))
+  not_none (inr (inr said)) none = none_is_some (event.Said s said.index said.text) (ap (λ (l : Past). slice_get l 0) (sym none ∙ said.is))
 
   not_over : {A : Type 0} → is_resting script old.history.past s ≡ false → is_over script old.history.past s ≡ true → A
   not_over {A = A} awake over = absurd (false≢true (sym (second (is_waiting script old.history.past s) (is_over script old.history.past s) awake) ∙ over))
@@ -141,14 +142,14 @@ module _ (script : Script) (n : GName) (s : ℕ) (old new : WorldOf JcrLaw) (sea
   come_to (turn.Said i) turned = by (tells script n s old new seat now (turn.Said i) law_is history seated turned) (made script n s old new seat now (turn.Said i) law_is history seated turned)
     where
       by : Tells (history_at script old.history.past) s seat.run.index (turn.Said i) turned.own → IsStep (history_at script old.history.past) (shown_at n old s) (shown_at n new s) turned.own → IsComeTo script n s old new seat now (turn.Said i) law_is history seated law_same turned seat.flight
-      by (same, text, is) step =
-          let own : turned.own ≡ event.Said s i text ∷ [] = is ∙ ap (λ j. event.Said s j text ∷ []) (sym same) in
-          let at = said script n s old new seat now (turn.Said i) law_is history seated turned step i text own in
+      by (same, text, told, ends, is) step =
+          let own : turned.own ≡ event.Said s i text ∷ told = is ∙ ap (λ j. event.Said s j text ∷ told) (sym same) in
+          let at = said script n s old new seat now (turn.Said i) law_is history seated turned step i text told ends own in
           record {
             shape = inr at.events;
-            came = (text, own, at);
-            flown = flight_said script n s old new seat now (turn.Said i) law_is history seated turned step i text own;
-            seen = seen_said script n s old new seat now (turn.Said i) law_is history seated turned step i text own;
+            came = (text, told, own, ends, at);
+            flown = flight_said script n s old new seat now (turn.Said i) law_is history seated turned step i text told ends own;
+            seen = seen_said script n s old new seat now (turn.Said i) law_is history seated turned step i text told ends own;
             still = λ none last. not_none script n s old new seat now (turn.Said i) law_is history seated law_same turned at.events none;
             over = λ over. not_over script n s old new seat now (turn.Said i) law_is history seated law_same turned at.awake over;
             kept = tt;
@@ -221,13 +222,12 @@ working_left phase.Detaching h = refl
 working_left (phase.Committed e a) h = absurd (false≢true h)
 working_left (phase.Working e) h = refl
 working_left (phase.Told t) h = absurd (false≢true h)
+working_left phase.Tidying h = refl
+working_left (phase.Tidied t) h = absurd (false≢true h)
 working_left phase.Over h = absurd (false≢true h)
 
 same_behind : (m a b : ℕ) → m + a ≡ m + b → a ≡ b
 same_behind m a b h = omega arith
-
-not_below : (m a b : ℕ) → a ≡ 2 → b ≡ 2 → m + a < m + b → ⊥
-not_below m a b p q h = omega arith
 
 -- where no task of its next command is under way it stands elsewhere
 other_left : (f : Phase) (m b : ℕ) → is_working f ≡ false → b ≡ 2 → m + stages_left f ≡ m + b → ⊥
@@ -242,6 +242,8 @@ other_left f m b none two same = apart f none (same_behind m (stages_left f) b s
     apart phase.Detaching h two = false≢true (sym h)
     apart (phase.Working e) h two = false≢true (sym h)
     apart (phase.Told t) h two = omega arith
+    apart phase.Tidying h two = false≢true (sym h)
+    apart (phase.Tidied t) h two = omega arith
     apart phase.Over h two = omega arith
 
 -- ---- the stage
@@ -323,39 +325,44 @@ module _ (n : GName) (s : ℕ) (old new : Stage) (seat seat_now : Seat) (answer 
       came_now : Comes old.script.value old.world.history.past s (due_at old.world s) (turn.Stepped k) turned.own
       came_now = subst (λ (a : Turn). Comes old.script.value old.world.history.past s (due_at old.world s) a turned.own) is to.came
 
+  place_is : (x : Stage) (y : Seat) → slice_get x.seats.items s ≡ Some y → place_at x s ≡ stages_left y.run.phase
+  place_is x y there = ap (λ (o : Option Seat). option_map_or stages_left (option_map (λ z. z.run.phase) o) 0) there
+
   step_nearer : (k : StepKind) → answer ≡ turn.Stepped k → IsLess (WorksSooner (left_in old.world s) (left_in new.world s) (shown_at n old.world s) seat.run) (turns_left seat.run) (turns_left seat_now.run)
-      → StepsNearer (works_at old s && works_at new s) old new s
-  step_nearer k is near =
-      subst (λ (b : Bool). StepsNearer b old new s) (ap (λ b. b && is_working seat_now.run.phase) (sym (works_is old seat at)) ∙ ap (λ b. works_at old s && b) (sym (works_is new seat_now at_now)))
-      (by (is_working seat.run.phase) (is_working seat_now.run.phase) refl refl near)
+      → StepsNearer old new s
+  step_nearer k is near = by near
     where
       now_left : turns_left seat_now.run ≡ replies_left seat.run + stages_left seat_now.run.phase
       now_left =
           ap (λ (cs : List Command). 5 * (length cs - seat_now.run.index) + stages_left seat_now.run.phase) turned.same.1
           ∙ ap (λ (i : ℕ). 5 * (length seat.run.commands - i) + stages_left seat_now.run.phase) (index_stays k is)
 
-      now_less : replies_left seat.run + stages_left seat_now.run.phase < replies_left seat.run + stages_left seat.run.phase → left_at new s < left_at old s
-      now_less less =
-          subst (λ (m : ℕ). m < left_at old s) (sym (left_is new seat_now at_now ∙ now_left))
-          (subst (λ (m : ℕ). replies_left seat.run + stages_left seat_now.run.phase < m) (sym (left_is old seat at)) less)
+      less_behind : (m a b : ℕ) → m + a < m + b → a < b
+      less_behind m a b h = omega arith
 
-      by : (b c : Bool) → is_working seat.run.phase ≡ b → is_working seat_now.run.phase ≡ c
-          → IsLess (WorksSooner (left_in old.world s) (left_in new.world s) (shown_at n old.world s) seat.run) (turns_left seat.run) (turns_left seat_now.run) → StepsNearer (b && c) old new s
-      by b c before after (inl less) = at_less b c before after (subst (λ (m : ℕ). m < turns_left seat.run) now_left less)
-        where
-          at_less : (b c : Bool) → is_working seat.run.phase ≡ b → is_working seat_now.run.phase ≡ c → replies_left seat.run + stages_left seat_now.run.phase < replies_left seat.run + stages_left seat.run.phase → StepsNearer (b && c) old new s
-          at_less true true before after less = absurd (not_below (replies_left seat.run) (stages_left seat_now.run.phase) (stages_left seat.run.phase) (working_left seat_now.run.phase after) (working_left seat.run.phase before) less)
-          at_less true false before after less = now_less less
-          at_less false c before after less = now_less less
-      by b c before after (inr (same, (commits, sooner))) = at_same b c before after
+      now_less : replies_left seat.run + stages_left seat_now.run.phase < replies_left seat.run + stages_left seat.run.phase → IsFurther old new s
+      now_less less = record {
+        left = subst (λ (m : ℕ). m < left_at old s) (sym (left_is new seat_now at_now ∙ now_left))
+            (subst (λ (m : ℕ). replies_left seat.run + stages_left seat_now.run.phase < m) (sym (left_is old seat at)) less);
+        place = subst (λ (m : ℕ). m < place_at old s) (sym (place_is new seat_now at_now))
+            (subst (λ (m : ℕ). stages_left seat_now.run.phase < m) (sym (place_is old seat at)) (less_behind (replies_left seat.run) (stages_left seat_now.run.phase) (stages_left seat.run.phase) less));
+      }
+
+      by : IsLess (WorksSooner (left_in old.world s) (left_in new.world s) (shown_at n old.world s) seat.run) (turns_left seat.run) (turns_left seat_now.run) → StepsNearer old new s
+      by (inl less) = inl (now_less (subst (λ (m : ℕ). m < turns_left seat.run) now_left less))
+      by (inr (same, (commits, sooner))) = at_same (is_working seat_now.run.phase) refl
         where
           equals : replies_left seat.run + stages_left seat_now.run.phase ≡ replies_left seat.run + stages_left seat.run.phase
           equals = sym now_left ∙ same
 
-          at_same : (b c : Bool) → is_working seat.run.phase ≡ b → is_working seat_now.run.phase ≡ c → StepsNearer (b && c) old new s
-          at_same true true before after = (left_is new seat_now at_now ∙ (same ∙ sym (left_is old seat at)), sooner refl)
-          at_same true false before after = absurd (other_left seat_now.run.phase (replies_left seat.run) (stages_left seat.run.phase) after (working_left seat.run.phase before) equals)
-          at_same false c before after = absurd (false≢true (sym before ∙ commits))
+          at_same : (c : Bool) → is_working seat_now.run.phase ≡ c → StepsNearer old new s
+          at_same true after = inr (record {
+            before = works_is old seat at ∙ commits;
+            now = works_is new seat_now at_now ∙ after;
+            left = left_is new seat_now at_now ∙ (same ∙ sym (left_is old seat at));
+            steps = sooner refl;
+          })
+          at_same false after = absurd (other_left seat_now.run.phase (replies_left seat.run) (stages_left seat.run.phase) after (working_left seat.run.phase commits) equals)
 
   turn_nearer : (a : Turn) → answer ≡ a → ComesNearer (WorksSooner (left_in old.world s) (left_in new.world s) (shown_at n old.world s) seat.run) (turns_left seat.run) (turns_left seat_now.run) a → TurnsNearer old new s a
   turn_nearer (turn.Stepped k) is near = step_nearer k is near

@@ -11,34 +11,31 @@ use Rattle.oak_machine.specs.declared.event.StepKind.TheVariants as kind
 use Rattle.oak_machine.specs.History.{History}
 use Rattle.oak_machine.specs.Sessions.{is_drawing, next_index}
 use Rattle.oak_machine.specs.Steps.{is_kind, step_number, kinds_for, where_test}
-use Rattle.oak_port.specs.Ports.{Idle, Learning, Passing, Publishing, Shown, Starting, Sweeping, Work}
-use Rattle.oak_port.specs.declared.task.Task.TheVariants as task
-use Rattle.jr_part.specs.declared.need.Need.TheVariants as need
+use Rattle.oak_port.specs.Ports.{Shown}
 use Rattle.jcr_law.specs.Makes.{commit_stages}
-use Rattle.jcr_law.specs.State.{Call, command_at}
+use Rattle.jcr_law.specs.State.{command_at}
 use Rattle.jcr_law.specs.declared.law.JcrLaw.{JcrLaw}
 use Rattle.jcr_trans.specs.declared.command.Command.{Command}
-use Rattle.jcr_trans.specs.declared.command.Command.TheVariants as command
-use Rattle.jcr_run.specs.declared.run.Fetch.{Fetch}
-use Rattle.jcr_run.specs.declared.run.Fetch.TheVariants as fetch
 use Rattle.jcr_run.specs.declared.run.Phase.{Phase}
 use Rattle.jcr_run.specs.declared.run.Phase.TheVariants as phase
 use Rattle.jcr_run.specs.declared.run.SessionRun.{SessionRun}
-use Rattle.jcr_run.specs.Standing.{IsInTurn, IsOfCommand, IsReading, IsWorkFor, Stands, StandsAt, is_committing}
+use Rattle.jcr_run.specs.Standing.{IsInTurn, IsOfCommand, Stands, StandsAt, is_committing}
 use Rattle.jcr_session.proofs.Drawing.{commit_commits}
 use Rattle.jcr_run.proofs.Stages.{commit_steps}
 use Rattle.jr_stage.specs.Places.{tells_of_none}
 use Rattle.jr_stage.proofs.Due.{at_commit}
 use Rattle.jr_stage.proofs.Flying.{none_is_some, some_is_some}
 use Rattle.jr_stage.proofs.Saving.{flying_commits}
+use Rattle.jr_stage.proofs.Uncommitted.{uncommitted}
 
 -- ---- kinds
 
--- background work, a sweep, and a step on the settings
+-- background work, a sweep, a bound of a collection, and a step on the settings
 abbrev is_upkeep : StepKind → Bool
 is_upkeep kind.Back = true
 is_upkeep kind.Learn = true
 is_upkeep kind.Sweep = true
+is_upkeep kind.Bound = true
 is_upkeep kind.Settings = true
 is_upkeep k = false
 
@@ -59,6 +56,7 @@ unnamed_upkeep : (h : History) (s : ℕ) (k : StepKind) (e : Event) → list_any
 unnamed_upkeep h s k (event.Out c r) a none = (kind.Back, refl, where_some k kind.Back _ a)
 unnamed_upkeep h s k (event.In c v) a none = (kind.Learn, refl, where_some k kind.Learn _ a)
 unnamed_upkeep h s k (event.Sweep c r) a none = (kind.Sweep, refl, where_some k kind.Sweep _ a)
+unnamed_upkeep h s k (event.Bound m t) a none = (kind.Bound, refl, where_some k kind.Bound true a)
 unnamed_upkeep h s k (event.Checkpoint id v) a none = (kind.Settings, refl, where_some k kind.Settings true a)
 unnamed_upkeep h s k (event.Release id) a none = (kind.Settings, refl, where_some k kind.Settings true a)
 unnamed_upkeep h s k e a none = absurd (false≢true none)
@@ -84,6 +82,11 @@ upkeep_of kind.Sweep i h none = of_sweep i none
     of_sweep : (i : StepKind) → is_upkeep i ≡ false → is_kind kind.Sweep i ≡ false
     of_sweep kind.Sweep none = absurd (false≢true (sym none))
     of_sweep i none = refl
+upkeep_of kind.Bound i h none = of_bound i none
+  where
+    of_bound : (i : StepKind) → is_upkeep i ≡ false → is_kind kind.Bound i ≡ false
+    of_bound kind.Bound none = absurd (false≢true (sym none))
+    of_bound i none = refl
 upkeep_of kind.Settings i h none = of_settings i none
   where
     of_settings : (i : StepKind) → is_upkeep i ≡ false → is_kind kind.Settings i ≡ false
@@ -114,46 +117,6 @@ stage_kinds (suc (suc (suc (suc zero)))) kinds is = ap has_upkeep (sym (some_is_
 stage_kinds (suc (suc (suc (suc (suc zero))))) kinds is = ap has_upkeep (sym (some_is_some _ kinds is))
 stage_kinds (suc (suc (suc (suc (suc (suc zero)))))) kinds is = ap has_upkeep (sym (some_is_some _ kinds is))
 stage_kinds (suc (suc (suc (suc (suc (suc (suc n))))))) kinds is = none_is_some kinds is
-
--- ---- what is done for a session
-
-idle_apart : {A : Type 0} (w : Work) → w ≡ Idle → at_commit w ≡ true → A
-idle_apart w is commits = absurd (false≢true (sym (ap at_commit is) ∙ commits))
-
-reading_apart : {A : Type 0} (w : Work) (o : Option Fetch) → IsReading w o → at_commit w ≡ true → A
-reading_apart w None reads commits = idle_apart w reads commits
-reading_apart w (Some (fetch.Tree (need.Node path))) reads commits = absurd (false≢true (sym (ap at_commit reads) ∙ commits))
-reading_apart w (Some (fetch.Tree (need.Children path))) reads commits = absurd (false≢true (sym (ap at_commit reads) ∙ commits))
-reading_apart w (Some (fetch.Tree (need.Subtree path))) reads commits = absurd reads
-reading_apart w (Some (fetch.Tree need.All)) reads commits = absurd reads
-reading_apart w (Some (fetch.Changes v)) reads commits = absurd (false≢true (sym (ap at_commit reads) ∙ commits))
-
--- no commit is under way where a task of the cluster node, of the settings or of the cursor is
-errand_apart : (h : History) (s : ℕ) (c : Call) (m : Command) (w : Work) → IsWorkFor h s c m w → at_commit w ≡ false
-errand_apart h s c command.BackWrite (Starting task.BackWrite) works = refl
-errand_apart h s c command.BackWrite (Publishing r) works = refl
-errand_apart h s c command.BackRead (Starting task.BackRead) works = refl
-errand_apart h s c command.BackRead (Learning v) works = refl
-errand_apart h s c command.Sweep (Starting task.Sweep) works = refl
-errand_apart h s c command.Sweep (Passing r) works = refl
-errand_apart h s c command.Sweep (Sweeping r) works = refl
-errand_apart h s c command.Checkpoint (Starting (task.Checkpoint id)) works = refl
-errand_apart h s c (command.Release id) (Starting (task.Release i)) works = refl
-errand_apart h s c (command.Observe path deep mask) (Starting task.Observe) works = refl
-errand_apart h s c command.Events (Starting task.Observe) works = refl
-errand_apart h s c m w works = absurd works
-
--- a commit is under way for a session that commits
-at_committing : (law : JcrLaw) (p : Shown) (run : SessionRun) (f : Phase) → StandsAt law p run f → at_commit p.work ≡ true → is_committing f ≡ true
-at_committing law p run phase.Outside at h = idle_apart p.work at.idle h
-at_committing law p run phase.Between at h = reading_apart p.work run.fetch at.1.reads h
-at_committing law p run (phase.Moved v) at h = idle_apart p.work at.1.idle h
-at_committing law p run phase.Detaching at h = absurd (false≢true (sym (ap at_commit at.1.works) ∙ h))
-at_committing law p run (phase.Committing pledge) at h = refl
-at_committing law p run (phase.Committed e pledge) at h = idle_apart p.work at.1.idle h
-at_committing law p run (phase.Working e) at h = absurd (false≢true (sym (errand_apart p.history p.session at.1.call at.1.command p.work at.1.works) ∙ h))
-at_committing law p run (phase.Told t) at h = idle_apart p.work at.1.idle h
-at_committing law p run phase.Over at h = idle_apart p.work at.idle h
 
 -- ---- a session
 
@@ -191,8 +154,4 @@ module _ (law : JcrLaw) (p : Shown) (run : SessionRun) (stands : Stands law p ru
 
   -- nor is a commit under way
   pub unnamed_apart : at_commit p.work ≡ false
-  unnamed_apart = by (at_commit p.work) refl
-    where
-      by : (b : Bool) → at_commit p.work ≡ b → b ≡ false
-      by true commits = absurd (false≢true (sym unnamed_uncommitted ∙ at_committing law p run run.phase stands.at commits))
-      by false none = refl
+  unnamed_apart = (uncommitted law p run stands unnamed_uncommitted).apart

@@ -127,11 +127,12 @@ is_write_or_mark _ = false
 abbrev pub is_next : (Event → Bool) → Past → ℕ → List Event → Bool
 is_next test past s later = option_map_or test (next_of past s later) false
 
--- the event tells of no session: of a cluster node, or of a checkpoint
+-- the event tells of no session: of a cluster node, of a collection's bound, or of a checkpoint
 abbrev pub tells_of_none : Event → Bool
 tells_of_none (event.Out k r) = true
 tells_of_none (event.In k v) = true
 tells_of_none (event.Sweep k r) = true
+tells_of_none (event.Bound m t) = true
 tells_of_none (event.Checkpoint id v) = true
 tells_of_none (event.Release id) = true
 tells_of_none _ = false

@@ -2,6 +2,7 @@
 use Rattle.std.specs.Prelude.{◌≡◌, ◌⊎◌, ℕ, Bool, false, List, [], ◌∷◌, ◌++◌, reverse, Option, None}
 use Rattle.std.specs.Prelude.{Some, IsTrue, IsFalse}
 use Rattle.std.specs.Option.{option_map_or}
+use Rattle.jr_path.specs.Lists.{Text}
 use Rattle.jr_rev.specs.declared.revision.Revision.{Revision}
 use Rattle.jr_rev.specs.declared.vector.RevVec.{RevVec}
 use Rattle.oak_machine.specs.declared.event.Event.{Event}
@@ -10,6 +11,7 @@ use Rattle.oak_machine.specs.declared.event.StepKind.{StepKind}
 use Rattle.oak_machine.specs.declared.event.StepKind.TheVariants as kind
 use Rattle.oak_machine.specs.History.{Past}
 use Rattle.oak_machine.specs.Laws.{is_revision_of}
+use Rattle.oak_machine.specs.Runs.{is_task_end}
 use Rattle.oak_machine.specs.Sessions.{is_drawing}
 use Rattle.oak_machine.specs.Steps.{is_kind, is_on, is_one_step}
 use Rattle.jr_script.specs.declared.script.Script.{Script}
@@ -54,11 +56,26 @@ pub record IsDouble (script : Script) (past : Past) (s : ℕ) (own : Past) : Typ
   pub idle : IsFalse (is_drawing (event.End revision ∷ past) s)
   pub awake : IsFalse (is_resting script (event.End revision ∷ past) s)
 
+-- the reply of session s, directly behind how its split or collection ended, where nothing of s is in
+-- flight
+pub record IsToldReply (past : Past) (s : ℕ) (own : Past) : Type 0 where
+  pub index : ℕ
+  pub text : Text
+  pub told : Event
+  pub is : own ≡ event.Said s index text ∷ told ∷ []
+  pub ends : IsTrue (is_task_end s told)
+  pub idle : IsFalse (is_drawing past s)
+
+-- the events that session s makes in one step
+abbrev pub AreMadeBy : Script → Past → ℕ → Past → Type 0
+AreMadeBy script past s own =
+    IsSingle script past s own ⊎ IsDouble script past s own ⊎ IsToldReply past s own
+
 -- the events of one step of session s, the newest first, which doesn't rest: a Write, a Mark or
 -- what tells of no session where no last write is due, a Commit where it is
 pub record IsStepAt (script : Script) (past : Past) (s : ℕ) (due : Option StepKind) (own : Past)
     : Type 0 where
-  pub events : IsSingle script past s own ⊎ IsDouble script past s own
+  pub events : AreMadeBy script past s own
   pub step : IsTrue (is_one_step (history_at script past) s (reverse own))
   pub awake : IsFalse (is_resting script past s)
   pub written : (e : Event) → own ≡ e ∷ [] → IsTrue (is_last_due due) → IsFalse (is_write_or_mark e)

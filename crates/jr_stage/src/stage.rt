@@ -13,16 +13,17 @@ ghost use Rattle.oak_world.specs.Seen.{shown_at};
 ghost use Rattle.oak_world.specs.Worlds.{start_world};
 ghost use Rattle.jcr_run.specs.Standing.{IsNew, Stands};
 ghost use Rattle.jr_stage.specs.Awaited.{AreInTurn, IsAlone, IsNextToReply, IsStill, LeavesOtherSessions};
+ghost use Rattle.jr_stage.specs.Nearing.{is_split, splits_next};
 ghost use Rattle.jr_stage.specs.Places.{flying_sessions, is_over};
 ghost use Rattle.jr_stage.specs.Parts.{by_entry, to_end, to_reply};
 ghost use Rattle.jr_script.specs.declared.script.Entry.TheVariants as entry;
 ghost use Rattle.jr_stage.specs.Stages.{Closes, MakesReading, IsFirstStage, IsOfCommit, IsStage, has_come, past_of};
 ghost use Rattle.jr_stage.specs.Seats.{AreNew, IsNewSeat};
 
-use crate::flight::Flight;
+use crate::flight::{Flight, is_read};
 use core_obeys::the_product_obeys;
 use jcr_law::JcrLaw;
-use jcr_run::{SessionRun, Turn, read};
+use jcr_run::{Due, SessionRun, Turn, read};
 use jcr_trans::{Command, SessionScript};
 use jr_path::{DeepCopy, List};
 use jr_rev::Revision;
@@ -137,7 +138,7 @@ impl Stage {
     {
         match entry {
             Entry::Turn(s) => {
-                self.turn(s)?;
+                self.turn(s, None)?;
                 Ok(())
             }
             Entry::Say(s, count) => self.say(s, count),
@@ -168,7 +169,8 @@ impl Stage {
     }
 
     // Turns of a session until its commit has come to where an entry waits for it, a reply is said,
-    // or the session rests.
+    // or the session rests. A last write is come to where it is due: so the reading steps that are
+    // due inside the commit are made before.
     fn go_to(&mut self, s: u32, entry: Entry) -> Result<(), AllocError>
         requires stage { IsStage self.old }
         requires there { s < length self.old.seats.items }
@@ -178,6 +180,7 @@ impl Stage {
         'turns: while !self.has_come(s, entry) {
             match self.go_on(s, Some(entry))? {
                 Turn::Stepped(_) => {}
+                Turn::Read => return Ok(()),
                 Turn::Said(_) => return Ok(()),
                 Turn::Waiting(_) => return Ok(()),
                 Turn::Ended => return Ok(()),
@@ -200,16 +203,36 @@ impl Stage {
         }
     }
 
-    // A reading step of a session, where one is due.
+    // A reading step of a session, where one is due: before its next command, or inside the task of
+    // that.
     fn read(&mut self, s: u32) -> Result<(), AllocError>
+        requires stage { IsStage self.old }
+        requires there { s < length self.old.seats.items }
+        ensures { OnOk result (Closes self.old self.new (by_entry (entry.Read s))) }
+    {
+        if self.is_working(s) && is_read(self.world.due(s)) {
+            return self.read_inside(s);
+        }
+        self.read_before(s)
+    }
+
+    // A reading step of a session before its next command, where one is due: where the session has
+    // all that a split asks for, the first step of that.
+    fn read_before(&mut self, s: u32) -> Result<(), AllocError>
         requires stage { IsStage self.old }
         requires there { s < length self.old.seats.items }
         ensures { OnOk result (Closes self.old self.new (by_entry (entry.Read s))) }
     {
         self.world.journal();
         let seat = &mut self.seats[s as usize];
-        read_one(&mut self.world, &mut seat.run, s)?;
-        Ok(())
+        let read = read_one(&mut self.world, &mut seat.run, s)?;
+        if read {
+            return Ok(());
+        }
+        if !splits_next(&self.seats[s as usize].run) {
+            return Ok(());
+        }
+        self.read_inside(s)
     }
 
     // Turns of a session to its next reply. The session's commit is in flight, and none of another
@@ -367,7 +390,24 @@ pub fn session_of(
     SessionRun::new(alloc, s, 0, commands, types.copy()?)
 }
 
-// A reading step of a session in its world, where one is due.
+// Whether a session is before a split.
+fn splits_next(run: &SessionRun) -> bool
+    ensures { result ≡ splits_next run.now }
+{
+    if !run.may_read() {
+        return false;
+    }
+    is_split(run.due())
+}
+
+// Whether a split is what is to be done.
+fn is_split(due: Due) -> bool
+    ensures { result ≡ is_split due }
+{
+    matches!(due, Due::Split)
+}
+
+// A reading step of a session in its world, where one is due, and whether it was made.
 fn read_one(world: &mut World<JcrLaw>, run: &mut SessionRun, s: u32) -> Result<bool, AllocError>
     requires there { IsTrue (is_some (slice_get world.old.history.sessions s)) }
     requires stands { (name : GName) → Stands world.old.law (shown_at name world.old s) run.old }

@@ -1,15 +1,23 @@
 // Turns of a session of a stage.
-ghost use Rattle.std.specs.Prelude.{◌≡◌, ◌<◌, ◌&&◌, IfOk, IsTrue, IsFalse, is_some, length, not, slice_get};
+ghost use Rattle.std.specs.Prelude.{◌≡◌, ◌<◌, ◌&&◌, IfOk, OnOk, IsTrue, IsFalse, is_some, length};
+ghost use Rattle.std.specs.Prelude.{not, slice_get};
 ghost use Rattle.std.specs.Borrow.{GName};
 ghost use Rattle.oak_world.specs.Seen.{shown_at};
 ghost use Rattle.jcr_run.specs.Standing.{Stands};
-ghost use Rattle.jr_stage.specs.Nearing.{ReadsNearer, ReadsThrough, reads_at, unread_at, works_at};
-ghost use Rattle.jr_stage.specs.Stages.{HasCome, HasTurnedIn, IsNearerOrCome, IsStage, IsEntryOver, ReadsOrComes, StepsUntil, comes_to, flight_behind, flight_by, look_refused};
+ghost use Rattle.jcr_run.specs.Nearing.{stages_left};
+ghost use Rattle.jr_stage.specs.Nearing.{ReadsLess, ReadsNearer, ReadsThrough, place_at, reads_at};
+ghost use Rattle.jr_stage.specs.Nearing.{works_at};
+ghost use Rattle.jr_script.specs.declared.script.Entry.TheVariants as entry;
+ghost use Rattle.jr_stage.specs.Parts.{by_entry};
+ghost use Rattle.jr_stage.specs.Stages.{Closes, HasTurnedIn, IsNearerOrCome, IsStage, IsEntryOver};
+ghost use Rattle.jr_stage.specs.Stages.{IsComeOrFurther, IsReadOrApart, ReadsOrComes, ReadsOrTurns};
+ghost use Rattle.jr_stage.specs.Stages.{StepsUntil, TurnsTo, comes_to};
+ghost use Rattle.jr_stage.specs.Stages.{flight_behind, flight_by};
 
 use crate::flight::{Flight, flight_after};
 use crate::stage::Stage;
 use jcr_law::JcrLaw;
-use jcr_run::{SessionRun, Turn};
+use jcr_run::{Phase, SessionRun, Turn};
 use jcr_session::turn;
 use jr_script::Entry;
 use oak_machine::StepKind;
@@ -27,7 +35,7 @@ impl Stage {
         ensures { IfOk result (StepsUntil (IsNearerOrCome self.old self.new s until)
             self.old self.new s until) }
     {
-        match self.turn(s)? {
+        match self.turn(s, until)? {
             Turn::Stepped(kind) => self.work_on(s, until, kind),
             turn => Ok(turn),
         }
@@ -42,8 +50,9 @@ impl Stage {
             self.old self.new s until) }
     {
         'task: while self.is_under_way(s, until) {
-            match self.turn(s)? {
+            match self.turn(s, until)? {
                 Turn::Stepped(_) => {}
+                Turn::Read => return Ok(Turn::Stepped(kind)),
                 turn => return Ok(turn),
             }
         }
@@ -60,32 +69,82 @@ impl Stage {
         if !self.is_working(s) {
             return false;
         }
+        !self.comes_to(s, until)
+    }
+
+    // Whether the commit of a session has come to where an entry, if one is given, waits for it.
+    fn comes_to(&self, s: u32, until: Option<Entry>) -> bool
+        requires there { s < length self.now.seats.items }
+        requires seats { length self.now.seats.items ≡ length self.now.world.history.sessions }
+        ensures { result ≡ comes_to self.now s until }
+    {
         match until {
-            Some(entry) => !self.has_come(s, entry),
-            None => true,
+            Some(entry) => self.has_come(s, entry),
+            None => false,
         }
     }
 
     // Whether a commit or another task of a session is under way.
-    fn is_working(&self, s: u32) -> bool
+    pub(crate) fn is_working(&self, s: u32) -> bool
         requires { s < length self.now.seats.items }
         ensures { result ≡ works_at self.now s }
     {
         self.seats[s as usize].run.is_working()
     }
 
-    // A turn of a session: the reading steps that are due, and a counted step.
-    pub(crate) fn turn(&mut self, s: u32) -> Result<Turn, AllocError>
+    // A turn of a session: the reading steps that are due, and a counted step. Where the reading
+    // steps bring the session's commit to where an entry, if one is given, waits for it, that step
+    // isn't made.
+    pub(crate) fn turn(&mut self, s: u32, until: Option<Entry>) -> Result<Turn, AllocError>
         requires stage { IsStage self.old }
         requires there { s < length self.old.seats.items }
-        ensures { IfOk result (HasCome self.old self.new s) }
+        requires short { IsFalse (comes_to self.old s until) }
+        ensures { IfOk result (TurnsTo self.old self.new s until) }
     {
-        'needs: loop {
-            match self.look(s)? {
-                Turn::Read => {}
+        'places: loop {
+            match self.turn_here(s, until)? {
+                Turn::Read => {
+                    if self.comes_to(s, until) {
+                        return Ok(Turn::Read);
+                    }
+                }
                 turn => return Ok(turn),
             }
         }
+    }
+
+    // The reading steps that are due where a session stands, and a counted step. Where the reading
+    // steps bring the session elsewhere, or its commit to where an entry waits for it, that step
+    // isn't made.
+    fn turn_here(&mut self, s: u32, until: Option<Entry>) -> Result<Turn, AllocError>
+        requires stage { IsStage self.old }
+        requires there { s < length self.old.seats.items }
+        requires short { IsFalse (comes_to self.old s until) }
+        ensures { IfOk result (ReadsOrTurns (IsComeOrFurther self.old self.new s until)
+            self.old self.new s until) }
+    {
+        let place = self.place(s);
+        'needs: loop {
+            match self.look(s)? {
+                Turn::Read => {
+                    if self.comes_to(s, until) {
+                        return Ok(Turn::Read);
+                    }
+                    if self.place(s) != place {
+                        return Ok(Turn::Read);
+                    }
+                }
+                turn => return Ok(turn),
+            }
+        }
+    }
+
+    // How near a session is to its next reply, in stages.
+    fn place(&self, s: u32) -> u32
+        requires { s < length self.now.seats.items }
+        ensures { result ≡ place_at self.now s }
+    {
+        place_of(&self.seats[s as usize].run.phase)
     }
 
     // A counted step of a session, or where a reading step is due, that one, and the further ones
@@ -93,8 +152,7 @@ impl Stage {
     fn look(&mut self, s: u32) -> Result<Turn, AllocError>
         requires stage { IsStage self.old }
         requires there { s < length self.old.seats.items }
-        ensures { IfOk result (ReadsOrComes (unread_at self.new s < unread_at self.old s)
-            self.old self.new s) }
+        ensures { IfOk result (ReadsOrComes (ReadsLess self.old self.new s) self.old self.new s) }
     {
         match self.step(s)? {
             Turn::Read => self.read_on(s),
@@ -107,8 +165,9 @@ impl Stage {
     fn read_on(&mut self, s: u32) -> Result<Turn, AllocError>
         requires stage { IsStage self.old }
         requires there { s < length self.old.seats.items }
-        ensures { IfOk result (ReadsOrComes (ReadsThrough self.old self.new s)
+        ensures reads { IfOk result (ReadsOrComes (ReadsThrough self.old self.new s)
             self.old self.new s) }
+        ensures apart { IfOk result (IsReadOrApart self.old s) }
     {
         'reads: while self.is_reading(s) {
             match self.step(s)? {
@@ -127,13 +186,25 @@ impl Stage {
         self.seats[s as usize].run.is_reading()
     }
 
+    // A reading step of a session, which is due inside the task of its next command. Where memory
+    // is refused for it, nothing more is made.
+    pub(crate) fn read_inside(&mut self, s: u32) -> Result<(), AllocError>
+        requires stage { IsStage self.old }
+        requires there { s < length self.old.seats.items }
+        ensures { OnOk result (Closes self.old self.new (by_entry (entry.Read s))) }
+    {
+        match self.step(s)? {
+            Turn::Read => Ok(()),
+            _ => Err(AllocError),
+        }
+    }
+
     // A step of a session: a reading step, where one is due, and else a counted one. What is kept
     // of its commit goes by the event that the step added last.
     fn step(&mut self, s: u32) -> Result<Turn, AllocError>
         requires stage { IsStage self.old }
         requires there { s < length self.old.seats.items }
-        ensures { IfOk result (ReadsOrComes
-            (ReadsNearer (reads_at self.old s && reads_at self.new s) self.old self.new s)
+        ensures { IfOk result (ReadsOrComes (ReadsNearer self.old self.new s)
             self.old self.new s) }
     {
         let seat = &mut self.seats[s as usize];
@@ -147,32 +218,33 @@ impl Stage {
     }
 }
 
-// A turn of a session in its world. Nothing splits a document there, so no commit has a previous
-// document to look at; a look would be answered as where memory is refused.
+// How near a session in a phase is to its next reply, in stages.
+fn place_of(phase: &Phase) -> u32
+    ensures { result ≡ stages_left phase.now }
+{
+    match phase {
+        Phase::Outside => 4,
+        Phase::Between => 3,
+        Phase::Moved(_) => 1,
+        Phase::Detaching => 2,
+        Phase::Committing(_) => 2,
+        Phase::Committed(_, _) => 1,
+        Phase::Working(_) => 2,
+        Phase::Told(_) => 1,
+        Phase::Tidying => 2,
+        Phase::Tidied(_) => 1,
+        Phase::Over => 0,
+    }
+}
+
+// A turn of a session in its world.
 fn turn_once(world: &mut World<JcrLaw>, run: &mut SessionRun, s: u32) -> Turn
     requires there { IsTrue (is_some (slice_get world.old.history.sessions s)) }
     requires stands { (name : GName) → Stands world.old.law (shown_at name world.old s) run.old }
     ensures { HasTurnedIn s world.old world.new run.old run.new result }
 {
-    let commits = run.is_committing();
     let mut port = SoloPort::new(world, s);
-    let answer = turn(run, &mut port);
-    without_look(answer, commits)
-}
-
-// A turn, but no look inside a commit.
-fn without_look(answer: Turn, commits: bool) -> Turn
-    ensures { result ≡ look_refused answer commits }
-{
-    match answer {
-        Turn::Read => {
-            if commits {
-                return Turn::Memory;
-            }
-            Turn::Read
-        }
-        turn => turn,
-    }
+    turn(run, &mut port)
 }
 
 // What is kept of a commit behind a turn: a step may change it.

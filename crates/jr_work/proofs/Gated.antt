@@ -1,6 +1,6 @@
 -- Others act between two calls of a port: what the calls tell together, and how long what is being done lasts then.
 use mathlib.Core.Bool.{false≢true}
-use Rattle.std.proofs.Common.{◌≡◌, ◌≢◌, ◌⊎◌, ℕ, suc, ◌+◌, ◌<◌, ◌≤◌, max, Bool, true, false, cond, ◌||◌, Option, Some, None, List, [], ◌∷◌, ◌++◌, is_some, refl, sym, ap, ◌∙◌, subst, arith}
+use Rattle.std.proofs.Common.{◌≡◌, ◌⊎◌, ℕ, suc, ◌+◌, ◌<◌, ◌≤◌, max, Bool, true, false, cond, ◌||◌, Option, Some, None, List, [], ◌∷◌, ◌++◌, is_some, refl, sym, ap, ◌∙◌, subst, arith}
 use Rattle.std.specs.Prelude.{◌==◌, IfSome}
 use Rattle.std.specs.List.{list_any}
 use Rattle.std.specs.Option.{option_map_or}
@@ -23,7 +23,7 @@ use Rattle.oak_machine.specs.Heads.{greatest_time, head_of, last_draw_time}
 use Rattle.oak_machine.specs.Laws.{AreOthers, Says, Starts, after, is_event_of, is_revision_of}
 use Rattle.oak_machine.specs.Runs.{IsRun, IsRunOf}
 use Rattle.oak_port.specs.declared.task.StepOut.{StepOut}
-use Rattle.oak_port.specs.Ports.{ActedAlone, AreOfStep, Beside, Idle, IsWait, LastsLess, LastsOn, Makes, ReadsAsDue, Seat, Shown, StaysSo, Steps, Work, is_by_due, is_due}
+use Rattle.oak_port.specs.Ports.{ActedAlone, AreOfStep, Beside, IsAtRest, IsWait, LastsLess, LastsOn, Makes, ReadsAsDue, Seat, Shown, SplitsAsDue, StaysSo, Steps, Work, is_by_due, is_due}
 use Rattle.jr_shared.proofs.Shapes.{none_between, shaped}
 
 -- ---- draws
@@ -127,8 +127,8 @@ alone_twice (Some seats) later added first second = ap (λ (p : Past). p ++ adde
 
 module _ (starts : Starts) (says : Says) (old mid : Shown) (waits : StaysSo starts says old mid) where
   -- the session does what it did
-  pub busy_still : old.work ≢ Idle → mid.work ≢ Idle
-  busy_still busy idle = busy (sym waits.work_is ∙ idle)
+  pub busy_still : (IsAtRest old.work → ⊥) → IsAtRest mid.work → ⊥
+  busy_still busy rests = busy (subst IsAtRest waits.work_is rests)
 
   module _ (new : Shown) (answer : StepOut) (steps : Steps starts says mid new answer) where
     abbrev others : Past
@@ -174,6 +174,7 @@ module _ (starts : Starts) (says : Says) (old mid : Shown) (waits : StaysSo star
       of_step = of_step;
       as_due = subst (λ (k : Option StepKind). is_by_due k steps.own ≡ true) (waits.same_due refl) steps.as_due;
       reads_due = λ r is. subst (λ (k : Option StepKind). ReadsAsDue (is_due kind.Read k) answer steps.own) (waits.same_due refl) (steps.reads_due r (waits.work_is ∙ is));
+      splits_due = λ p is. subst (λ (k : Option StepKind). SplitsAsDue (is_due kind.Read k) answer steps.own) (waits.same_due refl) (steps.splits_due p (waits.work_is ∙ is));
       session = steps.session ∙ waits.session;
       room = steps.room ∙ waits.room_is;
       beside = steps.beside ∙ waits.beside;
@@ -184,7 +185,7 @@ module _ (starts : Starts) (says : Says) (old mid : Shown) (waits : StaysSo star
     none_acted : ActedAlone old new answer → others ≡ []
     none_acted a =
         let past : steps.own ++ (others ++ old.history.past) ≡ a.own ++ old.history.past = ap (λ (h : History). h.past) (sym grown ∙ a.grown) in
-        none_between _ a.own steps.own others
+        none_between old.session old.history.past _ a.own steps.own others theirs
         (shaped old.history old.session old.work answer a.own new.work a.makes)
         (shaped (after others old.history) old.session old.work answer steps.own new.work makes)
         (append_cancel_right (steps.own ++ others) a.own old.history.past (append_assoc steps.own others old.history.past ∙ past))

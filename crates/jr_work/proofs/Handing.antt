@@ -7,7 +7,9 @@ use Rattle.std.proofs.lemmas.List.{length-map}
 use Rattle.oak_machine.specs.declared.event.Event.{Event}
 use Rattle.oak_machine.specs.Laws.{Says, Starts}
 use Rattle.oak_machine.specs.Runs.{IsRun}
-use Rattle.oak_world.specs.Worlds.{ActorState, WorldOf, idle, start_world}
+use Rattle.oak_step.specs.declared.work.Work.TheVariants as work
+use Rattle.oak_world.specs.Ends.{MayTell}
+use Rattle.oak_world.specs.Worlds.{ActorState, WorldOf, idle, live, start_world, work_in}
 use Rattle.jcr_law.specs.declared.law.JcrLaw.{JcrLaw}
 use Rattle.jcr_law.specs.Lasting.{says_of, starts_of}
 use Rattle.jcr_trans.specs.declared.command.SessionScript.{SessionScript}
@@ -49,9 +51,18 @@ module _ (script : Script) where
       let there : s < length (map (λ (x : SessionScript). x.cluster) script.sessions) = omega (arith, long, below) in
       first_owns start s there ∙ ap (λ (o : Option ActorState). Some (record { seat = o; events = [] })) (idle_there (map (λ (x : SessionScript). x.cluster) script.sessions) s there)
 
+  -- no session does anything, so nothing is to be told of one
+  all_rest : (xs : List ℕ) (s : ℕ) → work_in (map (λ (k : ℕ). idle) xs) s ≡ work.Rest
+  all_rest [] s = refl
+  all_rest (x ∷ xs) zero = refl
+  all_rest (x ∷ xs) (suc s) = all_rest xs s
+
+  none_told : (s : ℕ) (e : Event) → work_in start.actors s ≡ work.Told e → MayTell (live start.history) s e
+  none_told s e at = let never : work.Rest ≡ work.Told e = sym (all_rest (map (λ (x : SessionScript). x.cluster) script.sessions) s) ∙ at in absurd (cc)
+
   first_out : (workers : ℕ) → HasHandedOut script workers 0 (first_known start)
   first_out workers = record {
-    knows = record { rest = refl; frame = refl; told = first_told start; run = tt };
+    knows = record { rest = refl; frame = refl; told = first_told start none_told; run = tt };
     unseen = refl;
     weight = refl;
     left = λ s below any. not_begun s below;

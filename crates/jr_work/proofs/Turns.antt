@@ -24,14 +24,14 @@ use Rattle.jcr_law.specs.Lasting.{says_of, starts_of}
 use Rattle.jcr_run.specs.declared.run.SessionRun.{SessionRun}
 use Rattle.jcr_run.specs.declared.turn.Turn.{Turn}
 use Rattle.jcr_run.specs.declared.turn.Turn.TheVariants as turn
-use Rattle.jcr_run.specs.Standing.{HasLooked, HasLookedBack, HasTurned, IsNew, IsTurned, Stands}
+use Rattle.jcr_run.specs.Standing.{HasLooked, HasLookedBack, HasReadOn, HasTurned, IsNew, IsTurned, Stands}
 use Rattle.jcr_run.proofs.Staying.{new_stands}
 use Rattle.jcr_trans.specs.declared.command.Command.{Command}
 use Rattle.jcr_trans.specs.declared.command.SessionScript.{SessionScript}
 use Rattle.jr_script.specs.Bounds.{IsWithin}
 use Rattle.jr_script.specs.declared.script.Script.{Script}
 use Rattle.jr_shared.specs.declared.locked.WorldFrame.{WorldFrame}
-use Rattle.jr_shared.specs.Holds.{IsTold, PassKnown, has_seat, owned_by}
+use Rattle.jr_shared.specs.Holds.{IsTold, IsToldOf, PassKnown, has_seat, owned_by}
 use Rattle.jr_shared.specs.Meanings.{Owned, own_events}
 use Rattle.jr_shared.specs.Seen.{history_by, law_by, shown_through}
 use Rattle.jr_shared.proofs.Events.{are_others}
@@ -94,13 +94,25 @@ module _ (law : JcrLaw) (first mid new : Shown) (run was now : SessionRun) (on :
     stands = back.stands;
   }
 
+  -- a reading step of a split or a collection more
+  on_tidying : HasReadOn law mid new was now → HasGoneOn law first new run now
+  on_tidying read = record {
+    session = read.same.session ∙ on.session;
+    commands = read.same.commands ∙ on.commands;
+    clusters = ap (λ (h : History). h.clusters) read.beside.grows.grown ∙ on.clusters;
+    sessions = ap (λ (h : History). h.sessions) read.beside.grows.grown ∙ on.sessions;
+    beside = read.beside.beside ∙ on.beside;
+    stands = read.stands;
+  }
+
   pub goes_on : (answer : Turn) → (answer ≡ turn.Memory → ⊥) → HasTurned law mid new was now answer → HasGoneOn law first new run now
   goes_on (turn.Stepped k) made turned = on_more (turn.Stepped k) turned
   goes_on (turn.Said i) made turned = on_more (turn.Said i) turned
   goes_on (turn.Waiting q) made turned = on_more (turn.Waiting q) turned
   goes_on turn.Ended made turned = on_more turn.Ended turned
   goes_on turn.Read made (inl read) = on_read read.0
-  goes_on turn.Read made (inr back) = on_back back
+  goes_on turn.Read made (inr (inl back)) = on_back back
+  goes_on turn.Read made (inr (inr read)) = on_tidying read
   goes_on turn.Memory made turned = absurd (made refl)
 
   pub ends : (answer : Turn) → answer ≡ turn.Ended → HasTurned law mid new was now answer → HasRunOut law first new run now
@@ -134,7 +146,7 @@ module _ (script : Script) (within : IsWithin script) (v : PassKnown JcrLaw) (kn
   none_yet : list_any (is_event_of past s) past ≡ false
   none_yet =
       let told = knows.told s in
-      let same : [] ≡ own_events past s = subst (λ (o : Option Owned). IfSome o (λ part. part.events ≡ own_events past s)) first told in
+      let same : [] ≡ own_events past s = (subst (λ (o : Option Owned). IfSome o (IsToldOf past s)) first told).0 in
       let all : past ++ [] ≡ past = append-nil past in
       subst (λ (w : Past). list_any (is_event_of w s) past ≡ false) all
       (are_others (history_by v).clusters (history_by v).sessions nodes None (starts_of (law_of script)) (says_of (law_of script)) s past []
@@ -213,7 +225,7 @@ module _ (script : Script) (v w : PassKnown JcrLaw) (s t : ℕ) (n m : GName) (r
       by : (part : Owned) × (owned_by w t ≡ Some part) → (part : Owned) × (owned_by w t ≡ Some part) × IsTrue (is_over script part.events s)
       by (part, found) =
           let told_here = told t in
-          let events : part.events ≡ own_events (reverse w.seen) t = subst (λ (o : Option Owned). IfSome o (λ part. part.events ≡ own_events (reverse w.seen) t)) found told_here in
+          let events : part.events ≡ own_events (reverse w.seen) t = (subst (λ (o : Option Owned). IfSome o (IsToldOf (reverse w.seen) t)) found told_here).0 in
           (part, found, ap (λ (p : Past). is_over script p s) (events ∙ ap (own_events (reverse w.seen)) same_session) ∙ (own_over s script (reverse w.seen) ∙ over))
 
   pub ran_one : w.weight ≡ v.weight → ((q : ℕ) → q ≢ t → owned_by w q ≡ owned_by v q) → HasRunOne script v w s

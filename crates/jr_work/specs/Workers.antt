@@ -54,7 +54,8 @@ pub record KnowsScript (script : Script) (v : PassKnown JcrLaw) : Type 0 where
   -- no call by it is under way
   pub rest : v.round ≡ round.Idle
   pub frame : v.frame ≡ Some (frame_for script)
-  -- of its sessions the pass knows just the events that it has seen
+  -- of its sessions the pass knows just the events that it has seen, and how their splits and
+  -- collections have ended, where that is to be told, may follow these
   pub told : IsTold v
   -- what the pass has seen is a run by the law of the script
   pub run : IsRun (starts_of (law_of script)) (says_of (law_of script)) (history_by v)

@@ -1,6 +1,6 @@
 // A gate: what is called before each step of a worker.
-ghost use Rattle.std.specs.Prelude.{◌≡◌, ◌≢◌};
-ghost use Rattle.oak_port.specs.Ports.{Idle, LastsLess, Steps};
+ghost use Rattle.std.specs.Prelude.{◌≡◌};
+ghost use Rattle.oak_port.specs.Ports.{IsAtRest, LastsLess, Steps};
 
 use oak_machine::StepKind;
 use oak_port::{Port, StepOut};
@@ -22,7 +22,7 @@ impl Gate for NoGate {
 
 // A step of a port, and before it the gate with the kind that is due.
 pub(crate) fn gated_step<P: Port, G: Gate>(port: &mut P, gate: &G, session: u32) -> StepOut
-    requires busy { (P.shown port.old).work ≢ Idle }
+    requires busy { IsAtRest (P.shown port.old).work → ⊥ }
     ensures law { P.law port.new ≡ P.law port.old }
     ensures steps { Steps (P.L.may_start (P.law port.old)) (P.L.may_say (P.law port.old))
         (P.shown port.old) (P.shown port.new) result }

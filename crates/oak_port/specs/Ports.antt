@@ -1,10 +1,11 @@
 -- What a session is told of a world: the history so far and what is being done for the session, and
 -- what a step makes of these.
-use Rattle.std.specs.Prelude.{◌≡◌, ◌↔◌, ◌⊎◌, ◌<◌, ◌≤◌, ℕ, Bool, true, false, ⊤, List, [], ◌∷◌}
+use Rattle.std.specs.Prelude.{◌≡◌, ◌≢◌, ◌↔◌, ◌⊎◌, ◌<◌, ◌≤◌, ℕ, Bool, true, false, ⊤, List, [], ◌∷◌}
 use Rattle.std.specs.Prelude.{reverse, slice_get, Option, None, Some, IfSome, IsTrue, IsFalse}
 use Rattle.std.specs.Borrow.{GName}
 use Rattle.std.specs.Option.{option_map_or}
 use Rattle.jr_path.specs.declared.path.Item.{Item}
+use Rattle.jr_path.specs.declared.path.Path.{Path}
 use Rattle.jr_path.specs.Lists.{Text}
 use Rattle.jr_rev.specs.declared.revision.Revision.{Revision}
 use Rattle.jr_rev.specs.declared.vector.RevVec.{RevVec}
@@ -43,7 +44,9 @@ use Rattle.oak_port.specs.declared.task.TaskEnd.TheVariants as end
 -- taken its notes, and will publish this revision; a background read that has read this of the
 -- root; a sweep that has read of the root how far its cluster node has published, this revision,
 -- and passes over documents; a sweep that has told the root how far it went, this revision, and
--- whose node has still to learn it; or a detaching whose base has moved to this vector
+-- whose node has still to learn it; a collection that has taken its bound, and drops what is
+-- garbage of it; how a split or a collection has ended, which is to be told with the reply; or a
+-- detaching whose base has moved to this vector
 pub data Work : Type 0 where
   Idle : Work
   Starting : Task → Work
@@ -55,7 +58,20 @@ pub data Work : Type 0 where
   Learning : RevVec → Work
   Passing : Revision → Work
   Sweeping : Revision → Work
+  Collecting : Work
+  Telling : Event → Work
   Detaching : RevVec → Work
+
+-- nothing is left to be done but to tell how a task ended
+abbrev pub IsAtRest : Work → Type 0
+IsAtRest Idle = ⊤
+IsAtRest (Telling e) = ⊤
+IsAtRest _ = ⊥
+
+-- what stands directly before the reply: how a split or a collection ended
+abbrev pub end_told : Work → Past
+end_told (Telling e) = e ∷ []
+end_told _ = []
 
 -- what is being done for a session, how many bytes of its next reply have a place, where that has
 -- one, and the kind of its next step
@@ -162,6 +178,23 @@ SweepsOn h s r k own now = (k ≡ kind.Sweep)
     × (((own ≡ event.Went s kind.Sweep ∷ []) × (now ≡ Passing r))
     ⊎ ((m : ℕ) × IsSessionOn h s m × (own ≡ event.Sweep m r ∷ []) × (now ≡ Sweeping r)))
 
+-- a split reads the document, a commit root or the previous document that it wrote, or it changes a
+-- document; one that ends has the end that is told
+abbrev pub SplitsOn : ℕ → StepKind → Past → Type 0
+SplitsOn s k own = ((k ≡ kind.Read) × (own ≡ []))
+    ⊎ ((k ≡ kind.Split) × (own ≡ event.Went s kind.Split ∷ []))
+
+-- a collection reads a part of its bound, with the settings the last, by which it is taken
+abbrev pub BoundsOn : ℕ → Past → Work → Type 0
+BoundsOn s own now =
+    ((own ≡ event.Went s kind.Bound ∷ []) × (now ≡ Starting task.Collect))
+    ⊎ ((m : RevVec) × (t : RevVec) × (own ≡ event.Bound m t ∷ []) × (now ≡ Collecting))
+
+-- a collection that has its bound reads a document, or changes or removes one
+abbrev pub CollectsOn : ℕ → StepKind → Past → Type 0
+CollectsOn s k own = ((k ≡ kind.Read) × (own ≡ []))
+    ⊎ ((k ≡ kind.Collect) × (own ≡ event.Went s kind.Collect ∷ []))
+
 -- the head of the cluster node of r sees r
 abbrev pub is_in_head : History → Revision → Bool
 is_in_head h r = sees (head_of h.clusters h.begin h.past r.cluster) r
@@ -196,6 +229,11 @@ Makes h s (Starting task.BackRead) (out.Went k) own now =
 Makes h s (Starting task.Sweep) (out.Went k) own now =
     (m : ℕ) × IsSessionOn h s m × (k ≡ kind.Sweep) × (own ≡ event.Went s kind.Sweep ∷ [])
     × (now ≡ Passing (published h.begin h.past m))
+Makes h s (Starting (task.Split p)) (out.Went k) own now =
+    SplitsOn s k own × (now ≡ Starting (task.Split p))
+Makes h s (Starting (task.Split p)) (out.Ready (end.Split e)) own now =
+    (k : StepKind) × SplitsOn s k own × (now ≡ Telling (event.Split s p e))
+Makes h s (Starting task.Collect) (out.Went k) own now = (k ≡ kind.Bound) × BoundsOn s own now
 Makes h s (Starting (task.Checkpoint i)) (out.Ready (end.Set None)) own now =
     (v : RevVec) × (base_of h.past s ≡ Some v) × (own ≡ event.Checkpoint i v ∷ []) × (now ≡ Idle)
 Makes h s (Starting (task.Release i)) (out.Ready (end.Set None)) own now =
@@ -229,6 +267,10 @@ Makes h s (Passing r) out.Memory own now = (own ≡ []) × (now ≡ Idle)
 Makes h s (Sweeping r) (out.Ready (end.Swept o)) own now =
     (o ≡ r) × (own ≡ event.Went s kind.Learn ∷ []) × (now ≡ Idle)
 Makes h s (Sweeping r) out.Memory own now = (own ≡ []) × (now ≡ Idle)
+Makes h s Collecting (out.Went k) own now = CollectsOn s k own × (now ≡ Collecting)
+Makes h s Collecting (out.Ready (end.Collected c)) own now =
+    (own ≡ event.Went s kind.Collect ∷ []) × (now ≡ Telling (event.Collected s c))
+Makes h s Collecting out.Memory own now = (own ≡ []) × (now ≡ Idle)
 Makes h s (Detaching v) (out.Ready (end.Pinned pin)) own now =
     (pin.base ≡ v) × (own ≡ event.Detach s ∷ []) × (now ≡ Idle)
 Makes h s (Detaching v) out.Memory own now = (own ≡ []) × (now ≡ Idle)
@@ -247,27 +289,35 @@ Makes h s (Awaiting r) (out.Ready (end.Commit f)) own now =
     × (v : RevVec) × IsTrue (sees v r) × (own ≡ event.Refresh s v ∷ []) × (now ≡ Idle)
 Makes h s _ _ own now = ⊥
 
--- the kind of the step that ended a task
-abbrev pub last_kind : Work → StepKind
-last_kind (Starting task.Login) = kind.Login
-last_kind (Starting task.Refresh) = kind.Pin
-last_kind (Starting task.End) = kind.End
-last_kind (Starting (task.Checkpoint i)) = kind.Settings
-last_kind (Starting (task.Release i)) = kind.Settings
-last_kind (Starting (task.Attach i)) = kind.Settings
-last_kind (Starting task.Observe) = kind.Pin
-last_kind (Starting t) = kind.Read
-last_kind (Publishing r) = kind.Back
-last_kind (Learning u) = kind.Learn
-last_kind (Sweeping r) = kind.Learn
-last_kind (Detaching v) = kind.Settings
-last_kind (Undoing r e) = kind.Finish
-last_kind _ = kind.Pin
+-- the kind of the step that ended a split, by what it added: it read, or changed a document
+abbrev pub split_kind : Past → StepKind
+split_kind [] = kind.Read
+split_kind _ = kind.Split
+
+-- the kind of the step that ended a task and added these
+abbrev pub last_kind : Work → Past → StepKind
+last_kind (Starting task.Login) own = kind.Login
+last_kind (Starting task.Refresh) own = kind.Pin
+last_kind (Starting task.End) own = kind.End
+last_kind (Starting (task.Checkpoint i)) own = kind.Settings
+last_kind (Starting (task.Release i)) own = kind.Settings
+last_kind (Starting (task.Attach i)) own = kind.Settings
+last_kind (Starting task.Observe) own = kind.Pin
+last_kind (Starting (task.Split p)) own = split_kind own
+last_kind (Starting t) own = kind.Read
+last_kind (Publishing r) own = kind.Back
+last_kind (Learning u) own = kind.Learn
+last_kind (Sweeping r) own = kind.Learn
+last_kind Collecting own = kind.Collect
+last_kind (Detaching v) own = kind.Settings
+last_kind (Undoing r e) own = kind.Finish
+last_kind _ own = kind.Pin
 
 -- the events are those of a step of the kind that is told
 abbrev pub AreOfStep : History → ℕ → Work → StepOut → Past → Type 0
 AreOfStep h s work (out.Went k) own = IsTrue (is_appended_by h s k (reverse own))
-AreOfStep h s work (out.Ready e) own = IsTrue (is_appended_by h s (last_kind work) (reverse own))
+AreOfStep h s work (out.Ready e) own =
+    IsTrue (is_appended_by h s (last_kind work own) (reverse own))
 AreOfStep h s work _ own = own ≡ []
 
 -- the kind is due
@@ -288,6 +338,13 @@ ReadsAsDue true answer own = own ≡ []
 ReadsAsDue false (out.Went kind.Read) own = ⊥
 ReadsAsDue false answer own = ⊤
 
+-- a split reads where that is due, and no event is added then; elsewhere it changes a document, but
+-- where memory is refused
+abbrev pub SplitsAsDue : Bool → StepOut → Past → Type 0
+SplitsAsDue true answer own = own ≡ []
+SplitsAsDue false out.Memory own = ⊤
+SplitsAsDue false answer own = own ≢ []
+
 -- events of others were added, none where nobody else steps the world, and then a step made these
 pub record Steps (starts : Starts) (says : Says) (old new : Shown) (answer : StepOut) : Type 0 where
   pub others : Past
@@ -298,17 +355,20 @@ pub record Steps (starts : Starts) (says : Says) (old new : Shown) (answer : Ste
   pub as_due : IsTrue (is_by_due old.due own)
   pub reads_due : (r : Revision) → old.work ≡ Writing r
       → ReadsAsDue (is_due kind.Read old.due) answer own
+  pub splits_due : (p : Path) → old.work ≡ Starting (task.Split p)
+      → SplitsAsDue (is_due kind.Read old.due) answer own
   pub session : new.session ≡ old.session
   pub room : new.room ≡ old.room
   pub beside : new.beside ≡ old.beside
   pub alone : IfSome old.beside.seats (λ seats. others ≡ [])
 
--- events of others were added, and then the reply; its place is taken
+-- events of others were added, and then the reply, directly behind how a split or a collection
+-- ended, where that is to be told; its place is taken
 pub record Answers (starts : Starts) (says : Says) (old new : Shown) (index : ℕ) (text : Text)
     : Type 0 where
   pub others : Past
   pub grows : Grows starts says old.session old.history new.history others
-      (event.Said old.session index text ∷ [])
+      (event.Said old.session index text ∷ end_told old.work)
   pub session : new.session ≡ old.session
   pub work : new.work ≡ Idle
   pub room : new.room ≡ None
@@ -386,6 +446,12 @@ Appends task.BackRead (event.In k v) = ⊤
 Appends task.Sweep (event.Went s kind.Sweep) = ⊤
 Appends task.Sweep (event.Sweep k r) = ⊤
 Appends task.Sweep (event.Went s kind.Learn) = ⊤
+Appends (task.Split p) (event.Went s kind.Split) = ⊤
+Appends (task.Split p) (event.Split s path e) = path ≡ p
+Appends task.Collect (event.Went s kind.Bound) = ⊤
+Appends task.Collect (event.Bound m t) = ⊤
+Appends task.Collect (event.Went s kind.Collect) = ⊤
+Appends task.Collect (event.Collected s c) = ⊤
 Appends (task.Checkpoint i) (event.Checkpoint id v) = id ≡ i
 Appends (task.Release i) (event.Release id) = id ≡ i
 Appends (task.Release i) (event.Went s kind.Settings) = ⊤
@@ -407,6 +473,8 @@ MayAppend (Publishing r) e = Appends task.BackWrite e
 MayAppend (Learning v) e = Appends task.BackRead e
 MayAppend (Passing r) e = Appends task.Sweep e
 MayAppend (Sweeping r) e = Appends task.Sweep e
+MayAppend Collecting e = Appends task.Collect e
+MayAppend (Telling x) e = e ≡ x
 MayAppend (Detaching v) e = Appends task.Detach e
 MayAppend Idle e = ⊥
 

@@ -1,8 +1,9 @@
 // The calls of a world for one session.
-ghost use Rattle.std.specs.Prelude.{◌≡◌, ◌↔◌, ◌≢◌, ℕ, OnErr, OnOk, None, Some, IsSome, IsFalse, length};
+ghost use Rattle.std.specs.Prelude.{◌≡◌, ◌↔◌, ℕ, OnErr, OnOk, None, Some, IsSome, IsFalse, length};
 ghost use Rattle.std.specs.Option.{option_map};
 ghost use Rattle.oak_machine.specs.Sessions.{base_of, has_left, next_index};
-ghost use Rattle.oak_port.specs.Ports.{Answers, HasRoom, Idle, IsAskedOf, LastsLess, LastsOn, MayBegin, OthersAlone, Shown, Starting, StaysSo, Steps};
+ghost use Rattle.oak_machine.specs.Laws.{after};
+ghost use Rattle.oak_port.specs.Ports.{Answers, HasRoom, Idle, IsAskedOf, IsAtRest, LastsLess, LastsOn, MayBegin, OthersAlone, Shown, Starting, StaysSo, Steps, end_told};
 
 use crate::task::{StepOut, Task};
 use jr_rev::Pin;
@@ -44,24 +45,24 @@ pub trait Port {
     /// Makes one step of what is being done: one operation on one document or on one node's memory.
     /// Where nobody else acts meanwhile it lowers the number of steps that are left, or it waits.
     fn step(&mut self) -> StepOut
-        requires busy { (shown self.old).work ≢ Idle }
+        requires busy { IsAtRest (shown self.old).work → ⊥ }
         ensures law { law self.new ≡ law self.old }
         ensures steps { Steps (Self.L.may_start (law self.old)) (Self.L.may_say (law self.old))
             (shown self.old) (shown self.new) result }
         ensures lowers { LastsLess (left self.old) (left self.new)
             (shown self.old) (shown self.new) result };
 
-    /// The kind of the next step; None where nothing is being done. Where no step is left nothing
-    /// is.
+    /// The kind of the next step; None where nothing is left to be done but to tell how a task
+    /// ended. Where no step is left nothing is.
     fn due(&mut self) -> Option<StepKind>
         ensures law { law self.new ≡ law self.old }
         ensures same { StaysSo (Self.L.may_start (law self.old)) (Self.L.may_say (law self.old))
             (shown self.old) (shown self.new) }
         ensures due { result ≡ (shown self.new).due }
-        ensures busy { IsSome result ↔ ((shown self.old).work ≢ Idle) }
+        ensures busy { IsSome result ↔ (IsAtRest (shown self.old).work → ⊥) }
         ensures left { LastsOn (left self.old) (left self.new)
             (shown self.old) (shown self.new) }
-        ensures over { left self.old ≡ 0 → (shown self.old).work ≡ Idle };
+        ensures over { left self.old ≡ 0 → IsAtRest (shown self.old).work };
 
     /// The session's pin; None before its login and once it has left.
     fn pin(&mut self) -> Option<Pin>
@@ -96,12 +97,14 @@ pub trait Port {
         ensures left { LastsOn (left self.old) (left self.new)
             (shown self.old) (shown self.new) };
 
-    /// Says the session's next reply. The reply has a place, and so saying takes no memory.
+    /// Says the session's next reply, and before it how a split or a collection ended, where that is
+    /// to be told. The reply has a place, and so saying takes no memory.
     fn say(&mut self, index: u32, text: &str)
-        requires idle { (shown self.old).work ≡ Idle }
+        requires idle { IsAtRest (shown self.old).work }
         requires place { HasRoom (shown self.old).room (length text.now) }
         requires next { index ≡ next_index (shown self.old).history.past (shown self.old).session }
-        requires lawful { Self.L.may_say (law self.old) (shown self.old).history
+        requires lawful { Self.L.may_say (law self.old)
+            (after (end_told (shown self.old).work) (shown self.old).history)
             (shown self.old).session index text.now }
         ensures law { law self.new ≡ law self.old }
         ensures said { Answers (Self.L.may_start (law self.old)) (Self.L.may_say (law self.old))

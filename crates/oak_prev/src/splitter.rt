@@ -154,13 +154,26 @@ impl Splitter {
         }
     }
 
-    /// How it ended.
-    pub fn end(self) -> SplitEnd
+    /// The path of its node, and how it ended.
+    pub fn end(self) -> (Path, SplitEnd)
         requires { due self ≡ ask.Done }
-        ensures { self.step ≡ step.Done result }
+        ensures path { result.0 ≡ self.path }
+        ensures end { self.step ≡ step.Done result.1 }
     {
-        match self.step {
-            Step::Done(end) => end,
+        let Splitter {
+            alloc: _,
+            pin: _,
+            path,
+            reading,
+            asked,
+            left,
+            step,
+        } = self;
+        drop(reading);
+        drop(asked);
+        drop(left);
+        match step {
+            Step::Done(end) => (path, end),
             _ => unreachable!(),
         }
     }

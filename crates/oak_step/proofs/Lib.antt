@@ -1,8 +1,2 @@
-pub mod Tables
-pub mod Stages
-pub mod Feeding
-pub mod Needs
-pub mod Replies
-pub mod Acting
 pub mod Freeing
 pub mod Backs

@@ -10,7 +10,8 @@ ghost use Rattle.oak_store.specs.Tables.{Table};
 ghost use Rattle.oak_sync.specs.Learning as learning;
 ghost use Rattle.oak_sync.specs.Publishing as publishing;
 ghost use Rattle.oak_sync.specs.declared.stage.Stage.TheVariants as stage;
-ghost use Rattle.oak_step.specs.Parts.{IsPublishing, IsBackReading, KeepsUp, LearnsOn, PublishesOn, parts};
+ghost use Rattle.oak_step.specs.Parts.{IsPublishing, IsBackReading, KeepsUp, LearnsOn, PublishesOn, stepping};
+ghost use Rattle.oak_saves.specs.Saves.{parts};
 ghost use Rattle.oak_step.specs.declared.upkeep.Upkeep.TheVariants as upkeep;
 ghost use Rattle.oak_step.specs.declared.work.Work.TheVariants as work;
 
@@ -27,7 +28,7 @@ use std::alloc::{AllocError, Global};
 
 // The notes are taken whose revision the head sees.
 pub(crate) fn write(memory: &mut NodeMem, events: &mut Events, s: u32) -> (Work, StepOut)
-    ensures made { (k : ℕ) (t : Table) → KeepsUp s k (parts t memory.old events.old.list)
+    ensures made { (k : ℕ) (t : Table) → KeepsUp (stepping s k (parts t memory.old events.old.list))
         upkeep.Write (parts t memory.new events.new.list) result.0 result.1 }
     ensures places { events.new.places ≡ events.old.places }
 {
@@ -67,7 +68,7 @@ pub(crate) fn begin(
     pending: Pending,
 ) -> (Work, StepOut)
     requires table { IsTable table.old.documents }
-    ensures made { (m : NodeState) → KeepsUp s node (parts table.old m events.old.list)
+    ensures made { (m : NodeState) → KeepsUp (stepping s node (parts table.old m events.old.list))
         (upkeep.Noted pending) (parts table.new m events.new.list) result.0 result.1 }
     ensures places { events.new.places ≡ events.old.places }
     ensures order { IsTable table.new.documents }
@@ -89,7 +90,8 @@ pub(crate) fn publish(
 ) -> (Work, StepOut)
     requires table { IsTable table.old.documents }
     requires due { IsPublishing (publishing.stage_of write) }
-    ensures made { (m : NodeState) → PublishesOn s node (parts table.old m events.old.list) write
+    ensures made { (m : NodeState) → PublishesOn
+        (stepping s node (parts table.old m events.old.list)) write
         (parts table.new m events.new.list) result.0 result.1 }
     ensures places { events.new.places ≡ events.old.places }
     ensures order { IsTable table.new.documents }
@@ -132,7 +134,7 @@ pub(crate) fn read(
 ) -> (Work, StepOut)
     requires table { IsTable table.old.documents }
     requires due { IsBackReading (learning.stage_of read) }
-    ensures made { LearnsOn s node (parts table.old memory.old events.old.list) read
+    ensures made { LearnsOn (stepping s node (parts table.old memory.old events.old.list)) read
         (parts table.new memory.new events.new.list) result.0 result.1 }
     ensures places { events.new.places ≡ events.old.places }
     ensures order { IsTable table.new.documents }
@@ -148,8 +150,9 @@ pub(crate) fn read(
 fn read_root(table: &mut DocTable, events: &mut Events, s: u32, read: BackRead) -> (Work, StepOut)
     requires table { IsTable table.old.documents }
     requires due { learning.stage_of read ≡ stage.Read }
-    ensures made { (k : ℕ) (m : NodeState) → LearnsOn s k (parts table.old m events.old.list) read
-        (parts table.new m events.new.list) result.0 result.1 }
+    ensures made { (k : ℕ) (m : NodeState) → LearnsOn
+        (stepping s k (parts table.old m events.old.list)) read (parts table.new m events.new.list)
+        result.0 result.1 }
     ensures places { events.new.places ≡ events.old.places }
     ensures order { IsTable table.new.documents }
 {
@@ -175,8 +178,9 @@ fn told_read(read: BackRead, reply: Reply) -> Work
 // The memory learns what the root told, and the background read ends.
 fn learn(memory: &mut NodeMem, events: &mut Events, node: u32, read: &BackRead) -> (Work, StepOut)
     requires { learning.stage_of read.now ≡ stage.Learn }
-    ensures made { (s : ℕ) (t : Table) → LearnsOn s node (parts t memory.old events.old.list)
-        read.now (parts t memory.new events.new.list) result.0 result.1 }
+    ensures made { (s : ℕ) (t : Table) → LearnsOn
+        (stepping s node (parts t memory.old events.old.list)) read.now
+        (parts t memory.new events.new.list) result.0 result.1 }
     ensures places { events.new.places ≡ events.old.places }
 {
     if events.keep(1).is_err() {

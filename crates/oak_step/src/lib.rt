@@ -3,7 +3,6 @@
 #![tactic(auto)]
 
 mod back;
-mod commit;
 mod load;
 mod settings;
 mod step;

@@ -7,7 +7,8 @@ ghost use Rattle.oak_node.specs.Memory.{NodeState};
 ghost use Rattle.oak_node.specs.Pins.{pin_of};
 ghost use Rattle.oak_read.specs.Reading.{IsTable};
 ghost use Rattle.core_world.specs.Steps.{after_update};
-ghost use Rattle.oak_step.specs.Parts.{KeepsUp, parts};
+ghost use Rattle.oak_step.specs.Parts.{KeepsUp, stepping};
+ghost use Rattle.oak_saves.specs.Saves.{parts};
 ghost use Rattle.oak_step.specs.Upkeeps.{set_checkpoint};
 ghost use Rattle.oak_step.specs.declared.upkeep.Upkeep.TheVariants as upkeep;
 
@@ -33,9 +34,8 @@ pub(crate) fn checkpoint(
 ) -> (Work, StepOut)
     requires pinned { IsSome (pin_of memory.now s) }
     requires table { IsTable table.old.documents }
-    ensures made { (k : ℕ) → KeepsUp s k (parts table.old memory.now events.old.list)
-        (upkeep.Checkpoint name.now) (parts table.new memory.now events.new.list)
-        result.0 result.1 }
+    ensures made { (k : ℕ) → KeepsUp (stepping s k (parts table.old memory.now events.old.list))
+        (upkeep.Checkpoint name.now) (parts table.new memory.now events.new.list) result.0 result.1 }
     ensures places { events.new.places ≡ events.old.places }
     ensures order { IsTable table.new.documents }
 {
@@ -80,8 +80,9 @@ pub(crate) fn release(
     name: &Text,
 ) -> (Work, StepOut)
     requires table { IsTable table.old.documents }
-    ensures made { (k : ℕ) (m : NodeState) → KeepsUp s k (parts table.old m events.old.list)
-        (upkeep.Release name.now) (parts table.new m events.new.list) result.0 result.1 }
+    ensures made { (k : ℕ) (m : NodeState) → KeepsUp
+        (stepping s k (parts table.old m events.old.list)) (upkeep.Release name.now)
+        (parts table.new m events.new.list) result.0 result.1 }
     ensures places { events.new.places ≡ events.old.places }
     ensures order { IsTable table.new.documents }
 {
@@ -141,8 +142,9 @@ pub(crate) fn attach(
     name: &Text,
 ) -> (Work, StepOut)
     requires table { IsTable table.old.documents }
-    ensures made { (k : ℕ) (m : NodeState) → KeepsUp s k (parts table.old m events.old.list)
-        (upkeep.Attach name.now) (parts table.new m events.new.list) result.0 result.1 }
+    ensures made { (k : ℕ) (m : NodeState) → KeepsUp
+        (stepping s k (parts table.old m events.old.list)) (upkeep.Attach name.now)
+        (parts table.new m events.new.list) result.0 result.1 }
     ensures places { events.new.places ≡ events.old.places }
     ensures order { IsTable table.new.documents }
 {
@@ -203,8 +205,9 @@ pub(crate) fn detach(
     pin: Pin,
 ) -> (Work, StepOut)
     requires table { IsTable table.old.documents }
-    ensures made { (k : ℕ) (m : NodeState) → KeepsUp s k (parts table.old m events.old.list)
-        (upkeep.Detaching pin) (parts table.new m events.new.list) result.0 result.1 }
+    ensures made { (k : ℕ) (m : NodeState) → KeepsUp
+        (stepping s k (parts table.old m events.old.list)) (upkeep.Detaching pin)
+        (parts table.new m events.new.list) result.0 result.1 }
     ensures places { events.new.places ≡ events.old.places }
     ensures order { IsTable table.new.documents }
 {

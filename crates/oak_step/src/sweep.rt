@@ -14,7 +14,8 @@ ghost use Rattle.oak_store.specs.Tables.{Table};
 ghost use Rattle.oak_sweep.specs.Sweeping as sweeping;
 ghost use Rattle.oak_sweep.specs.declared.stage.Stage.TheVariants as swept;
 ghost use Rattle.oak_sweep.specs.declared.sweeper.Sweeper.{Sweeper};
-ghost use Rattle.oak_step.specs.Parts.{IsPassing, KeepsUp, PassesOn, parts, sweep_event};
+ghost use Rattle.oak_step.specs.Parts.{IsPassing, KeepsUp, PassesOn, sweep_event, stepping};
+ghost use Rattle.oak_saves.specs.Saves.{parts};
 ghost use Rattle.oak_step.specs.declared.upkeep.Upkeep.TheVariants as upkeep;
 ghost use Rattle.oak_step.specs.declared.work.Work.TheVariants as work;
 
@@ -39,7 +40,7 @@ pub(crate) fn begin_sweep(
     s: u32,
 ) -> (Work, StepOut)
     requires table { IsTable table.old.documents }
-    ensures made { (m : NodeState) → KeepsUp s node (parts table.old m events.old.list)
+    ensures made { (m : NodeState) → KeepsUp (stepping s node (parts table.old m events.old.list))
         upkeep.Sweep (parts table.new m events.new.list) result.0 result.1 }
     ensures places { events.new.places ≡ events.old.places }
     ensures order { IsTable table.new.documents }
@@ -62,7 +63,7 @@ pub(crate) fn go_on(
 ) -> (Work, StepOut)
     requires table { IsTable table.old.documents }
     requires due { sweeping.stage_of sweeper ≢ swept.Done }
-    ensures made { PassesOn s node (parts table.old memory.old events.old.list) sweeper
+    ensures made { PassesOn (stepping s node (parts table.old memory.old events.old.list)) sweeper
         (parts table.new memory.new events.new.list) result.0 result.1 }
     ensures places { events.new.places ≡ events.old.places }
     ensures order { IsTable table.new.documents }
@@ -84,8 +85,8 @@ fn pass(
 ) -> (Work, StepOut)
     requires table { IsTable table.old.documents }
     requires due { IsPassing (sweeping.stage_of sweeper) }
-    ensures made { (m : NodeState) → PassesOn s node (parts table.old m events.old.list) sweeper
-        (parts table.new m events.new.list) result.0 result.1 }
+    ensures made { (m : NodeState) → PassesOn (stepping s node (parts table.old m events.old.list))
+        sweeper (parts table.new m events.new.list) result.0 result.1 }
     ensures places { events.new.places ≡ events.old.places }
     ensures order { IsTable table.new.documents }
 {
@@ -136,8 +137,9 @@ fn told_sweep(sweeper: Sweeper, reply: Reply) -> Work
 // The memory learns how far the sweep of its cluster node went, and the sweep ends.
 fn learn(memory: &mut NodeMem, events: &mut Events, s: u32, sweeper: Sweeper) -> (Work, StepOut)
     requires { sweeping.stage_of sweeper ≡ swept.Learn }
-    ensures made { (k : ℕ) (t : Table) → PassesOn s k (parts t memory.old events.old.list)
-        sweeper (parts t memory.new events.new.list) result.0 result.1 }
+    ensures made { (k : ℕ) (t : Table) → PassesOn
+        (stepping s k (parts t memory.old events.old.list)) sweeper
+        (parts t memory.new events.new.list) result.0 result.1 }
     ensures places { events.new.places ≡ events.old.places }
 {
     let Ok(asking) = sweeper.next() else {

@@ -6,7 +6,8 @@ ghost use Rattle.oak_node.specs.Pins.{pin_of, with_pin};
 ghost use Rattle.core_nodes.specs.Nodes.{cursor_owner};
 ghost use Rattle.oak_read.specs.Reading.{IsTable};
 ghost use Rattle.oak_store.specs.Tables.{Table};
-ghost use Rattle.oak_step.specs.Parts.{CanKeepUp, KeepsUp, parts};
+ghost use Rattle.oak_step.specs.Parts.{CanKeepUp, KeepsUp, stepping};
+ghost use Rattle.oak_saves.specs.Saves.{parts};
 ghost use Rattle.oak_step.specs.declared.upkeep.Upkeep.TheVariants as upkeep;
 ghost use Rattle.oak_step.specs.Upkeeps.{kind_kept, kind_read, kind_swept};
 
@@ -104,7 +105,7 @@ pub(crate) fn keep_up(
 ) -> (Work, StepOut)
     requires can { CanKeepUp s memory.old upkeep }
     requires table { IsTable table.old.documents }
-    ensures made { KeepsUp s node (parts table.old memory.old events.old.list) upkeep
+    ensures made { KeepsUp (stepping s node (parts table.old memory.old events.old.list)) upkeep
         (parts table.new memory.new events.new.list) result.0 result.1 }
     ensures places { events.new.places ≡ events.old.places }
     ensures order { IsTable table.new.documents }
@@ -128,7 +129,7 @@ pub(crate) fn keep_up(
 // The first step of a detaching: the session is pinned at the head, and reads there from then on.
 fn pin_on(memory: &mut NodeMem, events: &mut Events, s: u32) -> (Work, StepOut)
     requires pinned { IsSome (pin_of memory.old s) }
-    ensures made { (k : ℕ) (t : Table) → KeepsUp s k (parts t memory.old events.old.list)
+    ensures made { (k : ℕ) (t : Table) → KeepsUp (stepping s k (parts t memory.old events.old.list))
         upkeep.Detach (parts t memory.new events.new.list) result.0 result.1 }
     ensures places { events.new.places ≡ events.old.places }
 {
@@ -145,7 +146,7 @@ fn pin_on(memory: &mut NodeMem, events: &mut Events, s: u32) -> (Work, StepOut)
 fn observe_on(memory: &mut NodeMem, events: &mut Events, s: u32) -> (Work, StepOut)
     requires few { s < 64 }
     requires pinned { IsSome (pin_of memory.old s) }
-    ensures made { (k : ℕ) (t : Table) → KeepsUp s k (parts t memory.old events.old.list)
+    ensures made { (k : ℕ) (t : Table) → KeepsUp (stepping s k (parts t memory.old events.old.list))
         upkeep.Observe (parts t memory.new events.new.list) result.0 result.1 }
     ensures places { events.new.places ≡ events.old.places }
 {

@@ -9,10 +9,13 @@ use jr_tree::Edit;
 use oak_changes::ChangesReader;
 use oak_clash::MarkAt;
 use oak_commit::{Committer, Stage};
-use oak_machine::StepKind;
+use oak_gc::Collector;
+use oak_machine::{Event, StepKind};
 use oak_port::Task;
+use oak_prev::Splitter;
 use oak_read::Reader;
 use oak_sync::BackRead;
+use oak_tidy::Tidying;
 use std::alloc::{AllocError, Global};
 
 /// What a session does.
@@ -35,13 +38,23 @@ pub enum Work {
     Move(Revision),
     /// Background work, or a change of the settings.
     Upkeep(Upkeep),
+    /// A split or a collection, whose steps are made over the memories of all cluster nodes.
+    Tidy(Tidying),
+    /// How a split or a collection ended, which is to be told with the next reply.
+    Told(Event),
 }
 
 impl Work {
-    /// What a session does that is told to do a task, at its pin.
-    pub fn of(alloc: Global, pin: Option<Pin>, task: Task) -> Result<Work, AllocError>
+    /// What a session does that is told to do a task, at its pin, where there are so many cluster
+    /// nodes.
+    pub fn of(
+        alloc: Global,
+        clusters: u32,
+        pin: Option<Pin>,
+        task: Task,
+    ) -> Result<Work, AllocError>
         requires { CanBegin pin task }
-        ensures { IfOk result (Begins pin task) }
+        ensures { IfOk result (Begins clusters pin task) }
     {
         match task {
             Task::Login => Ok(Work::Login),
@@ -68,9 +81,13 @@ impl Work {
             Task::Attach(name) => Ok(Work::Upkeep(Upkeep::Attach(name))),
             Task::Detach => Ok(Work::Upkeep(Upkeep::Detach)),
             Task::Observe => Ok(Work::Upkeep(Upkeep::Observe)),
-            // No world splits, collects, stops or recovers yet.
-            Task::Split(_path) => unreachable!(),
-            Task::Collect | Task::Stop(_) | Task::Recover(_) => unreachable!(),
+            Task::Split(path) => match pin {
+                Some(pin) => Ok(Work::Tidy(Tidying::Split(Splitter::new(alloc, &path, &pin)?))),
+                None => unreachable!(),
+            },
+            Task::Collect => Ok(Work::Tidy(Tidying::Collect(Collector::new(alloc, clusters)?))),
+            // No world stops or recovers yet.
+            Task::Stop(_) | Task::Recover(_) => unreachable!(),
         }
     }
 
@@ -79,7 +96,7 @@ impl Work {
         ensures { result ≡ kind_due self.now }
     {
         match self {
-            Work::Rest => None,
+            Work::Rest | Work::Told(_) => None,
             Work::Login => Some(StepKind::Login),
             Work::End => Some(StepKind::End),
             Work::Refresh | Work::Move(_) => Some(StepKind::Pin),
@@ -87,6 +104,7 @@ impl Work {
             Work::Plan(_, _) => Some(StepKind::Draw),
             Work::Commit(committer) => kind_of(committer.stage()),
             Work::Upkeep(upkeep) => Some(upkeep.due()),
+            Work::Tidy(tidying) => Some(tidying.due()),
         }
     }
 }

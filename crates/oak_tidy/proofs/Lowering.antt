@@ -2,7 +2,7 @@
 use Rattle.std.proofs.Common.{◌≡◌, ◌≢◌, ◌+◌, ◌-◌, ◌<◌, ◌≤◌, ℕ, Bool, true, false, cond, length, List, [], ◌∷◌, Option, Some, None, Ok, Err, map, refl, sym, ap, subst, ◌∙◌, arith}
 use Rattle.std.specs.Prelude.{nat_lt, slice_get}
 use Rattle.std.specs.List.{filter}
-use Rattle.std.specs.Option.{IfSome, option_map, option_map_or}
+use Rattle.std.specs.Option.{option_map, option_map_or}
 use Rattle.std.specs.Ordering.{match_ordering, nat_cmp}
 use Rattle.std.specs.Map.{values_of}
 use Rattle.std.specs.BTreeMap.{insert_entry}
@@ -44,10 +44,7 @@ use Rattle.oak_read.specs.Meaning.{documents_in}
 use Rattle.oak_read.specs.Reading.{IsTable, with_known}
 use Rattle.oak_read.specs.Wanted.{Ids}
 use Rattle.oak_store.specs.Tables.{Table, after_removal, found, next_number, removal_of}
-use Rattle.oak_machine.specs.declared.event.StepKind.{StepKind}
 use Rattle.oak_node.specs.Pins.{pin_now}
-use Rattle.oak_port.specs.declared.task.StepOut.{StepOut}
-use Rattle.oak_port.specs.declared.task.StepOut.TheVariants as answers
 use Rattle.core_world.specs.States.{memory_at}
 use Rattle.core_world.specs.Steps.{with_result}
 use Rattle.oak_acts.specs.Acts.{replied}
@@ -55,7 +52,7 @@ use Rattle.oak_tidy.specs.declared.tidying.Tidying.{Tidying}
 use Rattle.oak_tidy.specs.declared.tidying.Tidying.TheVariants as tidying
 use Rattle.oak_tidy.specs.Left.{StepsLower, all_steps, collect_left, nodes_behind, split_left, tidying_left}
 use Rattle.oak_tidy.specs.Replies.{AllParts, table_after, told_to}
-use Rattle.oak_tidy.specs.Tidyings.{AsksNodesOf, CanTidy, GoesOrEnds, parts_on, tidied_on}
+use Rattle.oak_tidy.specs.Tidyings.{AsksNodesOf, CanTidy, tidied_on, tidying_ask}
 
 abbrev Entries : Type 0
 Entries = List (DocId × Document)
@@ -283,10 +280,7 @@ steps_lower p n (tidying.Split x) is can = split_lowers p x x.step can.busy
 steps_lower p n (tidying.Collect x) is can = collect_lowers p is n x x.step can.asks.0 can.busy
 
 -- what goes on has fewer steps left
-pub goes_lower_on : (p q : AllParts) (n s : ℕ) (x z : Tidying) (y : StepKind) (v : Option Tidying) (o : StepOut) → IsTable p.table.documents → CanTidy n x → q ≡ parts_on s p x → z ≡ tidied_on p x → GoesOrEnds y z v o → IfSome v (λ next. tidying_left q.table next < tidying_left p.table x)
-goes_lower_on p q n s x z y v (answers.Went w) is can parts same h =
-    let at : v ≡ Some (tidied_on p x) = h.1 ∙ ap Some same in
-    subst (λ (u : Option Tidying). IfSome u (λ next. tidying_left q.table next < tidying_left p.table x)) (sym at)
-    (subst (λ (r : AllParts). tidying_left r.table (tidied_on p x) < tidying_left p.table x) (sym parts) (steps_lower p n x is can))
-goes_lower_on p q n s x z y v (answers.Ready e) is can parts same h = subst (λ (u : Option Tidying). IfSome u (λ next. tidying_left q.table next < tidying_left p.table x)) (sym h.0) tt
-goes_lower_on p q n s x z y v _ is can parts same h = absurd h
+pub goes_lower_on : (p : AllParts) (u : Table) (n : ℕ) (x y : Tidying) → IsTable p.table.documents → CanTidy n x → u ≡ table_after p.table (tidying_ask x) → y ≡ tidied_on p x → tidying_left u y < tidying_left p.table x
+goes_lower_on p u n x y is can after same =
+    subst (λ (z : Tidying). tidying_left u z < tidying_left p.table x) (sym same)
+    (subst (λ (t : Table). tidying_left t (tidied_on p x) < tidying_left p.table x) (sym after) (steps_lower p n x is can))

@@ -1,10 +1,11 @@
 -- Whatever it is fed, a collector asks none but the cluster nodes that there are.
-use Rattle.std.proofs.Common.{◌≡◌, ◌+◌, ◌≤◌, ℕ, Bool, true, false, cond, length, List, [], ◌∷◌, ◌++◌, Option, Some, None, map, refl, sym, ap, subst, ◌∙◌, arith}
+use Rattle.std.proofs.Common.{◌≡◌, ◌≢◌, ◌+◌, ◌≤◌, ℕ, Bool, true, false, cond, length, List, [], ◌∷◌, ◌++◌, Option, Some, None, map, refl, sym, ap, subst, ◌∙◌, arith}
 use Rattle.std.specs.Prelude.{nat_lt}
-use Rattle.std.specs.Option.{IfSome, option_map_or}
+use Rattle.std.specs.Option.{option_map_or}
 use Rattle.std.proofs.lemmas.Bool.Decides.{nat_tests}
 use Rattle.jr_path.specs.declared.path.DocId.{DocId}
 use Rattle.jr_path.specs.declared.path.DocId.TheVariants as id
+use Rattle.oak_doc.specs.declared.asks.Ask.TheVariants as ask
 use Rattle.oak_doc.specs.declared.asks.RemoveOut.TheVariants as removal
 use Rattle.oak_doc.specs.declared.asks.Reply.{Reply}
 use Rattle.oak_doc.specs.declared.asks.Reply.TheVariants as reply
@@ -17,13 +18,10 @@ use Rattle.oak_gc.specs.Garbage.{garbage_in, is_garbage_document}
 use Rattle.oak_gc.specs.declared.collector.Collector.{Collector}
 use Rattle.oak_gc.specs.declared.reading.Step.{Step}
 use Rattle.oak_gc.specs.declared.reading.Step.TheVariants as step
-use Rattle.oak_machine.specs.declared.event.StepKind.{StepKind}
 use Rattle.oak_machine.specs.Runs.{IsNode}
-use Rattle.oak_port.specs.declared.task.StepOut.{StepOut}
-use Rattle.oak_port.specs.declared.task.StepOut.TheVariants as answers
 use Rattle.oak_tidy.specs.declared.tidying.Tidying.{Tidying}
 use Rattle.oak_tidy.specs.declared.tidying.Tidying.TheVariants as tidying
-use Rattle.oak_tidy.specs.Tidyings.{IsCollecting, AsksNodesOf, CollectsAt, AsksWithin, CanTidy, GoesOrEnds, tidying_fed}
+use Rattle.oak_tidy.specs.Tidyings.{IsCollecting, AsksNodesOf, CollectsAt, AsksWithin, CanTidy, tidying_ask, tidying_fed}
 
 -- no cluster node is asked at this step
 abbrev IsElsewhere : Step → Type 0
@@ -120,7 +118,5 @@ asks_stay n (tidying.Split x) r of = tt
 asks_stay n (tidying.Collect x) r of = (stays n x x.step r of.0, fed_on n x r of.1)
 
 -- what goes on can go on
-pub goes_can : (n : ℕ) (x : Tidying) (r : Reply) (y : StepKind) (v : Option Tidying) (o : StepOut) → AsksWithin n x → GoesOrEnds y (tidying_fed x r) v o → IfSome v (λ z. CanTidy n z)
-goes_can n x r y v (answers.Went z) asks h = subst (λ (o : Option Tidying). IfSome o (λ z. CanTidy n z)) (sym h.1) (record { busy = h.2; asks = asks_stay n x r asks })
-goes_can n x r y v (answers.Ready e) asks h = subst (λ (o : Option Tidying). IfSome o (λ z. CanTidy n z)) (sym h.0) tt
-goes_can n x r y v _ asks h = absurd h
+pub goes_can : (n : ℕ) (x y : Tidying) (r : Reply) → AsksWithin n x → y ≡ tidying_fed x r → tidying_ask (tidying_fed x r) ≢ ask.Done → CanTidy n y
+goes_can n x y r asks same busy = subst (CanTidy n) (sym same) (record { busy = busy; asks = asks_stay n x r asks })

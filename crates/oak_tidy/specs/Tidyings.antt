@@ -30,6 +30,10 @@ use Rattle.oak_prev.specs.Stages as split_stages
 use Rattle.oak_prev.specs.declared.splitter.Step.TheVariants as split_step
 use Rattle.oak_prev.specs.declared.stage.Stage.{Stage as Splits}
 use Rattle.oak_prev.specs.declared.stage.Stage.TheVariants as split_stage
+use Rattle.oak_tidy.specs.declared.tidying.Onward.{Onward}
+use Rattle.oak_tidy.specs.declared.tidying.Onward.TheVariants as onward
+use Rattle.oak_tidy.specs.declared.tidying.Tidied.{Tidied}
+use Rattle.oak_tidy.specs.declared.tidying.Tidied.TheVariants as tidied
 use Rattle.oak_tidy.specs.declared.tidying.Tidying.{Tidying}
 use Rattle.oak_tidy.specs.declared.tidying.Tidying.TheVariants as tidying
 use Rattle.oak_tidy.specs.Replies.{AllParts, all_parts, table_after, told_to}
@@ -46,12 +50,18 @@ abbrev pub tidying_fed : Tidying → Reply → Tidying
 tidying_fed (tidying.Split x) r = tidying.Split (splitting.fed x r)
 tidying_fed (tidying.Collect x) r = tidying.Collect (collecting.fed x r)
 
--- how it has ended, once nothing is due
-abbrev pub TidiesTo : Tidying → TaskEnd → Type 0
-TidiesTo (tidying.Split x) (ends.Split e) = x.step ≡ split_step.Done e
-TidiesTo (tidying.Collect x) (ends.Collected c) =
-    (collecting.due x ≡ ask.Done) × (c ≡ x.collected)
-TidiesTo _ _ = ⊥
+-- how a task of session s has ended, once nothing is due, and the event that tells so
+abbrev pub TidiesTo : ℕ → Tidying → TaskEnd → Event → Type 0
+TidiesTo s (tidying.Split x) (ends.Split e) told =
+    (x.step ≡ split_step.Done e) × (told ≡ event.Split s x.path e)
+TidiesTo s (tidying.Collect x) (ends.Collected c) told =
+    (collecting.due x ≡ ask.Done) × (c ≡ x.collected) × (told ≡ event.Collected s c)
+TidiesTo s _ _ told = ⊥
+
+-- what a reply makes of it: it goes on, or nothing is due, and it has ended
+abbrev pub ComesTo : ℕ → Tidying → Onward → Type 0
+ComesTo s x (onward.Goes y) = (y ≡ x) × (tidying_ask x ≢ ask.Done)
+ComesTo s x (onward.Ends e told) = TidiesTo s x e told
 
 -- ---- kinds
 
@@ -111,18 +121,23 @@ parts_on s p x =
     all_parts (table_after p.table (tidying_ask x)) p.memories
     (p.list ++ tidy_events s x (tidied_on p x))
 
--- what comes of a step of this kind that leaves x: the task goes on, or where nothing more is due
--- ends with what there is to tell
-abbrev pub GoesOrEnds : StepKind → Tidying → Option Tidying → StepOut → Type 0
-GoesOrEnds y x v (answers.Went z) = (z ≡ y) × (v ≡ Some x) × (tidying_ask x ≢ ask.Done)
-GoesOrEnds y x v (answers.Ready e) = (v ≡ None) × TidiesTo x e
-GoesOrEnds y x v _ = ⊥
+-- what comes of a step of session s, of this kind, that leaves x: the task goes on, or where
+-- nothing more is due it ends, and its event is to be told
+abbrev pub GoesOrEnds : ℕ → StepKind → Tidying → Tidied → StepOut → Type 0
+GoesOrEnds s y x v (answers.Went z) = (z ≡ y) × (v ≡ tidied.Going x) × (tidying_ask x ≢ ask.Done)
+GoesOrEnds s y x v (answers.Ready e) = (told : Event) × TidiesTo s x e told × (v ≡ tidied.Told told)
+GoesOrEnds s y x v _ = ⊥
 
 -- how a step of session s goes: what is asked is done and answered; where memory is refused nothing
 -- changes, and the task ends
-abbrev pub Tidies : ℕ → AllParts → Tidying → AllParts → Option Tidying → StepOut → Type 0
-Tidies s p x q v answers.Memory = (q ≡ p) × (v ≡ None)
-Tidies s p x q v o = (q ≡ parts_on s p x) × GoesOrEnds (kind_tidied x) (tidied_on p x) v o
+abbrev pub Tidies : ℕ → AllParts → Tidying → AllParts → Tidied → StepOut → Type 0
+Tidies s p x q v answers.Memory = (q ≡ p) × (v ≡ tidied.Gone)
+Tidies s p x q v o = (q ≡ parts_on s p x) × GoesOrEnds s (kind_tidied x) (tidied_on p x) v o
+
+-- what goes on, where it does, is such
+abbrev pub IfGoing : Tidied → (Tidying → Type 0) → Type 0
+IfGoing (tidied.Going x) Is = Is x
+IfGoing _ Is = Unit {0}
 
 -- ---- what a step takes
 

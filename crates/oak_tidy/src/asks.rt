@@ -1,5 +1,5 @@
 // What is asked is done and answered, with its event: on documents, or by a memory.
-ghost use Rattle.std.specs.Prelude.{◌≡◌, ◌++◌, ◌∷◌, [], ℕ, OnErr, OnOk, cond, length};
+ghost use Rattle.std.specs.Prelude.{◌≡◌, ◌++◌, ◌∷◌, [], IfOk, OnErr, OnOk, cond, length};
 ghost use Rattle.oak_doc.specs.declared.asks.Ask.TheVariants as ask;
 ghost use Rattle.oak_doc.specs.declared.asks.MemoryAsk.TheVariants as asked;
 ghost use Rattle.oak_doc.specs.declared.asks.Reply.TheVariants as reply;
@@ -11,10 +11,10 @@ ghost use Rattle.oak_store.specs.Tables.{after_removal, removal_of};
 ghost use Rattle.core_world.specs.Steps.{after_update};
 ghost use Rattle.oak_acts.specs.Acts.{reply_of};
 ghost use Rattle.oak_tidy.specs.Replies.{all_parts, node_tells, table_after, told_by_memories};
-ghost use Rattle.oak_tidy.specs.Tidyings.{AsksWithin, CanTidy, bound_told, kind_tidied, takes_bound, tidied_on, tidy_events, tidying_ask, tidying_fed};
+ghost use Rattle.oak_tidy.specs.Tidyings.{AsksWithin, CanTidy, ComesTo, bound_told, takes_bound, tidied_on, tidy_events, tidying_ask, tidying_fed};
 
 use crate::answers::{memory_reply, removal_reply, update_reply};
-use crate::tidying::Tidying;
+use crate::tidying::{Onward, Tidying};
 use jr_path::DocId;
 use oak_acts::{answer, change};
 use oak_doc::{Ask, MemoryAsk, Reply, UpdateOp};
@@ -23,23 +23,23 @@ use oak_node::NodeMem;
 use oak_store::DocTable;
 use std::alloc::{AllocError, Global};
 
-// What is due is done, answered and told. Where memory is refused nothing changes but what tidies,
-// which is let go then.
+// What is due is done, answered and told, and how a task ended is copied. Where memory is refused
+// nothing changes.
 pub(crate) fn answered(
     alloc: Global,
     table: &mut DocTable,
     memories: &[NodeMem],
     events: &mut Events,
     s: u32,
-    tidying: &mut Tidying,
-) -> Result<(), AllocError>
-    requires can { CanTidy (length memories.now) tidying.old }
+    tidying: Tidying,
+) -> Result<Onward, AllocError>
+    requires can { CanTidy (length memories.now) tidying }
     requires table { IsTable table.old.documents }
-    ensures table { OnOk result (table.new ≡ table_after table.old (tidying_ask tidying.old)) }
-    ensures tidying { OnOk result (tidying.new
-        ≡ tidied_on (all_parts table.old memories.now events.old.list) tidying.old) }
-    ensures list { OnOk result
-        (events.new.list ≡ events.old.list ++ tidy_events s tidying.old tidying.new) }
+    ensures table { OnOk result (table.new ≡ table_after table.old (tidying_ask tidying)) }
+    ensures onward { IfOk result
+        (ComesTo s (tidied_on (all_parts table.old memories.now events.old.list) tidying)) }
+    ensures list { OnOk result (events.new.list ≡ events.old.list ++ tidy_events s tidying
+        (tidied_on (all_parts table.old memories.now events.old.list) tidying)) }
     ensures kept { OnErr result (table.new ≡ table.old) }
     ensures err { OnErr result (events.new.list ≡ events.old.list) }
     ensures places { events.new.places ≡ events.old.places }
@@ -60,19 +60,19 @@ fn look(
     table: &DocTable,
     events: &mut Events,
     s: u32,
-    tidying: &mut Tidying,
+    tidying: Tidying,
     asking: Ask,
-) -> Result<(), AllocError>
-    requires asked { tidying_ask tidying.old ≡ asking }
-    ensures tidying { OnOk result
-        (tidying.new ≡ tidying_fed tidying.old (answer table.now.documents asking)) }
-    ensures list { OnOk result
-        (events.new.list ≡ events.old.list ++ tidy_events s tidying.old tidying.new) }
+) -> Result<Onward, AllocError>
+    requires asked { tidying_ask tidying ≡ asking }
+    ensures onward { IfOk result
+        (ComesTo s (tidying_fed tidying (answer table.now.documents asking))) }
+    ensures list { OnOk result (events.new.list ≡ events.old.list ++ tidy_events s tidying
+        (tidying_fed tidying (answer table.now.documents asking))) }
     ensures err { OnErr result (events.new.list ≡ events.old.list) }
     ensures places { events.new.places ≡ events.old.places }
 {
     match tidying.due() {
-        StepKind::Read => feed_found(table, tidying, asking),
+        StepKind::Read => tidying.fed(s, answer(table, asking)?),
         kind => look_counted(table, events, s, tidying, asking, kind),
     }
 }
@@ -82,31 +82,28 @@ fn look_counted(
     table: &DocTable,
     events: &mut Events,
     s: u32,
-    tidying: &mut Tidying,
+    tidying: Tidying,
     asking: Ask,
     kind: StepKind,
-) -> Result<(), AllocError>
-    ensures tidying { OnOk result
-        (tidying.new ≡ tidying_fed tidying.old (answer table.now.documents asking)) }
+) -> Result<Onward, AllocError>
+    ensures onward { IfOk result
+        (ComesTo s (tidying_fed tidying (answer table.now.documents asking))) }
     ensures list { OnOk result (events.new.list ≡ events.old.list
-        ++ cond (takes_bound tidying.old asking)
-        (event.Bound (bound_told tidying.new).base (bound_told tidying.new).sweep)
+        ++ cond (takes_bound tidying asking)
+        (event.Bound
+        (bound_told (tidying_fed tidying (answer table.now.documents asking))).base
+        (bound_told (tidying_fed tidying (answer table.now.documents asking))).sweep)
         (event.Went s kind) ∷ []) }
     ensures err { OnErr result (events.new.list ≡ events.old.list) }
     ensures places { events.new.places ≡ events.old.places }
 {
-    let takes = takes_bound(tidying, &asking);
-    events.keep(1)?;
-    match feed_found(table, tidying, asking) {
-        Ok(()) => {
-            events.push_kept(look_event(tidying, s, kind, takes));
-            Ok(())
-        }
-        Err(AllocError) => {
-            events.give_back(1);
-            Err(AllocError)
-        }
-    }
+    let takes = takes_bound(&tidying, &asking);
+    let mut tidying = tidying;
+    feed_found(table, &mut tidying, asking)?;
+    let told = look_event(&tidying, s, kind, takes);
+    let onward = tidying.onward(s)?;
+    events.push(told)?;
+    Ok(onward)
 }
 
 // What the documents answer is fed.
@@ -148,45 +145,24 @@ fn update(
     table: &mut DocTable,
     events: &mut Events,
     s: u32,
-    tidying: &mut Tidying,
+    tidying: Tidying,
     op: &UpdateOp,
-) -> Result<(), AllocError>
-    requires asked { tidying_ask tidying.old ≡ ask.Update op.now }
+) -> Result<Onward, AllocError>
+    requires asked { tidying_ask tidying ≡ ask.Update op.now }
     requires table { IsTable table.old.documents }
     ensures table { OnOk result (table.new ≡ after_update table.old op.now) }
-    ensures tidying { OnOk result
-        (tidying.new ≡ tidying_fed tidying.old (reply_of table.old op.now)) }
-    ensures list { OnOk result
-        (events.new.list ≡ events.old.list ++ tidy_events s tidying.old tidying.new) }
+    ensures onward { IfOk result (ComesTo s (tidying_fed tidying (reply_of table.old op.now))) }
+    ensures list { OnOk result (events.new.list ≡ events.old.list
+        ++ tidy_events s tidying (tidying_fed tidying (reply_of table.old op.now))) }
     ensures kept { OnErr result (table.new ≡ table.old) }
     ensures err { OnErr result (events.new.list ≡ events.old.list) }
     ensures places { events.new.places ≡ events.old.places }
     ensures order { IsTable table.new.documents }
 {
-    let told = Event::Went(s, tidying.due());
-    match feed_update(alloc, table, tidying, op) {
-        Ok(()) => {
-            change(table, events, op, told)?;
-            Ok(())
-        }
-        Err(AllocError) => {
-            drop(told);
-            Err(AllocError)
-        }
-    }
-}
-
-// What the documents will answer to an update is fed.
-fn feed_update(
-    alloc: Global,
-    table: &DocTable,
-    tidying: &mut Tidying,
-    op: &UpdateOp,
-) -> Result<(), AllocError>
-    ensures { OnOk result (tidying.new ≡ tidying_fed tidying.old (reply_of table.now op.now)) }
-{
-    let reply = update_reply(alloc, table, op)?;
-    tidying.feed(reply)
+    let kind = tidying.due();
+    let onward = tidying.fed(s, update_reply(alloc, table, op)?)?;
+    change(table, events, op, Event::Went(s, kind))?;
+    Ok(onward)
 }
 
 // A document is removed, where it has that number.
@@ -194,59 +170,28 @@ fn remove(
     table: &mut DocTable,
     events: &mut Events,
     s: u32,
-    tidying: &mut Tidying,
+    tidying: Tidying,
     id: &DocId,
     number: u64,
-) -> Result<(), AllocError>
-    requires asked { tidying_ask tidying.old ≡ ask.RemoveIf id.now number }
+) -> Result<Onward, AllocError>
+    requires asked { tidying_ask tidying ≡ ask.RemoveIf id.now number }
     requires table { IsTable table.old.documents }
     ensures table { OnOk result
         (table.new ≡ after_removal table.old id.now (removal_of table.old id.now number)) }
-    ensures tidying { OnOk result (tidying.new
-        ≡ tidying_fed tidying.old (reply.Removed (removal_of table.old id.now number))) }
-    ensures list { OnOk result
-        (events.new.list ≡ events.old.list ++ tidy_events s tidying.old tidying.new) }
+    ensures onward { IfOk result (ComesTo s
+        (tidying_fed tidying (reply.Removed (removal_of table.old id.now number)))) }
+    ensures list { OnOk result (events.new.list ≡ events.old.list ++ tidy_events s tidying
+        (tidying_fed tidying (reply.Removed (removal_of table.old id.now number)))) }
     ensures kept { OnErr result (table.new ≡ table.old) }
     ensures err { OnErr result (events.new.list ≡ events.old.list) }
     ensures places { events.new.places ≡ events.old.places }
     ensures order { IsTable table.new.documents }
 {
     let kind = tidying.due();
-    feed_counted(
-        events,
-        s,
-        tidying,
-        Reply::Removed(removal_reply(table, id, number)),
-        kind,
-    )?;
+    let onward = tidying.fed(s, Reply::Removed(removal_reply(table, id, number)))?;
+    events.push(Event::Went(s, kind))?;
     let _ = table.remove_if(id, number);
-    Ok(())
-}
-
-// A reply is fed, and the event of its step is told.
-fn feed_counted(
-    events: &mut Events,
-    s: u32,
-    tidying: &mut Tidying,
-    reply: Reply,
-    kind: StepKind,
-) -> Result<(), AllocError>
-    ensures tidying { OnOk result (tidying.new ≡ tidying_fed tidying.old reply) }
-    ensures list { OnOk result (events.new.list ≡ events.old.list ++ event.Went s kind ∷ []) }
-    ensures err { OnErr result (events.new.list ≡ events.old.list) }
-    ensures places { events.new.places ≡ events.old.places }
-{
-    events.keep(1)?;
-    match tidying.feed(reply) {
-        Ok(()) => {
-            events.push_kept(Event::Went(s, kind));
-            Ok(())
-        }
-        Err(AllocError) => {
-            events.give_back(1);
-            Err(AllocError)
-        }
-    }
+    Ok(onward)
 }
 
 // A memory is asked, and tells what is held there.
@@ -255,15 +200,15 @@ fn remember(
     memories: &[NodeMem],
     events: &mut Events,
     s: u32,
-    tidying: &mut Tidying,
+    tidying: Tidying,
     asking: &MemoryAsk,
-) -> Result<(), AllocError>
-    requires asks { AsksWithin (length memories.now) tidying.old }
-    requires asked { tidying_ask tidying.old ≡ ask.Memory asking.now }
-    ensures tidying { OnOk result
-        (tidying.new ≡ tidying_fed tidying.old (told_by_memories memories.now asking.now)) }
-    ensures list { OnOk result
-        (events.new.list ≡ events.old.list ++ tidy_events s tidying.old tidying.new) }
+) -> Result<Onward, AllocError>
+    requires asks { AsksWithin (length memories.now) tidying }
+    requires asked { tidying_ask tidying ≡ ask.Memory asking.now }
+    ensures onward { IfOk result
+        (ComesTo s (tidying_fed tidying (told_by_memories memories.now asking.now))) }
+    ensures list { OnOk result (events.new.list ≡ events.old.list ++ tidy_events s tidying
+        (tidying_fed tidying (told_by_memories memories.now asking.now))) }
     ensures err { OnErr result (events.new.list ≡ events.old.list) }
     ensures places { events.new.places ≡ events.old.places }
 {
@@ -282,18 +227,19 @@ fn hear(
     memory: &NodeMem,
     events: &mut Events,
     s: u32,
-    tidying: &mut Tidying,
+    tidying: Tidying,
     node: u32,
-) -> Result<(), AllocError>
-    requires { tidying_ask tidying.old ≡ ask.Memory (asked.Pins node) }
-    ensures tidying { OnOk result
-        (tidying.new ≡ tidying_fed tidying.old (node_reply (node_tells memory.now))) }
-    ensures list { OnOk result
-        (events.new.list ≡ events.old.list ++ tidy_events s tidying.old tidying.new) }
+) -> Result<Onward, AllocError>
+    requires { tidying_ask tidying ≡ ask.Memory (asked.Pins node) }
+    ensures onward { IfOk result
+        (ComesTo s (tidying_fed tidying (node_reply (node_tells memory.now)))) }
+    ensures list { OnOk result (events.new.list ≡ events.old.list
+        ++ tidy_events s tidying (tidying_fed tidying (node_reply (node_tells memory.now)))) }
     ensures err { OnErr result (events.new.list ≡ events.old.list) }
     ensures places { events.new.places ≡ events.old.places }
 {
     let kind = tidying.due();
-    let reply = memory_reply(alloc, memory)?;
-    feed_counted(events, s, tidying, reply, kind)
+    let onward = tidying.fed(s, memory_reply(alloc, memory)?)?;
+    events.push(Event::Went(s, kind))?;
+    Ok(onward)
 }

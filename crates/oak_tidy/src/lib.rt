@@ -10,4 +10,4 @@ mod tidying;
 
 pub use laws::{collections_are_steps, looks_are_steps, splits_are_steps, steps_have_their_events};
 pub use steps::tidy;
-pub use tidying::Tidying;
+pub use tidying::{Tidied, Tidying};

@@ -1,12 +1,13 @@
 // What tidies documents: what it asks, and how it has ended.
 ghost use Rattle.std.specs.Prelude.{◌≡◌, ◌↔◌, IfOk, IsTrue, OnOk};
 ghost use Rattle.oak_doc.specs.declared.asks.Ask.TheVariants as ask;
-ghost use Rattle.oak_tidy.specs.Tidyings.{TidiesTo, bound_told, kind_collect, kind_split, kind_tidied, tidying_ask, tidying_fed};
+ghost use Rattle.oak_tidy.specs.Tidyings.{ComesTo, TidiesTo, bound_told, kind_collect, kind_split, kind_tidied, tidying_ask, tidying_fed};
 
+use jr_path::DeepCopy;
 use jr_rev::{Pin, RevVec};
 use oak_doc::{Ask, Reply};
 use oak_gc::Collector;
-use oak_machine::StepKind;
+use oak_machine::{Event, StepKind};
 use oak_port::TaskEnd;
 use oak_prev::Splitter;
 use std::alloc::AllocError;
@@ -18,6 +19,25 @@ pub enum Tidying {
     Split(Splitter),
     /// Garbage of the bound of all that is held is dropped.
     Collect(Collector),
+}
+
+/// What a step leaves of what tidies documents.
+#[derive(Drop)]
+pub enum Tidied {
+    /// The task goes on.
+    Going(Tidying),
+    /// The task has ended, and how it ended is to be told with the session's next reply.
+    Told(Event),
+    /// Memory was refused, and the task is gone.
+    Gone,
+}
+
+// What a reply makes of what tidies documents.
+#[derive(Drop)]
+pub(crate) enum Onward {
+    Goes(Tidying),
+    // How it has ended, and the event that tells so.
+    Ends(TaskEnd, Event),
 }
 
 impl Tidying {
@@ -61,14 +81,41 @@ impl Tidying {
         }
     }
 
-    // How it has ended.
-    pub(crate) fn end(self) -> TaskEnd
+    // What it is after a reply: it goes on, or it has ended, and how is copied for its event.
+    pub(crate) fn fed(self, s: u32, reply: Reply) -> Result<Onward, AllocError>
+        ensures { IfOk result (ComesTo s (tidying_fed self reply)) }
+    {
+        let mut tidying = self;
+        tidying.feed(reply)?;
+        tidying.onward(s)
+    }
+
+    // Whether it goes on, or how it has ended.
+    pub(crate) fn onward(self, s: u32) -> Result<Onward, AllocError>
+        ensures { IfOk result (ComesTo s self) }
+    {
+        if self.is_done() {
+            let (end, told) = self.end(s)?;
+            return Ok(Onward::Ends(end, told));
+        }
+        Ok(Onward::Goes(self))
+    }
+
+    // How it has ended, and the event that tells so.
+    fn end(self, s: u32) -> Result<(TaskEnd, Event), AllocError>
         requires { tidying_ask self ≡ ask.Done }
-        ensures { TidiesTo self result }
+        ensures { IfOk result (λ ended. TidiesTo s self ended.0 ended.1) }
     {
         match self {
-            Tidying::Split(splitter) => TaskEnd::Split(splitter.end()),
-            Tidying::Collect(collector) => TaskEnd::Collected(collector.end()),
+            Tidying::Split(splitter) => {
+                let (path, end) = splitter.end();
+                Ok((TaskEnd::Split(end), Event::Split(s, path, end)))
+            }
+            Tidying::Collect(collector) => {
+                let collected = collector.end();
+                let copy = collected.copy()?;
+                Ok((TaskEnd::Collected(collected), Event::Collected(s, copy)))
+            }
         }
     }
 

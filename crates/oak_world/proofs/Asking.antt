@@ -6,6 +6,7 @@ use Rattle.std.specs.List.{list_any}
 use Rattle.std.specs.Option.{option_map_or}
 use Rattle.std.proofs.lemmas.Bool.{and_parts, or_left}
 use Rattle.jr_path.specs.Lists.{Text}
+use Rattle.jr_path.specs.declared.path.Path.{Path}
 use Rattle.jr_rev.specs.declared.revision.Revision.{Revision}
 use Rattle.jr_rev.specs.declared.vector.Pin.{Pin}
 use Rattle.jr_rev.specs.declared.vector.RevVec.{RevVec}
@@ -29,14 +30,14 @@ use Rattle.oak_port.specs.declared.task.StepOut.TheVariants as out
 use Rattle.oak_port.specs.declared.task.Task.{Task}
 use Rattle.oak_port.specs.declared.task.Task.TheVariants as task
 use Rattle.oak_port.specs.declared.task.TaskEnd.TheVariants as end
-use Rattle.oak_port.specs.Ports.{AreOfStep, Awaiting, Deciding, Detaching, Idle, IsAskedOf, IsFinish, Learning, Makes, MayAppend, Passing, Publishing, Starting, Sweeping, SweepsOn, Undoing, Work as Shows, Writing, WritesOn, last_kind}
+use Rattle.oak_port.specs.Ports.{AreOfStep, Awaiting, BoundsOn, Collecting, CollectsOn, Deciding, Detaching, Idle, IsAskedOf, IsFinish, Learning, Makes, MayAppend, Passing, Publishing, SplitsOn, Starting, Sweeping, SweepsOn, Telling, Undoing, Work as Shows, Writing, WritesOn, last_kind}
 use Rattle.oak_step.specs.declared.work.Work.{Work}
 use Rattle.oak_step.specs.declared.work.Work.TheVariants as work
 use Rattle.oak_step.specs.Works.{Begins}
 use Rattle.oak_world.specs.Kept.{IsAskedWorld, IsWorld}
 use Rattle.oak_world.specs.Seen.{shown_work}
 use Rattle.oak_world.specs.Steps.{StepsIn}
-use Rattle.oak_world.specs.Worlds.{ActorState, WorldOf, actor_in, live, said_in, state_of, with_formers, with_reply, with_work, work_in}
+use Rattle.oak_world.specs.Worlds.{ActorState, WorldOf, actor_in, live, reply_events, said_in, state_of, with_formers, with_reply, with_work, work_in}
 use Rattle.oak_world.proofs.Keeping.{begins_shown, does_now, grown, others_are, seat, set_is, step_is}
 use Rattle.oak_world.proofs.StepsOf.{IsStepOf, apart_one, flipped}
 
@@ -88,6 +89,22 @@ passes : (h : History) (s : ℕ) (r : Revision) (k : StepKind) (own : Past) (now
 passes h s r k own now (is, inl m) = (inr (inl (event.Went s kind.Sweep, m.0, tt, refl)), less_by (Passing r) now _ m.1 (λ e may. may))
 passes h s r k own now (is, inr m) = (inr (inl (event.Sweep m.0 r, m.2, tt, refl)), less_by (Passing r) now _ m.3 (λ e may. may))
 
+-- a split or a collection that has ended may append how
+told_less : (work now : Shows) (e : Event) → now ≡ Telling e → MayAppend work e → IsLess work now
+told_less work now e is may = less_by work now (Telling e) is (λ f same. subst (λ (x : Event). MayAppend work x) (sym same) may)
+
+splits_add : (s : ℕ) (p : Path) (k : StepKind) (own : Past) → SplitsOn s k own → IsToAppend (Starting (task.Split p)) own
+splits_add s p k own (inl m) = inl m.1
+splits_add s p k own (inr m) = inr (inl (event.Went s kind.Split, m.1, tt, refl))
+
+bounds_add : (s : ℕ) (own : Past) (now : Shows) → BoundsOn s own now → IsToAppend (Starting task.Collect) own × IsLess (Starting task.Collect) now
+bounds_add s own now (inl m) = (inr (inl (event.Went s kind.Bound, m.0, tt, refl)), less_by (Starting task.Collect) now _ m.1 (λ e may. may))
+bounds_add s own now (inr m) = (inr (inl (event.Bound m.0 m.1, m.2, tt, refl)), less_by (Starting task.Collect) now _ m.3 (λ e may. may))
+
+collects_add : (s : ℕ) (k : StepKind) (own : Past) → CollectsOn s k own → IsToAppend Collecting own
+collects_add s k own (inl m) = inl m.1
+collects_add s k own (inr m) = inr (inl (event.Went s kind.Collect, m.1, tt, refl))
+
 -- a step adds what it may append, and may append no more then
 adds : (h : History) (s : ℕ) (work : Shows) (o : StepOut) (own : Past) (now : Shows) → Makes h s work o own now → IsToAppend work own × IsLess work now
 adds h s (Starting task.Login) (out.Ready (end.Pinned pin)) own now m = (inr (inl (event.Login s pin.base, m.0, tt, refl)), no_more (Starting task.Login) now m.1)
@@ -120,6 +137,12 @@ adds h s (Passing r) (out.Went k) own now m = passes h s r k own now m
 adds h s (Passing r) out.Memory own now m = (inl m.0, no_more (Passing r) now m.1)
 adds h s (Sweeping r) (out.Ready (end.Swept o)) own now m = (inr (inl (event.Went s kind.Learn, m.1, tt, refl)), no_more (Sweeping r) now m.2)
 adds h s (Sweeping r) out.Memory own now m = (inl m.0, no_more (Sweeping r) now m.1)
+adds h s (Starting (task.Split p)) (out.Went k) own now m = (splits_add s p k own m.0, less_by (Starting (task.Split p)) now _ m.1 (λ e may. may))
+adds h s (Starting (task.Split p)) (out.Ready (end.Split f)) own now m = (splits_add s p m.0 own m.1, told_less (Starting (task.Split p)) now (event.Split s p f) m.2 refl)
+adds h s (Starting task.Collect) (out.Went k) own now m = bounds_add s own now m.1
+adds h s Collecting (out.Went k) own now m = (collects_add s k own m.0, less_by Collecting now _ m.1 (λ e may. may))
+adds h s Collecting (out.Ready (end.Collected c)) own now m = (inr (inl (event.Went s kind.Collect, m.0, tt, refl)), told_less Collecting now (event.Collected s c) m.1 tt)
+adds h s Collecting out.Memory own now m = (inl m.0, no_more Collecting now m.1)
 adds h s (Detaching v) (out.Ready (end.Pinned pin)) own now m = (inr (inl (event.Detach s, m.1, tt, refl)), no_more (Detaching v) now m.2)
 adds h s (Detaching v) out.Memory own now m = (inl m.0, no_more (Detaching v) now m.1)
 adds h s (Writing r) (out.Went k) own now m = (writes s r k own now m, writes_less s r k own now m)
@@ -145,7 +168,7 @@ of_kind h s _ e es t = t
 -- a step that adds has a kind
 kind_of : (h : History) (s : ℕ) (work : Shows) (o : StepOut) (own : Past) → AreOfStep h s work o own → (own ≡ []) ⊎ ((k : StepKind) × (is_appended_by h s k (reverse own) ≡ true))
 kind_of h s work (out.Went k) own t = inr (k, t)
-kind_of h s work (out.Ready e) own t = inr (last_kind work, t)
+kind_of h s work (out.Ready e) own t = inr (last_kind work own, t)
 kind_of h s work _ own t = inl t
 
 -- an event of a kind is one that a step of the session may append
@@ -271,8 +294,8 @@ module _ (asks : Asks) {L : Type 0} (w : WorldOf L) (asked : IsAskedWorld asks w
   pub reply_asked : (room : Option ℕ) → IsAskedWorld asks (with_reply w s room)
   reply_asked room = set_asked (record (actor_in w.actors s) { reply = room }) (asked.coming s)
 
-  pub start_asked : (pin : Option Pin) (t : Task) (v : Work) → Begins pin t v → IsAskedOf asks (live w.history) s t → IsAskedWorld asks (with_work w s v)
-  start_asked pin t v begins so = set_asked (record (actor_in w.actors s) { work = v; began = length w.history.past }) (λ e may. so e (subst (λ (x : Shows). MayAppend x e) (begins_shown pin t v begins) may))
+  pub start_asked : (n : ℕ) (pin : Option Pin) (t : Task) (v : Work) → Begins n pin t v → IsAskedOf asks (live w.history) s t → IsAskedWorld asks (with_work w s v)
+  start_asked n pin t v begins so = set_asked (record (actor_in w.actors s) { work = v; began = length w.history.past }) (λ e may. so e (subst (λ (x : Shows). MayAppend x e) (begins_shown n pin t v begins) may))
 
   -- a reply is said
   module _ (idle : work_in w.actors s ≡ work.Rest) (i : ℕ) (text : Text) where
@@ -280,16 +303,29 @@ module _ (asks : Asks) {L : Type 0} (w : WorldOf L) (asked : IsAskedWorld asks w
     said = said_in w s i text
 
     abbrev quiet : ActorState
-    quiet = record (actor_in w.actors s) { reply = None }
+    quiet = record (actor_in w.actors s) { work = work.Rest; reply = None }
+
+    replied_is : reply_events s i text (work_in w.actors s) ≡ event.Said s i text ∷ []
+    replied_is = ap (reply_events s i text) idle
+
+    past_is : said.history.past ≡ event.Said s i text ∷ w.history.past
+    past_is = ap (λ (own : Past). own ++ w.history.past) replied_is
+
+    made_said : AreAskedIn asks (live said.history) said.history.past
+    made_said =
+        subst (λ (past : Past). AreAskedIn asks (record (live w.history) { past = past }) past) (sym past_is)
+        (tt, still_asked asks (live w.history) (event.Said s i text ∷ w.history.past) w.history.past asked.made)
 
     next_said : (q : ℕ) → (q == s) ≡ false → next_index said.history.past q ≡ next_index w.history.past q
-    next_said q apart = next_stays said.history.past (event.Said s i text ∷ []) w.history.past q (apart_one w.history.past s (event.Said s i text) (λ p h. flipped p s h) q apart)
+    next_said q apart =
+        ap (λ (past : Past). next_index past q) past_is
+        ∙ next_stays (event.Said s i text ∷ w.history.past) (event.Said s i text ∷ []) w.history.past q (apart_one w.history.past s (event.Said s i text) (λ p h. flipped p s h) q apart)
 
     pub said_asked : IsAskedWorld asks said
-    said_asked = record { made = (tt, still_asked asks (live w.history) said.history.past w.history.past asked.made); coming = λ q. by q (q == s) refl }
+    said_asked = record { made = made_said; coming = λ q. by q (q == s) refl }
       where
         by : (q : ℕ) (b : Bool) → (q == s) ≡ b → (e : Event) → MayAppend (shown_work (work_in said.actors q)) e → asks q (next_index said.history.past q) e
-        by q true same e may = absurd (subst (λ (x : Work). MayAppend (shown_work x) e) (ap (work_in said.actors) (same_number q s same) ∙ (ap (λ (x : ActorState). x.work) (set_is w s seated said.actors quiet refl) ∙ idle)) may)
+        by q true same e may = absurd (subst (λ (x : Work). MayAppend (shown_work x) e) (ap (work_in said.actors) (same_number q s same) ∙ ap (λ (x : ActorState). x.work) (set_is w s seated said.actors quiet refl)) may)
         by q false apart e may = subst (λ (n : ℕ). asks q n e) (sym (next_said q apart)) (asked.coming q e (subst (λ (x : ActorState). MayAppend (shown_work x.work) e) (others_are w s seated said.actors quiet refl q apart) may))
 
 -- a step is made

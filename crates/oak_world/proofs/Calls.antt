@@ -1,5 +1,5 @@
 -- What a world keeps, by its fields, after the calls of one of its sessions.
-use Rattle.std.proofs.Common.{◌≡◌, ◌≢◌, ℕ, zero, suc, ◌+◌, ◌-◌, ◌^◌, ◌<◌, ◌≤◌, Bool, true, cond, Option, Some, None, List, [], ◌∷◌, ◌++◌, length, map, is_some, refl, sym, ap, subst, ◌∙◌, arith}
+use Rattle.std.proofs.Common.{◌≡◌, inl, inr, ℕ, zero, suc, ◌+◌, ◌^◌, ◌<◌, ◌≤◌, Bool, true, false, cond, Option, Some, None, List, [], ◌∷◌, ◌++◌, length, map, is_some, refl, sym, ap, subst, ◌∙◌, arith}
 use Rattle.std.specs.Prelude.{reverse, slice_get, slice_set}
 use Rattle.std.specs.Option.{option_map, unwrap_or}
 use Rattle.std.specs.Borrow.{GName}
@@ -12,12 +12,11 @@ use Rattle.jr_path.specs.Lists.{Text}
 use Rattle.jr_rev.specs.declared.revision.Revision.{Revision}
 use Rattle.jr_rev.specs.Vectors.{no_entries, raised}
 use Rattle.oak_machine.specs.declared.event.Event.{Event}
-use Rattle.oak_machine.specs.declared.event.Event.TheVariants as event
 use Rattle.oak_machine.specs.declared.event.Journal.{Journal}
 use Rattle.oak_machine.specs.Recorded.{Recorded}
 use Rattle.oak_machine.specs.History.{Past}
 use Rattle.oak_machine.specs.Laws.{Says, Starts, StartsProper, StartsWrite}
-use Rattle.oak_machine.specs.Runs.{StartsLast}
+use Rattle.oak_machine.specs.Runs.{IsNode, StartsLast}
 use Rattle.oak_node.specs.Heads.{learned}
 use Rattle.oak_node.specs.Memory.{NodeState}
 use Rattle.oak_read.specs.Reading.{IsTable}
@@ -31,12 +30,16 @@ use Rattle.oak_port.specs.Ports.{Steps as StepSeen}
 use Rattle.oak_world.specs.declared.actor.Actor.{Actor}
 use Rattle.oak_step.specs.declared.work.Work.{Work}
 use Rattle.oak_step.specs.declared.work.Work.TheVariants as work
-use Rattle.oak_world.specs.Kept.{ArePlaced, IsLooking, IsPlaced, IsWorld, May}
-use Rattle.oak_step.specs.Parts.{CanStep, Parts, Steps, needed, parts}
+use Rattle.oak_tidy.specs.Replies.{all_parts}
+use Rattle.oak_world.specs.Acting.{Acts, ActsOnAll, ActsOnOne, CanAct, is_tidying}
+use Rattle.oak_world.specs.Kept.{ArePlaced, IsPlaced, IsWorld, May, Scene, scene}
+use Rattle.oak_world.specs.Looks.{IsLooking}
+use Rattle.oak_step.specs.Parts.{CanStep, Steps, needed}
+use Rattle.oak_saves.specs.Saves.{Parts, parts}
 use Rattle.oak_world.specs.Steps.{MakesState, StepsIn, attached_after, reads_after}
 use Rattle.oak_world.specs.Seen.{shown_at}
-use Rattle.oak_world.specs.Worlds.{ActorState, WorldOf, actor_in, idle, live, node_in, once_looked, parts_at, said_in, shown_actor, shown_world, state_of, with_formers, with_parts, with_reply, with_work, work_in}
-use Rattle.oak_world.proofs.Keeping.{can_step, seat, step_keeps, step_seen}
+use Rattle.oak_world.specs.Worlds.{ActorState, IsAtRest, WorldOf, actor_in, idle, live, node_in, once_looked, parts_at, reply_events, said_in, shown_actor, shown_world, state_of, with_formers, with_parts, with_reply, with_work, work_in}
+use Rattle.oak_world.proofs.Keeping.{can_by, node, seat, step_keeps, step_seen}
 use Rattle.oak_world.proofs.Looking.{SamePrevious, running_same}
 use Rattle.oak_world.proofs.Placing.{own_places, placed_set}
 use Rattle.oak_world.proofs.States.{LeavesLooks}
@@ -91,82 +94,119 @@ module _ (starts : Starts) (says : Says) (proper : StartsProper starts) (writes 
   pub set_placed : (b : Actor) (places : ℕ) → IsPlaced b → places + a.places ≡ j.events.places + b.places → ArePlaced (slice_set actors s b) places
   set_placed b places its same = placed_set actors j.events.places places s b a within placed its (ap (λ (x : Actor). places + x.places) (get_or_from_slice_get actors s a a here) ∙ same)
 
-  module _ (m : NodeState) (at : memory_at ms k ≡ m) where
-    memory_is : memory_at ms (node_in w.history s) ≡ m
-    memory_is = ap (memory_at ms) node_is ∙ at
+  counted : length ms ≡ j.clusters
+  counted = is.kept.sessions.memories.counted
 
-    -- what its step takes
-    pub can : work_in w.actors s ≢ work.Rest → length j.events.list < 2 ^ 63 → CanStep s m j.events.places a.work
-    can busy short =
-        let n : needed a.work + cond (is_some a.reply) 1 0 ≤ a.places = its_placed in
-        let o = own_are in
-        let need : needed a.work ≤ j.events.places = omega (arith, n, o) in
-        let l : length (reverse j.events.list) ≡ length j.events.list = length-reverse j.events.list in
-        let few : length (reverse j.events.list) < 2 ^ 63 = subst (λ (n : ℕ). n < 2 ^ 63) (sym l) short in
-        subst (λ (x : NodeState). CanStep s x j.events.places a.work) memory_is
-        (subst (λ (v : Work). CanStep s (memory_at ms (node_in w.history s)) j.events.places v) work_is
-        (can_step starts says proper writes last w is s there busy j.events.places (subst (λ (v : Work). needed v ≤ j.events.places) (sym work_is) need) few))
+  abbrev seen : Scene
+  seen = scene w.table is.formers (live w.history)
 
-    -- its step
-    module _ (u : Table) (n : NodeState) (es : Recorded) (b : Actor) (o : StepOut) where
-      abbrev now : WorldOf L
-      now = shown_world law (record j { events = es }) u (slice_set ms (k - 1) n) (slice_set actors s b)
+  -- what its step takes
+  pub can : (IsAtRest (work_in w.actors s) → ⊥) → length j.events.list < 2 ^ 63 → CanAct s k ms j.events.places a.work
+  can busy short = subst (λ (v : Work). CanAct s k ms j.events.places v) work_is (by (work_in w.actors s) refl busy (is.may s) need)
+    where
+      need : needed (work_in w.actors s) ≤ j.events.places
+      need =
+          let n : needed a.work + cond (is_some a.reply) 1 0 ≤ a.places = its_placed in
+          let o = own_are in
+          let low : needed a.work ≤ j.events.places = omega (arith, n, o) in
+          subst (λ (v : Work). needed v ≤ j.events.places) (sym work_is) low
 
-      abbrev after : Parts
-      after = parts u n es.list
+      few : length w.history.past < 2 ^ 63
+      few = let l : length (reverse j.events.list) ≡ length j.events.list = length-reverse j.events.list in subst (λ (n : ℕ). n < 2 ^ 63) (sym l) short
 
-      same_world : with_parts w s after (shown_actor b) ≡ now
-      same_world =
-          ap (λ (i : ℕ). record (with_parts w s after (shown_actor b)) { memories = with_memory ms i n }) node_is
-          ∙ ap (λ (xs : List ActorState). record now { actors = xs }) (sym (map_set shown_actor actors s b))
+      on_node_here : IsNode (length ms) k
+      on_node_here = subst (λ (n : ℕ). IsNode n k) (sym counted) (subst (λ (n : ℕ). IsNode j.clusters n) node_is (node starts says proper writes last w is s there))
 
-      parts_are : parts_at w s ≡ parts t m j.events.list
-      parts_are = ap (λ (x : NodeState). parts t x (reverse (reverse j.events.list))) memory_is ∙ ap (λ (xs : List Event). parts t m xs) (reverse-reverse j.events.list)
+      -- on the memory of its cluster node alone
+      alone : (v : Work) → is_tidying v ≡ false → work_in w.actors s ≡ v → (IsAtRest v → ⊥) → May starts seen s v → needed v ≤ j.events.places → CanAct s k ms j.events.places v
+      alone v plain at busy may low = inr (
+        on_node_here,
+        subst (λ (n : ℕ). CanStep s (memory_at ms n) j.events.places v) node_is (can_by starts says proper writes last w is s there v busy plain at may j.events.places low few),
+      )
 
-      looks : (q : ℕ) (c : Committing) → work_in w.actors q ≡ work.Commit c → (k : Look) → c.looking ≡ Some k → IsLooking c k
-      looks q c does = (subst (λ (v : Work). May starts w.table (live w.history) q v) does (is.may q)).looks
+      by : (v : Work) → work_in w.actors s ≡ v → (IsAtRest v → ⊥) → May starts seen s v → needed v ≤ j.events.places → CanAct s k ms j.events.places v
+      by (work.Tidy x) at busy may low = absurd may
+      by (work.Told e) at busy may low = absurd (busy tt)
+      by work.Rest at busy may low = absurd (busy tt)
+      by work.Login at busy may low = alone work.Login refl at busy may low
+      by work.End at busy may low = alone work.End refl at busy may low
+      by work.Refresh at busy may low = alone work.Refresh refl at busy may low
+      by (work.Read r) at busy may low = alone (work.Read r) refl at busy may low
+      by (work.Changes r) at busy may low = alone (work.Changes r) refl at busy may low
+      by (work.Plan edit marks) at busy may low = alone (work.Plan edit marks) refl at busy may low
+      by (work.Commit c) at busy may low = alone (work.Commit c) refl at busy may low
+      by (work.Move r) at busy may low = alone (work.Move r) refl at busy may low
+      by (work.Upkeep u) at busy may low = alone (work.Upkeep u) refl at busy may low
 
-      roots : (c : Committing) → work_in w.actors s ≡ work.Commit c → ((once_looked w.table c).roots ≡ map (λ (f : Met). root_of w.history.past f.other) (once_looked w.table c).writer.due) × ((k : Look) → c.looking ≡ Some k → IsLooking c k)
-      roots c does = ((subst (λ (v : Work). May starts w.table (live w.history) s v) does (is.may s)).roots, looks s c does)
+  -- its step
+  module _ (u : Table) (ns : List NodeState) (es : Recorded) (b : Actor) (o : StepOut) where
+    abbrev now : WorldOf L
+    now = shown_world law (record j { events = es }) u ns (slice_set actors s b)
 
-      leaves : (x : Table) → SamePrevious w.table x → LeavesLooks w s seated x
-      leaves x same q = running_same w.table x same q (work_in w.actors q) (looks q)
+    -- the world with these parts of the session
+    same_world : (n : NodeState) → ns ≡ with_memory ms k n → with_parts w s (parts u n es.list) (shown_actor b) ≡ now
+    same_world n is =
+        ap (λ (i : ℕ). record (with_parts w s (parts u n es.list) (shown_actor b)) { memories = with_memory ms i n }) node_is
+        ∙ (ap (λ (xs : List NodeState). record (with_parts w s (parts u n es.list) (shown_actor b)) { memories = xs }) (sym is)
+        ∙ ap (λ (xs : List ActorState). record now { actors = xs }) (sym (map_set shown_actor actors s b)))
 
-      alone : (r : Revision) → learned (memory_at w.memories (node_in w.history s)) no_entries (raised no_entries r) ≡ swept_to (memory_at w.memories (node_in w.history s)) r
-      alone = learns_alone starts says (with_formers (state_of w) is.formers) is.kept (node_in w.history s) (its_node starts says proper (with_formers (state_of w) is.formers) is.kept.sessions s (ap is_some on))
+    looks : (q : ℕ) (c : Committing) → work_in w.actors q ≡ work.Commit c → (k : Look) → c.looking ≡ Some k → IsLooking c k
+    looks q c does k h = ((subst (λ (v : Work). May starts seen q v) does (is.may q)).looks k h).form
 
-      module _ (busy : a.work ≢ work.Rest) (made : Steps s k (parts t m j.events.list) a.work after b.work o) where
-        made_there : Steps s (node_in w.history s) (parts_at w s) (work_in w.actors s) after b.work o
-        made_there =
-            subst (λ (i : ℕ). Steps s i (parts_at w s) (work_in w.actors s) after b.work o) (sym node_is)
-            (subst (λ (p : Parts). Steps s k p (work_in w.actors s) after b.work o) (sym parts_are)
-            (subst (λ (v : Work). Steps s k (parts t m j.events.list) v after b.work o) (sym work_is) made))
+    roots : (c : Committing) → work_in w.actors s ≡ work.Commit c → ((once_looked w.table c).roots ≡ map (λ (f : Met). root_of w.history.past f.other) (once_looked w.table c).writer.due) × ((k : Look) → c.looking ≡ Some k → IsLooking c k)
+    roots c does = ((subst (λ (v : Work). May starts seen s v) does (is.may s)).roots, looks s c does)
 
-        makes_now : MakesState s (state_of w) (work_in w.actors s) (state_of now) b.work o
-        makes_now = subst (λ (x : WorldOf L). MakesState s (state_of w) (work_in w.actors s) (state_of x) b.work o) same_world
-            (makes w s seated after b.work (shown_actor b) refl leaves alone (work_in w.actors s) refl (λ e. busy (sym work_is ∙ e)) roots o made_there)
+    leaves : (x : Table) → SamePrevious w.table x → LeavesLooks w s seated x
+    leaves x same q = running_same w.table x same q (work_in w.actors q) (looks q)
 
-        pub steps_in : b.began ≡ a.began → b.reply ≡ a.reply → b.reads ≡ reads_after a.work o a.reads → b.attached ≡ attached_after a.work o a.attached → StepsIn w s now o
-        steps_in began reply reads attached = record {
-          does = b.work;
-          makes = makes_now;
-          actors = map_set shown_actor actors s b ∙ ap (slice_set (map shown_actor actors) s) shown;
-          law = refl;
-        }
-          where
-            shown : shown_actor b ≡ record (actor_in w.actors s) { work = b.work; reads = reads_after (work_in w.actors s) o (actor_in w.actors s).reads; attached = attached_after (work_in w.actors s) o (actor_in w.actors s).attached }
-            shown =
-                ap (λ (x : ℕ). record (shown_actor b) { began = x }) began
-                ∙ (ap (λ (x : Option ℕ). record (shown_actor b) { began = a.began; reply = x }) reply
-                ∙ (ap (λ (x : ℕ). record (shown_actor b) { began = a.began; reply = a.reply; reads = x }) reads
-                ∙ (ap (λ (x : Bool). record (shown_actor b) { began = a.began; reply = a.reply; reads = reads_after a.work o a.reads; attached = x }) attached
-                ∙ sym (ap (λ (x : ActorState). record x { work = b.work; reads = reads_after x.work o x.reads; attached = attached_after x.work o x.attached }) actor_is))))
+    alone : (r : Revision) → learned (memory_at w.memories (node_in w.history s)) no_entries (raised no_entries r) ≡ swept_to (memory_at w.memories (node_in w.history s)) r
+    alone = learns_alone starts says (with_formers (state_of w) is.formers) is.kept (node_in w.history s) (its_node starts says proper (with_formers (state_of w) is.formers) is.kept.sessions s (ap is_some on))
 
-        pub step_keeps_all : b.began ≡ a.began → b.reply ≡ a.reply → b.reads ≡ reads_after a.work o a.reads → b.attached ≡ attached_after a.work o a.attached → IsTable u.documents → IsPlaced b → es.places + a.places ≡ j.events.places + b.places → IsWorld starts says now × ArePlaced (slice_set actors s b) es.places
-        step_keeps_all began reply reads attached table its places = (step_keeps starts says proper writes last w is s there now o (steps_in began reply reads attached) table, set_placed b es.places its places)
+    module _ (made : Acts s k (all_parts t ms j.events.list) a.work (all_parts u ns es.list) b.work o) where
+      abbrev Makes : WorldOf L → Type 0
+      Makes x = MakesState s (state_of w) (work_in w.actors s) (state_of x) b.work o
 
-        pub seen : b.began ≡ a.began → b.reply ≡ a.reply → b.reads ≡ reads_after a.work o a.reads → b.attached ≡ attached_after a.work o a.attached → (name : GName) → StepSeen starts says (shown_at name w s) (shown_at name now s) o
-        seen began reply reads attached name = step_seen starts says proper writes last w is s there now o (steps_in began reply reads attached) name
+      -- on the memory of its cluster node alone
+      one_makes : ActsOnOne s k (all_parts t ms j.events.list) a.work (all_parts u ns es.list) b.work o → Makes now
+      one_makes m = subst Makes (same_world m.0 m.1) (makes w s seated (parts u m.0 es.list) b.work (shown_actor b) refl leaves alone (work_in w.actors s) refl roots o there_made)
+        where
+          parts_are : parts_at w s ≡ parts t (memory_at ms k) j.events.list
+          parts_are = ap (λ (i : ℕ). parts t (memory_at ms i) (reverse (reverse j.events.list))) node_is ∙ ap (λ (xs : List Event). parts t (memory_at ms k) xs) (reverse-reverse j.events.list)
+
+          there_made : Steps s (node_in w.history s) (parts_at w s) (work_in w.actors s) (parts u m.0 es.list) b.work o
+          there_made =
+              subst (λ (i : ℕ). Steps s i (parts_at w s) (work_in w.actors s) (parts u m.0 es.list) b.work o) (sym node_is)
+              (subst (λ (p : Parts). Steps s k p (work_in w.actors s) (parts u m.0 es.list) b.work o) (sym parts_are)
+              (subst (λ (v : Work). Steps s k (parts t (memory_at ms k) j.events.list) v (parts u m.0 es.list) b.work o) (sym work_is) m.2))
+
+      -- no session splits or collects yet
+      all_makes : ActsOnAll s (all_parts t ms j.events.list) a.work (all_parts u ns es.list) b.work o → Makes now
+      all_makes m = absurd (subst (λ (v : Work). May starts seen s v) (work_is ∙ m.1) (is.may s))
+
+      makes_now : Makes now
+      makes_now = elim made [ inl m ↦ all_makes m | inr m ↦ one_makes m ]
+
+      pub steps_in : b.began ≡ a.began → b.reply ≡ a.reply → b.reads ≡ reads_after a.work o a.reads → b.attached ≡ attached_after a.work o a.attached → StepsIn w s now o
+      steps_in began reply reads attached = record {
+        does = b.work;
+        makes = makes_now;
+        actors = map_set shown_actor actors s b ∙ ap (slice_set (map shown_actor actors) s) shown;
+        law = refl;
+      }
+        where
+          shown : shown_actor b ≡ record (actor_in w.actors s) { work = b.work; reads = reads_after (work_in w.actors s) o (actor_in w.actors s).reads; attached = attached_after (work_in w.actors s) o (actor_in w.actors s).attached }
+          shown =
+              ap (λ (x : ℕ). record (shown_actor b) { began = x }) began
+              ∙ (ap (λ (x : Option ℕ). record (shown_actor b) { began = a.began; reply = x }) reply
+              ∙ (ap (λ (x : ℕ). record (shown_actor b) { began = a.began; reply = a.reply; reads = x }) reads
+              ∙ (ap (λ (x : Bool). record (shown_actor b) { began = a.began; reply = a.reply; reads = reads_after a.work o a.reads; attached = x }) attached
+              ∙ sym (ap (λ (x : ActorState). record x { work = b.work; reads = reads_after x.work o x.reads; attached = attached_after x.work o x.attached }) actor_is))))
+
+      pub step_keeps_all : b.began ≡ a.began → b.reply ≡ a.reply → b.reads ≡ reads_after a.work o a.reads → b.attached ≡ attached_after a.work o a.attached → IsTable u.documents → IsPlaced b → es.places + a.places ≡ j.events.places + b.places → IsWorld starts says now × ArePlaced (slice_set actors s b) es.places
+      step_keeps_all began reply reads attached table its places = (step_keeps starts says proper writes last w is s there now o (steps_in began reply reads attached) table, set_placed b es.places its places)
+
+      pub seen_so : b.began ≡ a.began → b.reply ≡ a.reply → b.reads ≡ reads_after a.work o a.reads → b.attached ≡ attached_after a.work o a.attached → (name : GName) → StepSeen starts says (shown_at name w s) (shown_at name now s) o
+      seen_so began reply reads attached name = step_seen starts says proper writes last w is s there now o (steps_in began reply reads attached) name
 
   -- ---- other calls
 
@@ -190,11 +230,18 @@ module _ (starts : Starts) (says : Says) (proper : StartsProper starts) (writes 
         ap (λ (xs : List Event). record seated_now { history = record w.history { past = reverse xs } }) list
         ∙ ap (λ (xs : List ActorState). record w { actors = xs }) (seats_are _ (shown ∙ sym (ap (λ (x : ActorState). record x { reply = room }) actor_is)))
 
-    -- its reply is said
-    pub said_is : (i : ℕ) (text : Text) → shown_actor b ≡ record (shown_actor a) { reply = None } → es.list ≡ j.events.list ++ event.Said s i text ∷ [] → seated_now ≡ said_in w s i text
+    -- its reply is said, and before it how its task ended
+    pub said_is : (i : ℕ) (text : Text) → shown_actor b ≡ record (shown_actor a) { work = work.Rest; reply = None } → es.list ≡ j.events.list ++ reverse (reply_events s i text a.work) → seated_now ≡ said_in w s i text
     said_is i text shown list =
-        ap (λ (past : Past). record seated_now { history = record w.history { past = past } }) (ap reverse list ∙ (reverse-append j.events.list (event.Said s i text ∷ [])))
-        ∙ ap (λ (xs : List ActorState). record (said_in w s i text) { actors = xs }) (seats_are _ (shown ∙ sym (ap (λ (x : ActorState). record x { reply = None }) actor_is)))
+        ap (λ (past : Past). record seated_now { history = record w.history { past = past } }) told
+        ∙ ap (λ (xs : List ActorState). record (said_in w s i text) { actors = xs }) (seats_are _ (shown ∙ sym (ap (λ (x : ActorState). record x { work = work.Rest; reply = None }) actor_is)))
+      where
+        told : reverse es.list ≡ reply_events s i text (work_in w.actors s) ++ reverse j.events.list
+        told =
+            ap reverse list
+            ∙ (reverse-append j.events.list (reverse (reply_events s i text a.work))
+            ∙ (ap (λ (own : Past). own ++ reverse j.events.list) (reverse-reverse (reply_events s i text a.work))
+            ∙ ap (λ (v : Work). reply_events s i text v ++ reverse j.events.list) (sym work_is)))
 
     -- nothing changes
     pub same_is : shown_actor b ≡ shown_actor a → es.list ≡ j.events.list → seated_now ≡ w

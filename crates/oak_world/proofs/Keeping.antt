@@ -11,12 +11,12 @@ use Rattle.jr_rev.specs.declared.vector.Pin.{Pin}
 use Rattle.oak_changes.specs.Reading.{changes_reader}
 use Rattle.oak_changes.specs.declared.changes.ChangesReader.{ChangesReader}
 use Rattle.oak_commit.specs.Committing.{Committing}
+use Rattle.oak_commit.specs.declared.look.Look.{Look}
 use Rattle.oak_commit.specs.Stages.{stage_of}
 use Rattle.oak_commit.specs.declared.outcome.CommitEnd.{CommitEnd}
 use Rattle.oak_commit.specs.declared.outcome.CommitEnd.TheVariants as end
 use Rattle.oak_commit.specs.declared.stage.Stage.{Stage}
 use Rattle.oak_commit.specs.declared.stage.Stage.TheVariants as stage
-use Rattle.oak_machine.specs.declared.event.Event.{Event}
 use Rattle.oak_machine.specs.declared.event.Event.TheVariants as event
 use Rattle.oak_machine.specs.History.{History, Past}
 use Rattle.oak_machine.specs.Laws.{AreOthers, Says, Starts, StartsProper, StartsWrite, after}
@@ -26,7 +26,6 @@ use Rattle.oak_node.specs.Heads.{HasEnded, IsInFlight, known_time}
 use Rattle.oak_node.specs.Pins.{pin_of}
 use Rattle.oak_read.specs.declared.reader.Reader.{Reader}
 use Rattle.oak_read.specs.Reading.{IsTable, children_reader, node_reader}
-use Rattle.oak_store.specs.Tables.{Table}
 use Rattle.core_clash.specs.Sessions.{Running}
 use Rattle.core_heads.proofs.Runs.{sound_run}
 use Rattle.core_nodes.specs.Nodes.{cursor_owner}
@@ -34,7 +33,7 @@ use Rattle.core_nodes.proofs.Pasts.{ended_was_drawn}
 use Rattle.core_nodes.proofs.Waits.{has_ended}
 use Rattle.core_world.specs.Kept.{IsKept}
 use Rattle.core_world.specs.States.{State, actor_pin, memory_of, reader_pin, with_session}
-use Rattle.core_world.specs.Steps.{after_said, with_observer, with_reader}
+use Rattle.core_world.specs.Steps.{with_observer, with_reader}
 use Rattle.core_world.proofs.Flights.{other_number, same_number}
 use Rattle.core_world.proofs.Lives.{its_node, on_node}
 use Rattle.core_world.proofs.Truths.{due_drawn, flies_there, pin_there, time_known}
@@ -42,7 +41,7 @@ use Rattle.core_world.proofs.Whole.{list_whole, load_whole, notice_whole, said_w
 use Rattle.oak_port.specs.declared.task.StepOut.{StepOut}
 use Rattle.oak_port.specs.declared.task.Task.{Task}
 use Rattle.oak_port.specs.declared.task.Task.TheVariants as task
-use Rattle.oak_port.specs.Ports.{Answers, Beside, Idle, Makes as Tells, MayBegin, Seat, Starting, OthersAlone, Steps as StepSeen, Work as Shows}
+use Rattle.oak_port.specs.Ports.{Answers, Beside, Idle, IsAtRest as IsShownAtRest, Makes as Tells, MayBegin, Seat, Starting, OthersAlone, Steps as StepSeen, Work as Shows, end_told}
 use Rattle.oak_step.specs.declared.work.Work.{Work}
 use Rattle.oak_step.specs.declared.work.Work.TheVariants as work
 use Rattle.oak_sweep.specs.Sweeping as sweeping
@@ -54,23 +53,33 @@ use Rattle.oak_sync.specs.declared.back_read.BackRead.{BackRead}
 use Rattle.oak_sync.specs.declared.stage.Stage.{Stage as Syncing}
 use Rattle.oak_sync.specs.declared.stage.Stage.TheVariants as syncing
 use Rattle.oak_step.proofs.Backs.{publishing_at}
+use Rattle.oak_gc.specs.Stages as collecting
+use Rattle.oak_gc.specs.declared.stage.Stage.{Stage as Collects}
+use Rattle.oak_gc.specs.declared.stage.Stage.TheVariants as collected
+use Rattle.oak_tidy.specs.declared.tidying.Tidying.TheVariants as tidying
+use Rattle.jr_path.specs.declared.path.Path.{Path}
+use Rattle.core_watch.specs.Standing.{path_read}
 use Rattle.oak_step.specs.declared.upkeep.Upkeep.{Upkeep}
 use Rattle.oak_step.specs.declared.upkeep.Upkeep.TheVariants as upkeep
 use Rattle.oak_world.proofs.Ahead.{still_due}
-use Rattle.oak_world.proofs.Looking.{SamePrevious, once_revision}
-use Rattle.oak_world.specs.Kept.{IsWorld, May, MayKeepUp, MayReadOn, MaySweepOn}
+use Rattle.oak_world.proofs.Changing.{Changes, changes_once, unchanged}
+use Rattle.oak_world.proofs.Lookers.{AreCopies, looking_lasts, once_lasts}
+use Rattle.oak_world.proofs.Looking.{once_revision}
+use Rattle.oak_world.specs.Kept.{IsWorld, May, MayKeepUp, MayReadOn, MaySweepOn, Scene, scene}
+use Rattle.oak_world.specs.Looks.{IsLookingOn}
 use Rattle.oak_step.specs.Parts.{CanKeepUp, CanStep, IsBackReading, needed}
-use Rattle.oak_world.specs.Seen.{no_seat, seat_of, shown_at, shown_by, shown_read, shown_sweep, shown_upkeep, shown_work}
+use Rattle.oak_world.specs.Seen.{no_seat, seat_of, shown_at, shown_by, shown_collect, shown_read, shown_sweep, shown_upkeep, shown_work, task_of}
 use Rattle.oak_step.specs.Works.{Begins, CanBegin, kind_due, kind_of_stage}
+use Rattle.oak_world.specs.Acting.{is_tidying}
 use Rattle.oak_world.specs.Steps.{IsPresent, StepsIn, attached_after}
-use Rattle.oak_world.specs.Worlds.{ActorState, Story, WorldOf, actor_in, live, node_in, observing_of, once_looked, reading_of, running_as, running_of, said_in, state_of, state_with, with_formers, with_reply, with_work, work_in}
+use Rattle.oak_world.specs.Worlds.{ActorState, IsAtRest, Story, WorldOf, actor_in, live, node_in, observing_of, once_looked, reading_of, reply_events, running_as, running_of, said_in, state_of, state_with, told_first, with_formers, with_reply, with_work, work_in}
 use Rattle.oak_world.proofs.States.{SameReaders, actor_other, actor_set, readers_same, readers_set, same_readers, session_same, session_set, with_readers}
-use Rattle.oak_step.proofs.Stages.{done_stage}
+use Rattle.oak_saves.proofs.Stages.{done_stage}
 use Rattle.oak_world.proofs.Others.{attached_left}
 use Rattle.oak_world.proofs.Pinning.{actor_there}
 use Rattle.oak_world.proofs.Staying.{may_last}
 use Rattle.oak_world.proofs.StepsOf.{IsStepOf, none_stopped}
-use Rattle.oak_world.proofs.Questions.{reads_as_due}
+use Rattle.oak_world.proofs.Questions.{reads_as_due, splits_as_due}
 use Rattle.oak_world.proofs.Telling.{makes_told}
 use Rattle.oak_world.proofs.Walking.{any_step}
 
@@ -169,6 +178,12 @@ upkeep_shown upkeep.Detach h = cc
 upkeep_shown (upkeep.Detaching pin) h = cc
 upkeep_shown upkeep.Observe h = cc
 
+collect_shown : (st : Collects) → shown_collect st ≡ Idle → ⊥
+collect_shown collected.Bound h = cc
+collect_shown collected.Read h = cc
+collect_shown collected.Collect h = cc
+collect_shown collected.Done h = cc
+
 -- a session that is shown to do nothing does nothing
 pub idle_shown : (v : Work) → shown_work v ≡ Idle → v ≡ work.Rest
 idle_shown work.Rest h = refl
@@ -187,6 +202,9 @@ idle_shown (work.Commit c) h = absurd (by c.outcome h)
     by (Some end.Memory) k = cc
 idle_shown (work.Move r) h = cc
 idle_shown (work.Upkeep u) h = absurd (upkeep_shown u h)
+idle_shown (work.Tidy (tidying.Split x)) h = cc
+idle_shown (work.Tidy (tidying.Collect x)) h = absurd (collect_shown (collecting.stage_of x) h)
+idle_shown (work.Told e) h = cc
 
 -- what is due of a commit that hasn't ended
 staged : (c : Committing) → c.ended ≡ false → (x : Stage) → stage_of c ≡ x → is_some (kind_of_stage x) ≡ true
@@ -198,37 +216,106 @@ staged c unended stage.Undo e = refl
 staged c unended stage.Finish e = refl
 staged c unended stage.Done e = let k = done_stage c e in cc
 
--- a step is due of each session that does something
-pub busy_due : (starts : Starts) (t : Table) (h : History) (s : ℕ) (v : Work) → May starts t h s v → (is_some (kind_due v) ≡ true) ↔ (v ≢ work.Rest)
-busy_due starts t h s work.Rest may = (λ k e. absurd (false≢true k), λ busy. absurd (busy refl))
-busy_due starts t h s work.Login may = (λ k e. cc, λ busy. refl)
-busy_due starts t h s work.End may = (λ k e. cc, λ busy. refl)
-busy_due starts t h s work.Refresh may = (λ k e. cc, λ busy. refl)
-busy_due starts t h s (work.Read r) may = (λ k e. cc, λ busy. refl)
-busy_due starts t h s (work.Changes r) may = (λ k e. cc, λ busy. refl)
-busy_due starts t h s (work.Plan edit marks) may = (λ k e. cc, λ busy. refl)
-busy_due starts t h s (work.Commit c) may = (λ k e. cc, λ busy. staged c may.unended (stage_of c) refl)
-busy_due starts t h s (work.Move r) may = (λ k e. cc, λ busy. refl)
-busy_due starts t h s (work.Upkeep u) may = (λ k e. cc, λ busy. refl)
+-- what is shown of a session with nothing left to be done but to tell how a task ended
+commit_rest : (r : Revision) (o : Option CommitEnd) → IsShownAtRest (shown_by r o) → ⊥
+commit_rest r None h = h
+commit_rest r (Some (end.Committed q)) h = h
+commit_rest r (Some (end.Clash item q)) h = h
+commit_rest r (Some end.Memory) h = h
+
+read_rest : (b : BackRead) (at : Syncing) → IsShownAtRest (shown_read b at) → ⊥
+read_rest b syncing.Write h = h
+read_rest b syncing.Publish h = h
+read_rest b syncing.Read h = h
+read_rest b syncing.Learn h = h
+read_rest b syncing.Done h = h
+
+sweep_rest : (x : Sweeper) (at : Swept) → IsShownAtRest (shown_sweep x at) → ⊥
+sweep_rest x swept.Root h = h
+sweep_rest x swept.Document h = h
+sweep_rest x swept.Publish h = h
+sweep_rest x swept.Learn h = h
+sweep_rest x swept.Done h = h
+
+upkeep_rest : (u : Upkeep) → IsShownAtRest (shown_upkeep u) → ⊥
+upkeep_rest upkeep.Write h = h
+upkeep_rest (upkeep.Noted n) h = h
+upkeep_rest (upkeep.Publish b) h = h
+upkeep_rest (upkeep.Read b) h = read_rest b (stage_of_read b) h
+upkeep_rest upkeep.Sweep h = h
+upkeep_rest (upkeep.Sweeping x) h = sweep_rest x (sweeping.stage_of x) h
+upkeep_rest (upkeep.Checkpoint i) h = h
+upkeep_rest (upkeep.Release i) h = h
+upkeep_rest (upkeep.Attach i) h = h
+upkeep_rest upkeep.Detach h = h
+upkeep_rest (upkeep.Detaching pin) h = h
+upkeep_rest upkeep.Observe h = h
+
+collect_rest : (st : Collects) → IsShownAtRest (shown_collect st) → ⊥
+collect_rest collected.Bound h = h
+collect_rest collected.Read h = h
+collect_rest collected.Collect h = h
+collect_rest collected.Done h = h
+
+pub rest_shown : (v : Work) → IsShownAtRest (shown_work v) → IsAtRest v
+rest_shown work.Rest h = tt
+rest_shown (work.Told e) h = tt
+rest_shown work.Login h = h
+rest_shown work.End h = h
+rest_shown work.Refresh h = h
+rest_shown (work.Read r) h = absurd (by r.parent h)
+  where
+    by : (parent : Option Path) → IsShownAtRest (Starting (task_of parent (path_read r))) → ⊥
+    by None k = k
+    by (Some q) k = k
+rest_shown (work.Changes r) h = h
+rest_shown (work.Plan edit marks) h = h
+rest_shown (work.Commit c) h = absurd (commit_rest c.revision c.outcome h)
+rest_shown (work.Move r) h = h
+rest_shown (work.Upkeep u) h = absurd (upkeep_rest u h)
+rest_shown (work.Tidy (tidying.Split x)) h = h
+rest_shown (work.Tidy (tidying.Collect x)) h = absurd (collect_rest (collecting.stage_of x) h)
+
+pub shown_rest : (v : Work) → IsAtRest v → IsShownAtRest (shown_work v)
+shown_rest work.Rest h = tt
+shown_rest (work.Told e) h = tt
+shown_rest _ h = absurd h
+
+-- a step is due of each session that has something to do
+pub busy_due : (starts : Starts) (y : Scene) (s : ℕ) (v : Work) → May starts y s v → (is_some (kind_due v) ≡ true) ↔ (IsAtRest v → ⊥)
+busy_due starts y s work.Rest may = (λ k e. absurd (false≢true k), λ busy. absurd (busy tt))
+busy_due starts y s (work.Told e) may = (λ k e. absurd (false≢true k), λ busy. absurd (busy tt))
+busy_due starts y s work.Login may = (λ k e. e, λ busy. refl)
+busy_due starts y s work.End may = (λ k e. e, λ busy. refl)
+busy_due starts y s work.Refresh may = (λ k e. e, λ busy. refl)
+busy_due starts y s (work.Read r) may = (λ k e. e, λ busy. refl)
+busy_due starts y s (work.Changes r) may = (λ k e. e, λ busy. refl)
+busy_due starts y s (work.Plan edit marks) may = (λ k e. e, λ busy. refl)
+busy_due starts y s (work.Commit c) may = (λ k e. e, λ busy. staged c may.unended (stage_of c) refl)
+busy_due starts y s (work.Move r) may = (λ k e. e, λ busy. refl)
+busy_due starts y s (work.Upkeep u) may = (λ k e. e, λ busy. refl)
+busy_due starts y s (work.Tidy x) may = (λ k e. e, λ busy. refl)
 
 -- a task that begins
-pub begins_shown : (pin : Option Pin) (t : Task) (v : Work) → Begins pin t v → shown_work v ≡ Starting t
-begins_shown pin task.Login v h = ap shown_work h
-begins_shown pin task.End v h = ap shown_work h
-begins_shown pin task.Refresh v h = ap shown_work h
-begins_shown pin (task.Load p) v h = ap shown_work h.3
-begins_shown pin (task.List p) v h = ap shown_work h.3
-begins_shown pin (task.Changes since) v h = ap shown_work h.3
-begins_shown pin (task.Commit edit marks) v h = ap shown_work h
-begins_shown pin task.BackWrite v h = ap shown_work h
-begins_shown pin task.BackRead v h = ap shown_work h.1
-begins_shown pin task.Sweep v h = ap shown_work h
-begins_shown pin (task.Checkpoint i) v h = ap shown_work h
-begins_shown pin (task.Release i) v h = ap shown_work h
-begins_shown pin (task.Attach i) v h = ap shown_work h
-begins_shown pin task.Detach v h = ap shown_work h
-begins_shown pin task.Observe v h = ap shown_work h
-begins_shown pin _ v h = absurd h
+pub begins_shown : (n : ℕ) (pin : Option Pin) (t : Task) (v : Work) → Begins n pin t v → shown_work v ≡ Starting t
+begins_shown n pin task.Login v h = ap shown_work h
+begins_shown n pin task.End v h = ap shown_work h
+begins_shown n pin task.Refresh v h = ap shown_work h
+begins_shown n pin (task.Load p) v h = ap shown_work h.3
+begins_shown n pin (task.List p) v h = ap shown_work h.3
+begins_shown n pin (task.Changes since) v h = ap shown_work h.3
+begins_shown n pin (task.Commit edit marks) v h = ap shown_work h
+begins_shown n pin task.BackWrite v h = ap shown_work h
+begins_shown n pin task.BackRead v h = ap shown_work h.1
+begins_shown n pin task.Sweep v h = ap shown_work h
+begins_shown n pin (task.Checkpoint i) v h = ap shown_work h
+begins_shown n pin (task.Release i) v h = ap shown_work h
+begins_shown n pin (task.Attach i) v h = ap shown_work h
+begins_shown n pin task.Detach v h = ap shown_work h
+begins_shown n pin task.Observe v h = ap shown_work h
+begins_shown n pin (task.Split p) v h = ap shown_work h.3
+begins_shown n pin task.Collect v h = ap shown_work h.1
+begins_shown n pin _ v h = absurd h
 
 module _ (starts : Starts) (says : Says) (proper : StartsProper starts) (writes : StartsWrite starts) (last : StartsLast starts says) {L : Type 0} (w : WorldOf L) (is : IsWorld starts says w) (s : ℕ) (there : is_some (slice_get w.history.sessions s) ≡ true) where
   abbrev does : Work
@@ -243,9 +330,25 @@ module _ (starts : Starts) (says : Says) (proper : StartsProper starts) (writes 
       let k : s < length w.history.sessions = slice_get_within w.history.sessions s (node_in w.history s) (on_node starts says proper state is.kept.sessions s there) in
       subst (λ n. s < n) (sym is.seats) k
 
+  -- what sessions go by, with these events more
+  abbrev seen_after : Past → Scene
+  seen_after own = scene w.table is.formers (after own (live w.history))
+
+  abbrev seen : Scene
+  seen = scene w.table is.formers (live w.history)
+
+  -- the committer of another session looks on
+  looks_of : (q : ℕ) (c : Committing) → work_in w.actors q ≡ work.Commit c → (k : Look) → c.looking ≡ Some k → IsLookingOn w.table is.formers c k
+  looks_of q c at = (subst (λ (v : Work). May starts seen q v) at (is.may q)).looks
+
   -- what other sessions do, they may still do after events that aren't theirs
-  others_may : (t : Table) → SamePrevious w.table t → (q : ℕ) (own : Past) → AreOthers q own w.history.past → IsRun starts says (after own (live w.history)) → May starts t (after own (live w.history)) q (work_in w.actors q)
-  others_may t same q own others run = may_last starts says last w.history is.kept.sessions.nodes is.kept.sessions.run q own run others w.table t same (work_in w.actors q) (λ c at f i. due_drawn starts says proper state is.kept.sessions q (running_as q (once_looked w.table c)) (ap (running_of w.table q) at) f i) (is.may q)
+  others_may : (u : State) → Changes state u → AreCopies u.table u.formers → (q : ℕ) (own : Past) → AreOthers q own w.history.past → IsRun starts says (after own (live w.history)) → May starts (scene u.table u.formers (after own (live w.history))) q (work_in w.actors q)
+  others_may u changes told q own others run =
+      may_last starts says last w.history is.kept.sessions.nodes is.kept.sessions.run q own run others w.table u.table is.formers u.formers (work_in w.actors q)
+      (λ c at f i. due_drawn starts says proper state is.kept.sessions q (running_as q (once_looked w.table c)) (ap (running_of w.table q) at) f i)
+      (λ c at. once_lasts starts says state is.kept u changes q c (ap (running_of w.table q) at) told (looks_of q c at))
+      (λ c at k looking. looking_lasts starts says state is.kept u changes q c (ap (running_of w.table q) at) k (looks_of q c at k looking))
+      (is.may q)
 
   -- ---- what a step takes
 
@@ -258,7 +361,7 @@ module _ (starts : Starts) (says : Says) (proper : StartsProper starts) (writes 
   pub node : IsNode w.history.clusters (node_in w.history s)
   node = its_node starts says proper state is.kept.sessions s there
 
-  moved_ended : (r : Revision) → May starts w.table (live w.history) s (work.Move r) → HasEnded (memory_of (state_of w) s) r
+  moved_ended : (r : Revision) → May starts seen s (work.Move r) → HasEnded (memory_of (state_of w) s) r
   moved_ended r may =
       has_ended None w.history.clusters w.history.sessions is.kept.sessions.nodes w.history.past (sound_run w.history.clusters w.history.sessions is.kept.sessions.nodes None starts says w.history.past is.kept.sessions.run) (node_in w.history s) node (memory_of (state_of w) s) (is.kept.sessions.memories.memory (node_in w.history s) node) r
       (let k : Some r.cluster ≡ Some (node_in w.history s) = sym may.2 ∙ on in cc)
@@ -289,30 +392,28 @@ module _ (starts : Starts) (says : Says) (proper : StartsProper starts) (writes 
   can_keep_up upkeep.Observe come may = (below_few, come_pinned come)
   can_keep_up _ come may = tt
 
-  can_by : (v : Work) → (v ≡ work.Rest → ⊥) → work_in w.actors s ≡ v → May starts w.table (live w.history) s v → (places : ℕ) → needed v ≤ places → length w.history.past < 2 ^ 63 → CanStep s (memory_of (state_of w) s) places v
-  can_by work.Rest busy at may places kept short = absurd (busy refl)
-  can_by work.Login busy at may places kept short = tt
-  can_by work.End busy at may places kept short =
+  pub can_by : (v : Work) → (IsAtRest v → ⊥) → is_tidying v ≡ false → work_in w.actors s ≡ v → May starts seen s v → (places : ℕ) → needed v ≤ places → length w.history.past < 2 ^ 63 → CanStep s (memory_of (state_of w) s) places v
+  can_by work.Rest busy plain at may places kept short = absurd (busy tt)
+  can_by (work.Told e) busy plain at may places kept short = absurd (busy tt)
+  can_by (work.Tidy x) busy plain at may places kept short = absurd (false≢true (sym plain))
+  can_by work.Login busy plain at may places kept short = tt
+  can_by work.End busy plain at may places kept short =
       let k : s < length w.history.sessions = slice_get_within w.history.sessions s (node_in w.history s) on in
       let few : length w.history.sessions ≤ 64 = is.few in
       omega arith
-  can_by work.Refresh busy at may places kept short = come_pinned may.0
-  can_by (work.Read r) busy at may places kept short = tt
-  can_by (work.Changes r) busy at may places kept short = tt
-  can_by (work.Plan edit marks) busy at may places kept short = let t : known_time (memory_of (state_of w) s) ≤ 0 + length w.history.past = time_known starts says proper state is.kept.sessions (node_in w.history s) node in omega arith
-  can_by (work.Commit c) busy at may places kept short = record { flying = subst (λ (r : Revision). IsInFlight (memory_of (state_of w) s) r) (once_revision w.table c) (flies_there starts says proper state is.kept.sessions s (running_as s (once_looked w.table c)) (ap (running_of w.table s) at)); unended = may.unended; kept = kept }
-  can_by (work.Upkeep u) busy at may places kept short = can_keep_up u may.0 may.1
-  can_by (work.Move r) busy at may places kept short = record { ended = moved_ended r may; pinned = come_pinned may.0; place = kept }
-
-  pub can_step : work_in w.actors s ≢ work.Rest → (places : ℕ) → needed (work_in w.actors s) ≤ places → length w.history.past < 2 ^ 63 → CanStep s (memory_of (state_of w) s) places (work_in w.actors s)
-  can_step busy = can_by (work_in w.actors s) busy refl (is.may s)
+  can_by work.Refresh busy plain at may places kept short = come_pinned may.0
+  can_by (work.Read r) busy plain at may places kept short = tt
+  can_by (work.Changes r) busy plain at may places kept short = tt
+  can_by (work.Plan edit marks) busy plain at may places kept short = let t : known_time (memory_of (state_of w) s) ≤ 0 + length w.history.past = time_known starts says proper state is.kept.sessions (node_in w.history s) node in omega arith
+  can_by (work.Commit c) busy plain at may places kept short = record { flying = subst (λ (r : Revision). IsInFlight (memory_of (state_of w) s) r) (once_revision w.table c) (flies_there starts says proper state is.kept.sessions s (running_as s (once_looked w.table c)) (ap (running_of w.table s) at)); unended = may.unended; kept = kept }
+  can_by (work.Upkeep u) busy plain at may places kept short = can_keep_up u may.0 may.1
+  can_by (work.Move r) busy plain at may places kept short = record { ended = moved_ended r may; pinned = come_pinned may.0; place = kept }
 
   -- the session may be told to do the task
   pub can_begin : (t : Task) → MayBegin starts (live w.history) s t → CanBegin (actor_pin (state_of w) s) t
   can_begin (task.Load p) may = actor_there starts says proper state is.kept s there is.unstopped may.0 may.1
   can_begin (task.List p) may = actor_there starts says proper state is.kept s there is.unstopped may.0 may.1
-  can_begin (task.Split p) may = may
-  can_begin task.Collect may = may
+  can_begin (task.Split p) may = absurd may
   can_begin (task.Changes since) may = actor_there starts says proper state is.kept s there is.unstopped may.0 may.1
   can_begin (task.Stop k) may = may
   can_begin (task.Recover k) may = may
@@ -324,9 +425,17 @@ module _ (starts : Starts) (says : Says) (proper : StartsProper starts) (writes 
   few_sessions : slice_get w.history.sessions (cursor_owner s) ≡ None
   few_sessions = none_behind (cursor_owner s) w.history.sessions (let few : length w.history.sessions ≤ 64 = is.few in omega (arith, few))
 
+  -- what the session does it may do, and so it is neither a split nor a collection
+  pub plain : is_tidying (work_in w.actors s) ≡ false
+  plain = by (work_in w.actors s) (is.may s)
+    where
+      by : (v : Work) → May starts seen s v → is_tidying v ≡ false
+      by (work.Tidy x) may = absurd may
+      by _ may = refl
+
   module _ (u : WorldOf L) (o : StepOut) (m : StepsIn w s u o) where
     pub step_is : IsStepOf starts says s state (work_in w.actors s) (with_formers (state_of u) is.formers) m.does o
-    step_is = any_step starts says proper writes state is.kept s there few_sessions is.unstopped is.table (work_in w.actors s) refl refl refl (is.may s) (with_formers (state_of u) is.formers) m.does o (makes_told is.formers s (state_of w) (state_of u) (work_in w.actors s) m.does o m.makes)
+    step_is = any_step starts says proper writes state is.kept s there few_sessions is.unstopped is.once is.table (work_in w.actors s) plain refl refl refl (is.may s) (with_formers (state_of u) is.formers) m.does o (makes_told is.formers s (state_of w) (state_of u) (work_in w.actors s) m.does o m.makes)
 
     pub grown : (live u.history) ≡ after step_is.own (live w.history)
     grown = step_is.grown
@@ -337,11 +446,12 @@ module _ (starts : Starts) (says : Says) (proper : StartsProper starts) (writes 
     pub does_now : work_in u.actors s ≡ m.does
     does_now = ap (λ (a : ActorState). a.work) (set_is w s seat u.actors _ m.actors)
 
-    may_by : (q : ℕ) (b : Bool) → (q == s) ≡ b → May starts u.table (live u.history) q (work_in u.actors q)
-    may_by q true same = subst (λ (n : ℕ). May starts u.table (live u.history) n (work_in u.actors n)) (sym (same_number q s same))
-        (subst (λ (h : History). May starts u.table h s (work_in u.actors s)) (sym grown) (subst (λ (v : Work). May starts u.table (after step_is.own (live w.history)) s v) (sym does_now) step_is.may))
-    may_by q false apart = subst (λ (h : History). May starts u.table h q (work_in u.actors q)) (sym grown)
-        (subst (λ (v : Work). May starts u.table (after step_is.own (live w.history)) q v) (sym (ap (λ (a : ActorState). a.work) (others_are w s seat u.actors _ m.actors q apart))) (others_may u.table step_is.same q step_is.own (step_is.apart q apart) run_now))
+    may_by : (q : ℕ) (b : Bool) → (q == s) ≡ b → May starts (scene u.table is.formers (live u.history)) q (work_in u.actors q)
+    may_by q true same = subst (λ (n : ℕ). May starts (scene u.table is.formers (live u.history)) n (work_in u.actors n)) (sym (same_number q s same))
+        (subst (λ (h : History). May starts (scene u.table is.formers h) s (work_in u.actors s)) (sym grown) (subst (λ (v : Work). May starts (scene u.table is.formers (after step_is.own (live w.history))) s v) (sym does_now) step_is.may))
+    may_by q false apart = subst (λ (h : History). May starts (scene u.table is.formers h) q (work_in u.actors q)) (sym grown)
+        (subst (λ (v : Work). May starts (scene u.table is.formers (after step_is.own (live w.history))) q v) (sym (ap (λ (a : ActorState). a.work) (others_are w s seat u.actors _ m.actors q apart)))
+        (others_may (with_formers (state_of u) is.formers) step_is.changes step_is.kept.sessions.readers.told.copies q step_is.own (step_is.apart q apart) run_now))
 
     -- each session is attached as the journal tells
     attached_by : (q : ℕ) (b : Bool) → (q == s) ≡ b → (actor_in u.actors q).attached ≡ is_attached (step_is.own ++ w.history.past) q
@@ -354,6 +464,7 @@ module _ (starts : Starts) (says : Says) (proper : StartsProper starts) (writes 
       formers = is.formers;
       kept = step_is.kept;
       table = table;
+      once = changes_once starts says state is.kept (with_formers (state_of u) is.formers) step_is.changes is.once;
       few = subst (λ (h : History). length h.sessions ≤ 64) (sym grown) is.few;
       attached = λ q. attached_by q (q == s) refl ∙ ap (λ (h : History). is_attached h.past q) (sym grown);
       unstopped = λ k. subst (λ (h : History). is_stopped h.past k ≡ false) (sym grown) (step_is.unstopped k (is.unstopped k));
@@ -370,6 +481,7 @@ module _ (starts : Starts) (says : Says) (proper : StartsProper starts) (writes 
       of_step = step_is.of_step;
       as_due = step_is.as_due;
       reads_due = reads_as_due s (state_of w) (state_of u) step_is.own (ap (λ (h : History). h.past) grown) (work_in w.actors s) m.does o m.makes;
+      splits_due = splits_as_due s (state_of w) (state_of u) step_is.own (ap (λ (h : History). h.past) grown) (work_in w.actors s) m.does o plain m.makes;
       session = refl;
       room = ap (λ (a : ActorState). a.reply) (set_is w s seat u.actors _ m.actors);
       beside = beside_same w s seat name u _ m.actors;
@@ -379,11 +491,12 @@ module _ (starts : Starts) (says : Says) (proper : StartsProper starts) (writes 
   -- ---- other calls
 
   -- a session does something else, and no event is added
-  set_keeps : (a : ActorState) → a.attached ≡ (actor_in w.actors s).attached → IsKept starts says (with_formers (state_with w.history w.table w.memories (slice_set w.actors s a)) is.formers) → May starts w.table (live w.history) s a.work → IsWorld starts says (record w { actors = slice_set w.actors s a })
+  set_keeps : (a : ActorState) → a.attached ≡ (actor_in w.actors s).attached → IsKept starts says (with_formers (state_with w.history w.table w.memories (slice_set w.actors s a)) is.formers) → May starts seen s a.work → IsWorld starts says (record w { actors = slice_set w.actors s a })
   set_keeps a same_attached kept may = record {
     formers = is.formers;
     kept = kept;
     table = is.table;
+    once = is.once;
     few = is.few;
     attached = λ q. attached_too q (q == s) refl;
     unstopped = is.unstopped;
@@ -395,9 +508,9 @@ module _ (starts : Starts) (says : Says) (proper : StartsProper starts) (writes 
       attached_too q true same = subst (λ (n : ℕ). (actor_in (slice_set w.actors s a) n).attached ≡ is_attached w.history.past n) (sym (same_number q s same)) (ap (λ (b : ActorState). b.attached) (set_is w s seat (slice_set w.actors s a) a refl) ∙ (same_attached ∙ is.attached s))
       attached_too q false apart = ap (λ (b : ActorState). b.attached) (others_are w s seat (slice_set w.actors s a) a refl q apart) ∙ is.attached q
 
-      by : (q : ℕ) (b : Bool) → (q == s) ≡ b → May starts w.table (live w.history) q (work_in (slice_set w.actors s a) q)
-      by q true same = subst (λ (n : ℕ). May starts w.table (live w.history) n (work_in (slice_set w.actors s a) n)) (sym (same_number q s same)) (subst (λ (b : ActorState). May starts w.table (live w.history) s b.work) (sym (set_is w s seat (slice_set w.actors s a) a refl)) may)
-      by q false apart = subst (λ (b : ActorState). May starts w.table (live w.history) q b.work) (sym (others_are w s seat (slice_set w.actors s a) a refl q apart)) (is.may q)
+      by : (q : ℕ) (b : Bool) → (q == s) ≡ b → May starts seen q (work_in (slice_set w.actors s a) q)
+      by q true same = subst (λ (n : ℕ). May starts seen n (work_in (slice_set w.actors s a) n)) (sym (same_number q s same)) (subst (λ (b : ActorState). May starts seen s b.work) (sym (set_is w s seat (slice_set w.actors s a) a refl)) may)
+      by q false apart = subst (λ (b : ActorState). May starts seen q b.work) (sym (others_are w s seat (slice_set w.actors s a) a refl q apart)) (is.may q)
 
   -- the state, where the session does this
   set_state : (a : ActorState) → state_with w.history w.table w.memories (slice_set w.actors s a) ≡ with_readers w s seat (record (state_of w) { running = with_session (state_of w).running s (running_of w.table s a.work) }) a.work
@@ -426,7 +539,7 @@ module _ (starts : Starts) (says : Says) (proper : StartsProper starts) (writes 
     begun v = record (actor_in w.actors s) { work = v; began = length w.history.past }
 
     -- a task that reads nothing
-    quiet_keeps : (v : Work) → running_of w.table s v ≡ None → SameReaders work.Rest v → May starts w.table (live w.history) s v → IsWorld starts says (with_work w s v)
+    quiet_keeps : (v : Work) → running_of w.table s v ≡ None → SameReaders work.Rest v → May starts seen s v → IsWorld starts says (with_work w s v)
     quiet_keeps v running same may = set_keeps (begun v) refl (subst (λ (t : State). IsKept starts says (with_formers t is.formers)) (sym (same_state (begun v) (ap (running_of w.table s) idle ∙ sym running) (same_readers (work_in w.actors s) v work.Rest v idle refl same))) is.kept) may
 
     reads_keeps : (r : Reader) → IsKept starts says (with_reader state s (Some r)) → IsPresent (live w.history) s → IsWorld starts says (with_work w s (work.Read r))
@@ -442,7 +555,7 @@ module _ (starts : Starts) (says : Says) (proper : StartsProper starts) (writes 
     upkeep_keeps : (u : Upkeep) (v : Work) → v ≡ work.Upkeep u → IsPresent (live w.history) s → MayKeepUp (live w.history) s u → IsWorld starts says (with_work w s v)
     upkeep_keeps u v is come may = subst (λ (x : Work). IsWorld starts says (with_work w s x)) (sym is) (quiet_keeps (work.Upkeep u) refl (refl, refl) (come, may))
 
-    pub start_keeps : (t : Task) (v : Work) → MayBegin starts (live w.history) s t → Begins (actor_pin (state_of w) s) t v → IsWorld starts says (with_work w s v)
+    pub start_keeps : (t : Task) (v : Work) → MayBegin starts (live w.history) s t → Begins w.history.clusters (actor_pin (state_of w) s) t v → IsWorld starts says (with_work w s v)
     start_keeps task.Login v may h = subst (λ (x : Work). IsWorld starts says (with_work w s x)) (sym h) (quiet_keeps work.Login refl (refl, refl) may)
     start_keeps task.End v may h = subst (λ (x : Work). IsWorld starts says (with_work w s x)) (sym h) (quiet_keeps work.End refl (refl, refl) (record { login = may.0; stays = may.1 }))
     start_keeps task.Refresh v may h = subst (λ (x : Work). IsWorld starts says (with_work w s x)) (sym h) (quiet_keeps work.Refresh refl (refl, refl) (record { login = may.0; stays = may.1 }, may.2))
@@ -460,55 +573,96 @@ module _ (starts : Starts) (says : Says) (proper : StartsProper starts) (writes 
     start_keeps (task.Attach i) v may h = upkeep_keeps (upkeep.Attach i) v h (record { login = may.0; stays = may.1 }) may.2
     start_keeps task.Detach v may h = upkeep_keeps upkeep.Detach v h (record { login = may.0; stays = may.1 }) may.2
     start_keeps task.Observe v may h = upkeep_keeps upkeep.Observe v h (record { login = may.0; stays = may.1 }) may.2
+    start_keeps (task.Split p) v may h = absurd may
+    start_keeps task.Collect v may h = absurd may
     start_keeps _ v may h = absurd h
 
-    -- a reply is said
-    module _ (i : ℕ) (text : Text) (next : i ≡ next_index w.history.past s) (lawful : says (live w.history) s i text) where
-      abbrev said : Event
-      said = event.Said s i text
+  -- a reply is said, and before it how the session's task ended
+  module _ (rest : IsAtRest (work_in w.actors s)) (i : ℕ) (text : Text) (next : i ≡ next_index w.history.past s) (lawful : says (after (told_first (work_in w.actors s)) (live w.history)) s i text) where
+    abbrev quiet : ActorState
+    quiet = record (actor_in w.actors s) { work = work.Rest; reply = None }
 
-      said_others : (q : ℕ) → (q == s) ≡ false → AreOthers q (said ∷ []) w.history.past
-      said_others q apart = by (s == q) refl
-        where
-          by : (b : Bool) → (s == q) ≡ b → (b || false) ≡ false
-          by true same = absurd (other_number q s apart (sym (same_number s q same)))
-          by false k = refl
+    abbrev replied : Past
+    replied = reply_events s i text (work_in w.actors s)
 
-      kept_said : IsKept starts says (after_said state s i text)
-      kept_said = said_whole starts says proper state is.kept s i text next lawful
+    -- the state with these events more
+    abbrev with_past : Past → State
+    with_past own = record state { past = own ++ w.history.past }
 
-      said_state : state_of (said_in w s i text) ≡ after_said (state_of w) s i text
-      said_state = ap (λ (t : State). record t { past = said ∷ w.history.past }) (same_state (record (actor_in w.actors s) { reply = None }) refl (refl, refl))
+    one_said : (past : Past) (q : ℕ) → (q == s) ≡ false → AreOthers q (event.Said s i text ∷ []) past
+    one_said past q apart = by (s == q) refl
+      where
+        by : (b : Bool) → (s == q) ≡ b → (b || false) ≡ false
+        by true same = absurd (other_number q s apart (sym (same_number s q same)))
+        by false k = refl
 
-      pub said_keep : IsWorld starts says (said_in w s i text)
-      said_keep = record {
-        formers = is.formers;
-        kept = subst (λ (t : State). IsKept starts says (with_formers t is.formers)) (sym said_state) kept_said;
-        table = is.table;
-        few = is.few;
-        attached = λ q. attached_too q (q == s) refl;
-        unstopped = is.unstopped;
-        seats = length-set w.actors s (record (actor_in w.actors s) { reply = None }) ∙ is.seats;
-        may = λ q. by q (q == s) refl;
-      }
-        where
-          attached_too : (q : ℕ) (b : Bool) → (q == s) ≡ b → (actor_in (slice_set w.actors s (record (actor_in w.actors s) { reply = None })) q).attached ≡ is_attached w.history.past q
-          attached_too q true same = subst (λ (n : ℕ). (actor_in (slice_set w.actors s (record (actor_in w.actors s) { reply = None })) n).attached ≡ is_attached w.history.past n) (sym (same_number q s same)) (ap (λ (b : ActorState). b.attached) (set_is w s seat (slice_set w.actors s (record (actor_in w.actors s) { reply = None })) (record (actor_in w.actors s) { reply = None }) refl) ∙ is.attached s)
-          attached_too q false apart = ap (λ (b : ActorState). b.attached) (others_are w s seat (slice_set w.actors s (record (actor_in w.actors s) { reply = None })) (record (actor_in w.actors s) { reply = None }) refl q apart) ∙ is.attached q
+    -- nothing was to be told
+    rests : (v : Work) → IsAtRest v → May starts seen s v → v ≡ work.Rest
+    rests work.Rest at may = refl
+    rests (work.Told e) at may = absurd may
+    rests _ at may = absurd at
 
-          by : (q : ℕ) (b : Bool) → (q == s) ≡ b → May starts w.table (after (said ∷ []) (live w.history)) q (work_in (slice_set w.actors s (record (actor_in w.actors s) { reply = None })) q)
-          by q true same = subst (λ (n : ℕ). May starts w.table (after (said ∷ []) (live w.history)) n (work_in (slice_set w.actors s (record (actor_in w.actors s) { reply = None })) n)) (sym (same_number q s same))
-              (subst (λ (v : Work). May starts w.table (after (said ∷ []) (live w.history)) s v) (sym (ap (λ (a : ActorState). a.work) (set_is w s seat (slice_set w.actors s (record (actor_in w.actors s) { reply = None })) (record (actor_in w.actors s) { reply = None }) refl) ∙ idle)) tt)
-          by q false apart = subst (λ (a : ActorState). May starts w.table (after (said ∷ []) (live w.history)) q a.work) (sym (others_are w s seat (slice_set w.actors s (record (actor_in w.actors s) { reply = None })) (record (actor_in w.actors s) { reply = None }) refl q apart)) (others_may w.table (λ k p. refl) q (said ∷ []) (said_others q apart) kept_said.sessions.run)
+    resting : work_in w.actors s ≡ work.Rest
+    resting = rests (work_in w.actors s) rest (is.may s)
+
+    replied_is : replied ≡ event.Said s i text ∷ []
+    replied_is = ap (reply_events s i text) resting
+
+    kept_said : IsKept starts says (with_past replied)
+    kept_said =
+        subst (λ (own : Past). IsKept starts says (with_past own)) (sym replied_is)
+        (said_whole starts says proper state is.kept s i text next (subst (λ (v : Work). says (after (told_first v) (live w.history)) s i text) resting lawful))
+
+    said_others : (q : ℕ) → (q == s) ≡ false → AreOthers q replied w.history.past
+    said_others q apart = subst (λ (own : Past). AreOthers q own w.history.past) (sym replied_is) (one_said w.history.past q apart)
+
+    said_state : with_formers (state_of (said_in w s i text)) is.formers ≡ with_past replied
+    said_state = ap (λ (t : State). record t { past = replied ++ w.history.past; formers = is.formers }) (same_state quiet (ap (running_of w.table s) resting) (ap reading_of resting, ap observing_of resting))
+
+    -- attached it stays as it was
+    replied_attached : (q : ℕ) → is_attached w.history.past q ≡ is_attached (replied ++ w.history.past) q
+    replied_attached q = ap (λ (own : Past). is_attached (own ++ w.history.past) q) (sym replied_is)
+
+    replied_unstopped : (k : ℕ) → is_stopped (replied ++ w.history.past) k ≡ false
+    replied_unstopped k = ap (λ (own : Past). is_stopped (own ++ w.history.past) k) replied_is ∙ is.unstopped k
+
+    pub said_keep : IsWorld starts says (said_in w s i text)
+    said_keep = record {
+      formers = is.formers;
+      kept = subst (λ (t : State). IsKept starts says t) (sym said_state) kept_said;
+      table = is.table;
+      once = is.once;
+      few = is.few;
+      attached = λ q. attached_too q (q == s) refl;
+      unstopped = replied_unstopped;
+      seats = length-set w.actors s quiet ∙ is.seats;
+      may = λ q. by q (q == s) refl;
+    }
+      where
+        attached_too : (q : ℕ) (b : Bool) → (q == s) ≡ b → (actor_in (slice_set w.actors s quiet) q).attached ≡ is_attached (replied ++ w.history.past) q
+        attached_too q true same =
+            subst (λ (n : ℕ). (actor_in (slice_set w.actors s quiet) n).attached ≡ is_attached (replied ++ w.history.past) n) (sym (same_number q s same)) (ap (λ (b : ActorState). b.attached) (set_is w s seat (slice_set w.actors s quiet) quiet refl) ∙ (is.attached s ∙ replied_attached s))
+        attached_too q false apart = ap (λ (b : ActorState). b.attached) (others_are w s seat (slice_set w.actors s quiet) quiet refl q apart) ∙ (is.attached q ∙ replied_attached q)
+
+        by : (q : ℕ) (b : Bool) → (q == s) ≡ b → May starts (seen_after replied) q (work_in (slice_set w.actors s quiet) q)
+        by q true same = subst (λ (n : ℕ). May starts (seen_after replied) n (work_in (slice_set w.actors s quiet) n)) (sym (same_number q s same))
+            (subst (λ (v : Work). May starts (seen_after replied) s v) (sym (ap (λ (a : ActorState). a.work) (set_is w s seat (slice_set w.actors s quiet) quiet refl))) tt)
+        by q false apart = subst (λ (a : ActorState). May starts (seen_after replied) q a.work) (sym (others_are w s seat (slice_set w.actors s quiet) quiet refl q apart)) (others_may (with_past replied) (unchanged state (with_past replied) refl refl) kept_said.sessions.readers.told.copies q replied (said_others q apart) kept_said.sessions.run)
+
+-- how a task ended stands directly before the reply
+pub told_shown : (v : Work) → IsAtRest v → end_told (shown_work v) ≡ told_first v
+told_shown work.Rest at = refl
+told_shown (work.Told e) at = refl
+told_shown _ at = absurd at
 
 -- what a port tells of a reply
-pub answers_shown : (starts : Starts) (says : Says) {L : Type 0} (w : WorldOf L) (s : ℕ) (seat : s < length w.actors) (idle : work_in w.actors s ≡ work.Rest) (name : GName) (i : ℕ) (text : Text) → IsRun starts says (live (said_in w s i text).history) → Answers starts says (shown_at name w s) (shown_at name (said_in w s i text) s) i text
-answers_shown starts says w s seat idle name i text run = record {
+pub answers_shown : (starts : Starts) (says : Says) {L : Type 0} (w : WorldOf L) (s : ℕ) (seat : s < length w.actors) (rest : IsAtRest (work_in w.actors s)) (name : GName) (i : ℕ) (text : Text) → IsRun starts says (live (said_in w s i text).history) → Answers starts says (shown_at name w s) (shown_at name (said_in w s i text) s) i text
+answers_shown starts says w s seat rest name i text run = record {
   others = [];
-  grows = record { grown = refl; theirs = refl; run = run };
+  grows = record { grown = ap (λ (es : Past). after (event.Said s i text ∷ es) (live w.history)) (sym (told_shown (work_in w.actors s) rest)); theirs = refl; run = run };
   session = refl;
-  work = ap (λ (a : ActorState). shown_work a.work) (set_is w s seat (said_in w s i text).actors (record (actor_in w.actors s) { reply = None }) refl) ∙ ap shown_work idle;
-  room = ap (λ (a : ActorState). a.reply) (set_is w s seat (said_in w s i text).actors (record (actor_in w.actors s) { reply = None }) refl);
-  beside = beside_same w s seat name (said_in w s i text) (record (actor_in w.actors s) { reply = None }) refl;
+  work = ap (λ (a : ActorState). shown_work a.work) (set_is w s seat (said_in w s i text).actors (record (actor_in w.actors s) { work = work.Rest; reply = None }) refl);
+  room = ap (λ (a : ActorState). a.reply) (set_is w s seat (said_in w s i text).actors (record (actor_in w.actors s) { work = work.Rest; reply = None }) refl);
+  beside = beside_same w s seat name (said_in w s i text) (record (actor_in w.actors s) { work = work.Rest; reply = None }) refl;
   alone = refl;
 }

@@ -21,7 +21,7 @@ use Rattle.oak_commit.specs.declared.stage.Stage.TheVariants as stage
 use Rattle.oak_doc.specs.Updates.{updated}
 use Rattle.oak_doc.specs.declared.document.Document.{Document}
 use Rattle.oak_doc.specs.declared.update.OpFault.{OpFault}
-use Rattle.oak_machine.specs.History.{History, Past}
+use Rattle.oak_machine.specs.History.{Past}
 use Rattle.oak_machine.specs.Laws.{Says, Starts}
 use Rattle.oak_machine.specs.declared.event.StepKind.{StepKind}
 use Rattle.oak_machine.specs.declared.event.StepKind.TheVariants as kind
@@ -36,8 +36,9 @@ use Rattle.oak_store.specs.Tables.{Table, next_number}
 use Rattle.core_clash.specs.Core.{root_of}
 use Rattle.core_world.specs.States.{State, base_in, listed_at, memory_of, node_of, nodes_in}
 use Rattle.core_world.specs.Steps.{after_mark, after_update, after_write, marked_by, with_result}
-use Rattle.oak_step.proofs.Stages.{finish_stage}
-use Rattle.oak_step.specs.Parts.{EndsSo, changes_on, committed, fed_previous, mark_made, read_on, swept_on}
+use Rattle.oak_saves.proofs.Stages.{finish_stage}
+use Rattle.oak_step.specs.Parts.{EndsSo, changes_on, read_on, swept_on}
+use Rattle.oak_saves.specs.Saves.{committed, fed_previous, mark_made}
 use Rattle.oak_node.specs.declared.pending.Pending.{Pending}
 use Rattle.oak_sweep.specs.Sweeping as sweeping
 use Rattle.oak_sweep.specs.declared.stage.Stage.{Stage as Swept}
@@ -57,11 +58,12 @@ use Rattle.oak_world.proofs.Counting.{noted_few, upward_few}
 use Rattle.oak_world.proofs.Observing.{changes_lower}
 use Rattle.oak_world.proofs.Reading.{read_lowers}
 use Rattle.oak_world.proofs.States.{actor_set}
-use Rattle.oak_world.specs.Kept.{EndsInRoot, IsLooking, IsWorld, May, MayKeepUp}
+use Rattle.oak_world.specs.Kept.{EndsInRoot, IsWorld, May, MayKeepUp, Scene, scene}
+use Rattle.oak_world.specs.Looks.{IsLooking}
 use Rattle.oak_world.proofs.Looking.{left_found, left_written, once_alone, once_found, once_written, once_wrote, outcome_found, outcome_written, update_previous, written_found, written_written}
 use Rattle.oak_world.specs.Left.{changes_left, commit_left, learn_left, left_in, looked_in, looks_left, marks_left, names_in, reads_left, steps_left, passes_left, updates_left, upkeep_left, writes_left}
 use Rattle.oak_world.specs.Steps.{BeginsBackWrite, MakesBackRead, MakesBackWrite, MakesCommit, MakesState, MakesSweep, MakesUpdate, MakesUpkeep, MayUpdate, PassesTo, StepsIn}
-use Rattle.oak_world.specs.Worlds.{ActorState, WorldOf, idle, live, look_through, once_looked, running_as, state_of, work_in}
+use Rattle.oak_world.specs.Worlds.{ActorState, IsAtRest, WorldOf, idle, live, look_through, once_looked, running_as, state_of, work_in}
 use Rattle.oak_world.proofs.Sweepers.{IsLookingFor, learn_left_one, look_lowers, publish_left, some_passes_left, sweep_told}
 
 -- ---- basics
@@ -401,26 +403,27 @@ abbrev IsGoing : Upkeep → Type 0
 IsGoing (upkeep.Publish b) = EndsInRoot b
 IsGoing _ = Unit {0}
 
--- the commit roots that a session keeps are those of whom it is to mark, and its background write has
+-- the commit roots that a session keeps are those of whom it is to mark, its background write has
 -- still to tell the root
 abbrev Rooted : Table → Past → Work → Type 0
 Rooted t past (work.Commit c) = HasRoots t past c
 Rooted t past (work.Upkeep u) = IsGoing u
+Rooted t past (work.Tidy x) = ⊥
 Rooted t past _ = Unit {0}
 
 -- what a session may do keeps its roots
-rooted : (starts : Starts) (t : Table) (h : History) (s : ℕ) (v : Work) → May starts t h s v → Rooted t h.past v
-rooted starts t h s (work.Commit c) may = (may.roots, may.looks)
-rooted starts t h s work.Rest may = tt
-rooted starts t h s work.Login may = tt
-rooted starts t h s work.End may = tt
-rooted starts t h s work.Refresh may = tt
-rooted starts t h s (work.Read r) may = tt
-rooted starts t h s (work.Changes r) may = tt
-rooted starts t h s (work.Plan edit marks) may = tt
-rooted starts t h s (work.Upkeep u) may = by u may.1
+rooted : (starts : Starts) (y : Scene) (s : ℕ) (v : Work) → May starts y s v → Rooted y.table y.history.past v
+rooted starts y s (work.Commit c) may = (may.roots, λ k is. (may.looks k is).form)
+rooted starts y s work.Rest may = tt
+rooted starts y s work.Login may = tt
+rooted starts y s work.End may = tt
+rooted starts y s work.Refresh may = tt
+rooted starts y s (work.Read r) may = tt
+rooted starts y s (work.Changes r) may = tt
+rooted starts y s (work.Plan edit marks) may = tt
+rooted starts y s (work.Upkeep u) may = by u may.1
   where
-    by : (u : Upkeep) → MayKeepUp h s u → IsGoing u
+    by : (u : Upkeep) → MayKeepUp y.history s u → IsGoing u
     by (upkeep.Publish b) m = m.1
     by upkeep.Write m = tt
     by (upkeep.Noted n) m = tt
@@ -433,7 +436,9 @@ rooted starts t h s (work.Upkeep u) may = by u may.1
     by upkeep.Detach m = tt
     by (upkeep.Detaching pin) m = tt
     by upkeep.Observe m = tt
-rooted starts t h s (work.Move r) may = tt
+rooted starts y s (work.Move r) may = tt
+rooted starts y s (work.Tidy x) may = absurd may
+rooted starts y s (work.Told e) may = tt
 
 -- ---- background work
 
@@ -589,32 +594,36 @@ module _ (s : ℕ) (w u : State) (m n : NodeState) (x : Work) where
   less table (work.Move r) (answers.Ready (ends.Commit (end.Committed o))) roots h = inr (rest_less 0 h.1)
   less table (work.Move r) _ roots h = absurd h
   less table (work.Upkeep k) o going h = inr (upkeep_less table k going o h)
+  less table (work.Tidy y) o roots h = absurd roots
+  less table (work.Told e) o roots h = absurd h
   less table work.Rest o roots h = absurd h
 
 -- a step lowers the number, or it waits
 pub lowers : {L : Type 0} (starts : Starts) (says : Says) (w u : WorldOf L) (s : ℕ) (o : StepOut) → IsWorld starts says w → StepsIn w s u o → IsWait o ⊎ (left_in u s < left_in w s)
 lowers {L} starts says w u s o is m =
     subst (λ (v : Work). IsWait o ⊎ (steps_left s u.table (memory_of (state_of u) s) v < left_in w s)) (sym (does_now w s u o m))
-    (less s (state_of w) (state_of u) (memory_of (state_of w) s) (memory_of (state_of u) s) m.does is.table (work_in w.actors s) o (rooted starts w.table (live w.history) s (work_in w.actors s) (is.may s)) m.makes)
+    (less s (state_of w) (state_of u) (memory_of (state_of w) s) (memory_of (state_of u) s) m.does is.table (work_in w.actors s) o (rooted starts (scene w.table is.formers (live w.history)) s (work_in w.actors s) (is.may s)) m.makes)
 
--- nothing is left only where nothing is done
-pub over : (starts : Starts) (h : History) (s : ℕ) (t : Table) (m : NodeState) (v : Work) → May starts t h s v → steps_left s t m v ≡ 0 → v ≡ work.Rest
-over starts past s t m work.Rest may h = refl
-over starts past s t m work.Login may h = absurd (omega (arith, h))
-over starts past s t m work.End may h = absurd (omega (arith, h))
-over starts past s t m work.Refresh may h = absurd (omega (arith, h))
-over starts past s t m (work.Read r) may h = absurd (omega (arith, h))
-over starts past s t m (work.Changes r) may h = absurd (omega (arith, h))
-over starts past s t m (work.Plan edit marks) may h = absurd (omega (arith, h))
-over starts past s t m (work.Commit c) may h = absurd (by c.outcome h)
+-- nothing is left only where nothing is to be done but to tell how a task ended
+pub over : (starts : Starts) (y : Scene) (s : ℕ) (m : NodeState) (v : Work) → May starts y s v → steps_left s y.table m v ≡ 0 → IsAtRest v
+over starts y s m work.Rest may h = tt
+over starts y s m (work.Told e) may h = tt
+over starts y s m (work.Tidy x) may h = absurd may
+over starts y s m work.Login may h = absurd (omega (arith, h))
+over starts y s m work.End may h = absurd (omega (arith, h))
+over starts y s m work.Refresh may h = absurd (omega (arith, h))
+over starts y s m (work.Read r) may h = absurd (omega (arith, h))
+over starts y s m (work.Changes r) may h = absurd (omega (arith, h))
+over starts y s m (work.Plan edit marks) may h = absurd (omega (arith, h))
+over starts y s m (work.Commit c) may h = absurd (by c.outcome h)
   where
-    by : (o : Option CommitEnd) → commit_left t c o ≡ 0 → ⊥
+    by : (o : Option CommitEnd) → commit_left y.table c o ≡ 0 → ⊥
     by None h = omega (arith, h)
     by (Some e) h = omega (arith, h)
-over starts past s t m (work.Move r) may h = absurd (omega (arith, h))
-over starts past s t m (work.Upkeep u) may h = absurd (by u (rooted starts t past s (work.Upkeep u) may) h)
+over starts y s m (work.Move r) may h = absurd (omega (arith, h))
+over starts y s m (work.Upkeep u) may h = absurd (by u (rooted starts y s (work.Upkeep u) may) h)
   where
-    by : (u : Upkeep) → IsGoing u → upkeep_left t m u ≡ 0 → ⊥
+    by : (u : Upkeep) → IsGoing u → upkeep_left y.table m u ≡ 0 → ⊥
     by upkeep.Write g h = omega (arith, h)
     by (upkeep.Noted n) g h = omega (arith, h)
     by (upkeep.Publish b) g h = let less = is_within b g in omega (arith, h, less)
@@ -627,7 +636,7 @@ over starts past s t m (work.Upkeep u) may h = absurd (by u (rooted starts t pas
         at syncing.Learn h = omega (arith, h)
         at syncing.Done h = omega (arith, h)
     by upkeep.Sweep g h = omega (arith, h)
-    by (upkeep.Sweeping x) g h = let some = some_passes_left t x in omega (arith, h, some)
+    by (upkeep.Sweeping x) g h = let some = some_passes_left y.table x in omega (arith, h, some)
     by (upkeep.Checkpoint i) g h = omega (arith, h)
     by (upkeep.Release i) g h = omega (arith, h)
     by (upkeep.Attach i) g h = omega (arith, h)

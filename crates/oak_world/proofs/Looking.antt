@@ -1,11 +1,11 @@
 -- What looks of committers come to, where the previous documents stay.
 use mathlib.Core.Bool.{false≢true}
-use Rattle.std.proofs.Common.{◌≡◌, ℕ, suc, ◌+◌, Bool, true, false, cond, Option, Some, None, List, [], ◌∷◌, ◌++◌, length, map, fold, filter_map, refl, sym, ap, subst, ◌∙◌, arith}
+use Rattle.std.proofs.Common.{◌≡◌, ℕ, suc, Bool, true, false, cond, Option, Some, None, List, [], ◌∷◌, ◌++◌, length, map, fold, filter_map, refl, sym, ap, subst, ◌∙◌}
 use Rattle.std.proofs.lemmas.List.{length-map}
 use Rattle.std.specs.Prelude.{Result, Ok, Err}
 use Rattle.std.specs.List.{flat_map}
 use Rattle.std.specs.Map.{keys_of}
-use Rattle.std.specs.Option.{option_map, option_map_or}
+use Rattle.std.specs.Option.{option_map_or}
 use Rattle.std.specs.Ordering.{eq_by_cmp}
 use Rattle.jr_path.specs.Ids.{id_cmp, names_of}
 use Rattle.jr_path.specs.declared.name.Name.{Name}
@@ -15,7 +15,6 @@ use Rattle.jr_path.specs.declared.path.Path.{Path}
 use Rattle.jr_rev.specs.declared.revision.Revision.{Revision}
 use Rattle.jr_value.specs.declared.value.Property.{Property}
 use Rattle.oak_commit.proofs.Looks.{filled_whole}
-use Rattle.oak_commit.specs.Clashing.{Met}
 use Rattle.oak_commit.specs.Committing.{Committing, looking_on, meeting, wanting, written, wrote}
 use Rattle.oak_commit.specs.Looking.{entries_in, put_back, whole, with_found}
 use Rattle.oak_commit.specs.declared.look.Look.{Look}
@@ -23,25 +22,20 @@ use Rattle.oak_doc.specs.declared.document.Document.{Document}
 use Rattle.oak_doc.specs.declared.document.PrevEntry.{PrevEntry}
 use Rattle.oak_doc.specs.declared.update.Change.{Change}
 use Rattle.oak_doc.specs.declared.update.Change.TheVariants as change
-use Rattle.oak_doc.specs.declared.update.Kept.TheVariants as kept
 use Rattle.oak_doc.specs.declared.update.OpFault.{OpFault}
-use Rattle.oak_doc.specs.declared.update.OpFault.TheVariants as fault
 use Rattle.oak_doc.specs.declared.update.UpdateOp.{UpdateOp}
 use Rattle.oak_doc.specs.Updates.{Props, changed, undone, updated, values_of_property}
-use Rattle.oak_read.specs.Meaning.{commit_root_of, documents_in, main_of, path_of}
-use Rattle.oak_read.specs.Wanted.{listed}
+use Rattle.oak_read.specs.Meaning.{commit_root_of, documents_in}
 use Rattle.oak_store.specs.Tables.{Table, after_undo, found, next_number, with_document}
-use Rattle.core_clash.specs.Core.{root_of}
-use Rattle.core_clash.specs.Sessions.{Running}
 use Rattle.core_clash.specs.Sound.{IsRooted}
 use Rattle.core_world.specs.States.{State, listed_at, moved_in, nodes_in}
-use Rattle.core_world.specs.Steps.{after_last, after_mark, after_update, after_want, lasted_by, marked_by, with_result}
+use Rattle.core_world.specs.Steps.{after_update, after_want, with_result}
 use Rattle.core_world.proofs.Tables.{one_id, put_is, undo_at, undo_none}
 use Rattle.oak_step.specs.declared.work.Work.{Work}
 use Rattle.oak_step.specs.declared.work.Work.TheVariants as work
-use Rattle.oak_step.specs.Parts.{fed_previous}
-use Rattle.oak_step.proofs.Feeding.{fed_look}
-use Rattle.oak_world.specs.Kept.{IsLooking}
+use Rattle.oak_saves.specs.Saves.{fed_previous}
+use Rattle.oak_saves.proofs.Feeding.{fed_look}
+use Rattle.oak_world.specs.Looks.{IsLooking}
 use Rattle.oak_world.specs.Left.{looks_left}
 use Rattle.oak_world.specs.Worlds.{filled_by, look_through, once_looked, running_as, running_of}
 
@@ -86,22 +80,6 @@ undo_previous t p r k q = by (found t (id.Node p)) refl
     by None is = ap (λ es. documents_in es (id.Prev k q)) (undo_none t p r is)
     by (Some d) is = undo_at t p r d is (id.Prev k q) ∙ ap (λ b. cond b (Some (undone d r (next_number t))) (documents_in t.documents (id.Prev k q))) (apart k q (id.Node p) refl)
 
-module _ (w : State) (s : ℕ) (x : Running) where
-  marked_previous : (f : Met) (rest : List Met) (r : Result Document OpFault) → SamePrevious w.table (marked_by w s x f rest r).table
-  marked_previous f rest (Ok d) = put_previous w.table (id.Node (root_of w.past f.other)) d (next_number w.table) refl
-  marked_previous f rest (Err g) = λ k q. refl
-
-  pub mark_previous : (f : Met) (rest : List Met) → SamePrevious w.table (after_mark w s x f rest).table
-  mark_previous f rest = marked_previous f rest _
-
-  lasted_previous : (r : Result Document OpFault) → SamePrevious w.table (lasted_by w s x r).table
-  lasted_previous (Ok d) = put_previous w.table _ d (next_number w.table) refl
-  lasted_previous (Err (fault.Unmet c (kept.Entry o item))) = λ k q. refl
-  lasted_previous (Err g) = λ k q. refl
-
-  pub last_previous : SamePrevious w.table (after_last w s x).table
-  last_previous = lasted_previous _
-
 -- ---- looks
 
 -- a committer that looks at no previous document
@@ -113,6 +91,14 @@ pub once_revision : (t : Table) (c : Committing) → (once_looked t c).revision 
 once_revision t c = by c.looking
   where
     by : (o : Option Look) → (look_through t c o).revision ≡ c.revision
+    by None = refl
+    by (Some k) = refl
+
+-- at the same base
+pub once_base : (t : Table) (c : Committing) → (once_looked t c).base ≡ c.base
+once_base t c = by c.looking
+  where
+    by : (o : Option Look) → (look_through t c o).base ≡ c.base
     by None = refl
     by (Some k) = refl
 
@@ -132,7 +118,7 @@ once_wrote t c = by c.looking
     by None = refl
     by (Some k) = refl
 
-abbrev ids_of : Path → List PrevEntry → List DocId
+abbrev pub ids_of : Path → List PrevEntry → List DocId
 ids_of p es = map (λ e. id.Prev e.number p) es
 
 module _ (t u : Table) (same : SamePrevious t u) where
@@ -162,6 +148,8 @@ module _ (t u : Table) (same : SamePrevious t u) where
   running_same q (work.Plan edit marks) looks = refl
   running_same q (work.Move r) looks = refl
   running_same q (work.Upkeep k) looks = refl
+  running_same q (work.Tidy x) looks = refl
+  running_same q (work.Told e) looks = refl
 
 -- a committer that turns to undoing does so whatever it looks at
 pub want_same : (w : State) (s : ℕ) (t : Table) (c : Committing) → after_want w s (running_as s (once_looked t c)) ≡ after_want w s (running_as s c)
@@ -176,13 +164,6 @@ module _ (b : Committing) (p : Path) where
   pub once_on : (t : Table) (d : Document) (es : List PrevEntry) → once_looked t (looking_on b p d (ids_of p es)) ≡ meeting b p (Some (filled_by t d (ids_of p es)))
   once_on t d [] = refl
   once_on t d (e ∷ es) = refl
-
-  pub looks_on : b.outcome ≡ None → (d : Document) (es : List PrevEntry) (k : Look) → (looking_on b p d (ids_of p es)).looking ≡ Some k → IsLooking (looking_on b p d (ids_of p es)) k
-  looks_on going d [] k h = let never : None ≡ Some k = h in cc
-  looks_on going d (e ∷ es) k h =
-      let it : Some (record { document = d; first = id.Prev e.number p; rest = ids_of p es }) ≡ Some k = h in
-      let same : record { document = d; first = id.Prev e.number p; rest = ids_of p es } ≡ k = cc in
-      subst (IsLooking (looking_on b p d (ids_of p (e ∷ es)))) same (record { going = going; path = p; entry = e; asks = refl; entries = es; rest = refl })
 
   pub left_on : (d : Document) (es : List PrevEntry) → looks_left (looking_on b p d (ids_of p es)).looking ≡ length es
   left_on d [] = refl
@@ -224,10 +205,6 @@ module _ (c : Committing) (p : Path) (rest : List Path) where
         by : (o : Option Document) → once_looked u (written c p rest o) ≡ meeting (wrote c p rest) p (whole p o (option_map_or (λ d. filter_map (λ e. documents_in t.documents (id.Prev e.number p)) d.prev) o []))
         by None = refl
         by (Some d) = once_on (wrote c p rest) p u d d.prev ∙ ap (meeting (wrote c p rest) p) (ap Some (mapped d.prev d) ∙ filled_whole p (documents_in t.documents) d.prev d)
-
-  pub looks_written : c.outcome ≡ None → (o : Option Document) (k : Look) → (written c p rest o).looking ≡ Some k → IsLooking (written c p rest o) k
-  looks_written going None k h = let never : None ≡ Some k = h in cc
-  looks_written going (Some d) k h = looks_on (wrote c p rest) p going d d.prev k h
 
   pub left_written : (t : Table) → looks_left (written c p rest (nodes_in t p)).looking ≡ length (listed_at t p)
   left_written t = by (nodes_in t p)
@@ -276,9 +253,6 @@ module _ (t : Table) (c : Committing) (k : Look) (is : c.looking ≡ Some k) (lo
       ∙ sym (ap (look_through t c) is
       ∙ (ap (λ (i : DocId). meeting c (names_of i) (Some (filled_by t next k.rest))) looks.asks
       ∙ ap (λ (ids : List DocId). meeting c looks.path (Some (filled_by t next ids))) looks.rest)))
-
-  pub looks_found : (j : Look) → (fed_previous t c).looking ≡ Some j → IsLooking (fed_previous t c) j
-  looks_found j h = subst (λ (d : Committing). IsLooking d j) (sym found_is) (looks_on c looks.path looks.going next looks.entries j (ap (λ (d : Committing). d.looking) (sym found_is) ∙ h))
 
   -- one previous document fewer is left
   pub left_found : suc (looks_left (fed_previous t c).looking) ≡ looks_left c.looking
@@ -335,3 +309,16 @@ pub whole_rooted : (p : Path) (xs : List Document) (o : Option Document) (r : Re
 whole_rooted p [] o r root h = h
 whole_rooted p (x ∷ xs) None r root h = let never : None ≡ Some (id.Node root) = h in cc
 whole_rooted p (x ∷ xs) (Some d) r root h = whole_rooted p xs (put_back p (Some d) x) r root (ap Some (root_same d (fold changed d (entries_in x)) r (names_put x.props (keys_of x.props) d)) ∙ h)
+
+-- so does a document that is filled with what moved
+pub filled_roots : (t : Table) (ids : List DocId) (d : Document) → AreRootsOf d (filled_by t d ids)
+filled_roots t [] d = record { named = refl; roots = refl }
+filled_roots t (i ∷ ids) d = by (filled_roots t ids) (documents_in t.documents i)
+  where
+    by : ((e : Document) → AreRootsOf e (filled_by t e ids)) → (o : Option Document) → AreRootsOf d (filled_by t (with_found d o) ids)
+    by rest None = rest d
+    by rest (Some x) = roots_then d (fold changed d (entries_in x)) _ (names_put x.props (keys_of x.props) d) (rest (fold changed d (entries_in x)))
+
+-- and two that are filled with what moved tell the same
+pub filled_alike : (t u : Table) (ids : List DocId) (d : Document) (r : Revision) → commit_root_of (filled_by u d ids) r ≡ commit_root_of (filled_by t d ids) r
+filled_alike t u ids d r = root_same d (filled_by u d ids) r (filled_roots u ids d) ∙ sym (root_same d (filled_by t d ids) r (filled_roots t ids d))

@@ -28,14 +28,14 @@ use Rattle.core_clash.specs.Sessions.{Running}
 use Rattle.core_world.specs.States.{State, memory_at, moved_in, nodes_in, with_memory, with_session}
 use Rattle.core_world.specs.Steps.{after_last, after_mark, after_update, after_want, after_write, after_write_in_want, lasted_by, marked_by, moved_head, with_observer, with_reader, with_result}
 use Rattle.oak_step.specs.declared.work.Work.TheVariants as work
-use Rattle.oak_step.specs.Parts.{IsLast, IsLooked, IsUpdateMade, IsMarked, IsDocumentUndone, IsWritten, Parts, committed, end_events, fed_previous, fed_made, mark_made, op_due, parts, mark_refusal, result_of}
-use Rattle.oak_world.specs.Kept.{IsLooking}
+use Rattle.oak_saves.specs.Saves.{IsLast, IsLooked, IsUpdateMade, IsMarked, IsDocumentUndone, IsWritten, Parts, committed, end_events, fed_previous, fed_made, mark_made, op_due, parts, mark_refusal, result_of, saving}
+use Rattle.oak_world.specs.Looks.{IsLooking}
 use Rattle.oak_world.specs.Steps.{MakesUpdate}
 use Rattle.oak_world.specs.Worlds.{ActorState, WorldOf, node_in, observing_of, once_looked, parts_at, reading_of, running_as, running_of, state_of, with_parts, work_in}
-use Rattle.oak_step.proofs.Feeding.{blocked_last, blocked_mark, fed_last, fed_mark, fed_undo, fed_write, op_last, op_mark, op_write}
+use Rattle.oak_saves.proofs.Feeding.{blocked_last, blocked_mark, fed_last, fed_mark, fed_undo, fed_write, op_last, op_mark, op_write}
 use Rattle.oak_world.proofs.Going.{going_is}
 use Rattle.oak_world.proofs.Looking.{SamePrevious, once_alone, once_found, once_written, put_previous, undo_previous, update_previous, wanting_found, wanting_written}
-use Rattle.oak_step.proofs.Stages.{IsLastStage, IsLookStage, IsMarkStage, IsUndoStage, IsWriteStage}
+use Rattle.oak_saves.proofs.Stages.{IsLastStage, IsLookStage, IsMarkStage, IsUndoStage, IsWriteStage}
 use Rattle.oak_world.proofs.States.{LeavesLooks, SameReaders, memory_same, moved, moved_is, newest, quiet_is, readers_same, rest_is, session_same, with_readers}
 
 -- the end of a revision, with the head where that moved
@@ -163,7 +163,7 @@ module _ {L : Type 0} (w : WorldOf L) (s : ℕ) (there : s < length w.actors) (l
       refusal_is : (e : Event) → mark_refusal c e → e ≡ event.Refuse c.revision at.first.mine at.first.other
       refusal_is e is = subst (λ (ds : List Met). mark_refusal (record c { writer = record c.writer { due = ds } }) e) at.due is
 
-      marks_is : IsMarked s w.table q.table (reverse w.history.past) q.list c d → now ≡ after_mark (state_of w) s (running_as s c) at.first at.rest
+      marks_is : IsMarked s (saving w.table (reverse w.history.past) c) (saving q.table q.list d) → now ≡ after_mark (state_of w) s (running_as s c) at.first at.rest
       marks_is (inl m) =
           update_is (event.Went s kind.Mark) (with_document w.table op.id m.made.document (next_number w.table)) (mark_made c at.rest) (put_previous w.table op.id m.made.document (next_number w.table) refl) m.list
           (m.made.table ∙ ap (λ (o : UpdateOp). with_document w.table o.id m.made.document (next_number w.table)) op_is)
@@ -176,10 +176,10 @@ module _ {L : Type 0} (w : WorldOf L) (s : ℕ) (there : s < length w.actors) (l
           ∙ (ap (λ (x : Running). record (state_of w) { past = event.Refuse c.revision at.first.mine at.first.other ∷ w.history.past; running = with_session (state_of w).running s (Some (record { draw = x.draw; writer = record x.writer { due = []; undoing = true }; committed = x.committed })) }) (sym (going_is c at.going s))
           ∙ sym (ap (marked_by (state_of w) s (running_as s c) at.first at.rest) (sym (ap (result_of w.table) op_is) ∙ m.result)))
 
-      pub makes_mark : IsMarked s w.table q.table (reverse w.history.past) q.list c d → MakesUpdate s (state_of w) c now d kind.Mark
+      pub makes_mark : IsMarked s (saving w.table (reverse w.history.past) c) (saving q.table q.list d) → MakesUpdate s (state_of w) c now d kind.Mark
       makes_mark m = (at.first, at.rest, record { going = at.going; looked = at.looked }, at.due, marks_is m, by m)
         where
-          by : IsMarked s w.table q.table (reverse w.history.past) q.list c d
+          by : IsMarked s (saving w.table (reverse w.history.past) c) (saving q.table q.list d)
               → ((now.past ≡ event.Went s kind.Mark ∷ w.history.past) × (d ≡ mark_made c at.rest)) ⊎ ((now.past ≡ event.Refuse c.revision at.first.mine at.first.other ∷ w.history.past) × (d ≡ refused_as c at.first.mine at.first.other))
           by (inl m) = inl (told (event.Went s kind.Mark) m.list, m.committer ∙ fed_mark c at.going at.looked at.first at.rest at.due (found_in w.table (op_due c).id))
           by (inr m) = inr (told (event.Refuse c.revision at.first.mine at.first.other) (m.list ∙ ap (λ (e : Event). reverse w.history.past ++ e ∷ []) (refusal_is m.refusal m.told)), m.committer ∙ blocked_mark c at.going at.looked at.first at.rest at.due m.cause m.thing)
@@ -208,7 +208,7 @@ module _ {L : Type 0} (w : WorldOf L) (s : ℕ) (there : s < length w.actors) (l
       abbrev after : Running → State
       after x = record (state_of w) { past = event.Went s kind.Write ∷ w.history.past; table = documents; running = with_session (state_of w).running s (Some x) }
 
-      pub makes_write : IsWritten s w.table q.table (reverse w.history.past) q.list c d → MakesUpdate s (state_of w) c now d kind.Write
+      pub makes_write : IsWritten s (saving w.table (reverse w.history.past) c) (saving q.table q.list d) → MakesUpdate s (state_of w) c now d kind.Write
       makes_write m = (at.first, at.rest, record { going = at.going; looked = at.looked }, at.unmet, at.left, by m.committer)
         where
           by : (d ≡ fed_made w.table c) ⊎ (d ≡ wanting (fed_made w.table c))
@@ -231,7 +231,7 @@ module _ {L : Type 0} (w : WorldOf L) (s : ℕ) (there : s < length w.actors) (l
       abbrev running : Running → State
       running x = record (state_of w) { running = with_session (state_of w).running s (Some x) }
 
-      pub makes_look : IsLooked w.table q.table (reverse w.history.past) q.list c d → MakesUpdate s (state_of w) c now d kind.Read
+      pub makes_look : IsLooked (saving w.table (reverse w.history.past) c) (saving q.table q.list d) → MakesUpdate s (state_of w) c now d kind.Read
       makes_look m = (at.looking, at.going, at.looked, by m.committer)
         where
           past : reverse q.list ≡ w.history.past
@@ -256,7 +256,7 @@ module _ {L : Type 0} (w : WorldOf L) (s : ℕ) (there : s < length w.actors) (l
       op_lasts : op_due c ≡ last_op c.revision c.marks
       op_lasts = op_last c at.going at.looked at.unmet at.none
 
-      lasts_is : IsLast w.table q.table (reverse w.history.past) q.list c d → now ≡ after_last (state_of w) s (running_as s c)
+      lasts_is : IsLast (saving w.table (reverse w.history.past) c) (saving q.table q.list d) → now ≡ after_last (state_of w) s (running_as s c)
       lasts_is (inl m) =
           update_is (event.Commit c.revision) (with_document w.table (id.Node (commit_root c.marks)) m.made.document (next_number w.table)) (committed c) (put_previous w.table (id.Node (commit_root c.marks)) m.made.document (next_number w.table) refl) m.list
           (m.made.table ∙ ap (λ (o : UpdateOp). with_document w.table o.id m.made.document (next_number w.table)) op_lasts)
@@ -268,17 +268,17 @@ module _ {L : Type 0} (w : WorldOf L) (s : ℕ) (there : s < length w.actors) (l
           ∙ (ap (λ (x : Running). record (state_of w) { past = event.Refuse c.revision m.item m.other ∷ w.history.past; running = with_session (state_of w).running s (Some (record { draw = x.draw; writer = record x.writer { due = []; undoing = true }; committed = x.committed })) }) (sym (going_is c at.going s))
           ∙ sym (ap (lasted_by (state_of w) s (running_as s c)) (sym (ap (result_of w.table) op_lasts) ∙ m.result)))
 
-      pub makes_last : IsLast w.table q.table (reverse w.history.past) q.list c d → MakesUpdate s (state_of w) c now d kind.Last
+      pub makes_last : IsLast (saving w.table (reverse w.history.past) c) (saving q.table q.list d) → MakesUpdate s (state_of w) c now d kind.Last
       makes_last m = (record { going = at.going; looked = at.looked }, at.unmet, at.none, lasts_is m, by m)
         where
-          by : IsLast w.table q.table (reverse w.history.past) q.list c d
+          by : IsLast (saving w.table (reverse w.history.past) c) (saving q.table q.list d)
               → ((now.past ≡ event.Commit c.revision ∷ w.history.past) × (d ≡ committed c)) ⊎ ((item : Item) × (o : Revision) × (now.past ≡ event.Refuse c.revision item o ∷ w.history.past) × (d ≡ refused_as c item o))
           by (inl m) = inl (told (event.Commit c.revision) m.list, m.committer ∙ fed_last c at.going at.looked at.unmet at.none (found_in w.table (op_due c).id))
           by (inr m) = inr (m.item, m.other, told (event.Refuse c.revision m.item m.other) m.list, m.committer ∙ blocked_last c at.going at.looked at.unmet at.none m.cause m.other m.item)
 
     -- an undoing
     module _ (at : IsUndoStage c) (looked : c.looking ≡ None) where
-      pub makes_undo : IsDocumentUndone s w.table q.table (reverse w.history.past) q.list c d → MakesUpdate s (state_of w) c now d kind.Undo
+      pub makes_undo : IsDocumentUndone s (saving w.table (reverse w.history.past) c) (saving q.table q.list d) → MakesUpdate s (state_of w) c now d kind.Undo
       makes_undo m = (m.path, m.rest, at.undoing, m.first, update_is (event.Went s kind.Undo) (after_undo w.table (id.Node m.path) c.revision) (with_undone c) (undo_previous w.table m.path c.revision) m.list m.table (alone (after_undo w.table (id.Node m.path) c.revision) (with_undone c) fed_so looked) ∙ ap (λ (ps : List Path). record (state_of w) { past = event.Went s kind.Undo ∷ w.history.past; table = after_undo w.table (id.Node m.path) c.revision; running = with_session (state_of w).running s (Some (running_as s (record c { writer = record c.writer { written = ps } }))) }) (ap (drop 1) m.first), fed_so)
         where
           fed_so : d ≡ with_undone c

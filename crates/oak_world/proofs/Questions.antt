@@ -1,6 +1,6 @@
 -- A commit that writes reads a previous document where that is due, and nowhere else; no event is added then.
 use mathlib.Core.Bool.{false≢true}
-use Rattle.std.proofs.Common.{◌≡◌, ◌⊎◌, inl, inr, ℕ, suc, ◌+◌, Bool, true, false, Option, Some, None, List, [], ◌∷◌, ◌++◌, length, is_some, refl, sym, ap, subst, ◌∙◌, arith, length-append}
+use Rattle.std.proofs.Common.{◌≡◌, inl, inr, ℕ, suc, ◌+◌, Bool, true, false, Option, Some, None, [], ◌∷◌, ◌++◌, length, is_some, refl, sym, ap, subst, ◌∙◌, arith, length-append}
 use Rattle.jr_rev.specs.declared.revision.Revision.{Revision}
 use Rattle.oak_commit.specs.Committing.{Committing}
 use Rattle.oak_commit.specs.Kept.{undoes}
@@ -16,9 +16,9 @@ use Rattle.oak_machine.specs.declared.event.StepKind.TheVariants as kind
 use Rattle.oak_port.specs.declared.task.StepOut.{StepOut}
 use Rattle.oak_port.specs.declared.task.StepOut.TheVariants as answers
 use Rattle.oak_port.specs.declared.task.Task.{Task}
-use Rattle.oak_port.specs.Ports.{Deciding, Detaching, Idle, Learning, Publishing, ReadsAsDue, Starting, Undoing, Awaiting, Work as Shows, Writing, is_due, Passing, Sweeping}
-use Rattle.oak_step.proofs.Feeding.{stage_last, stage_mark, stage_write}
-use Rattle.oak_step.proofs.Stages.{finish_stage}
+use Rattle.oak_port.specs.Ports.{Deciding, Detaching, Learning, Publishing, ReadsAsDue, SplitsAsDue, Collecting, Starting, Undoing, Awaiting, Writing, is_due, Passing, Sweeping}
+use Rattle.oak_saves.proofs.Feeding.{stage_last, stage_mark, stage_write}
+use Rattle.oak_saves.proofs.Stages.{finish_stage}
 use Rattle.oak_step.specs.declared.upkeep.Upkeep.{Upkeep}
 use Rattle.oak_step.specs.declared.upkeep.Upkeep.TheVariants as upkeep
 use Rattle.oak_step.specs.declared.work.Work.{Work}
@@ -33,7 +33,16 @@ use Rattle.oak_sweep.specs.Sweeping as sweeping
 use Rattle.oak_sweep.specs.declared.stage.Stage.{Stage as Swept}
 use Rattle.oak_sweep.specs.declared.stage.Stage.TheVariants as swept
 use Rattle.oak_sweep.specs.declared.sweeper.Sweeper.{Sweeper}
-use Rattle.oak_world.specs.Seen.{shown_by, shown_read, shown_upkeep, shown_work, shown_sweep}
+use Rattle.core_watch.specs.Standing.{path_read}
+use Rattle.jr_path.specs.declared.path.Path.{Path}
+use Rattle.oak_gc.specs.Stages as collecting
+use Rattle.oak_gc.specs.declared.stage.Stage.{Stage as Collects}
+use Rattle.oak_gc.specs.declared.stage.Stage.TheVariants as collected
+use Rattle.oak_port.specs.declared.task.Task.TheVariants as task
+use Rattle.oak_tidy.specs.declared.tidying.Tidying.{Tidying}
+use Rattle.oak_tidy.specs.declared.tidying.Tidying.TheVariants as tidying
+use Rattle.oak_world.specs.Seen.{shown_by, shown_collect, shown_read, shown_tidying, shown_upkeep, shown_work, shown_sweep, task_of}
+use Rattle.oak_world.specs.Acting.{is_tidying}
 use Rattle.oak_world.specs.Steps.{MakesCommit, MakesState, MakesUpdate}
 
 -- where as many events are there as before, none was added
@@ -43,6 +52,10 @@ none_added (e ∷ own) past same =
     let l : length ((e ∷ own) ++ past) ≡ suc (length own) + length past = length-append (e ∷ own) past in
     let k : length ((e ∷ own) ++ past) ≡ length past = ap length same in
     absurd (omega (arith, l, k))
+
+-- tasks that are shown alike are the same
+task_same : (a b : Task) → Starting a ≡ Starting b → a ≡ b
+task_same a b h = cc
 
 -- a committer that looks
 stage_look : (c : Committing) (k : Look) → c.outcome ≡ None → c.looking ≡ Some k → stage_of c ≡ stage.Look
@@ -114,6 +127,17 @@ module _ (s : ℕ) (w u : State) (own : Past) (grown : u.past ≡ own ++ w.past)
   upkeep_shown (upkeep.Detaching pin) r h = absurd (let never : Detaching pin.base ≡ Writing r = h in cc)
   upkeep_shown upkeep.Observe r h = never_task _ r h
 
+  -- neither a split nor a collection writes
+  tidying_shown : {A : Type 0} (y : Tidying) (r : Revision) → shown_tidying y ≡ Writing r → A
+  tidying_shown (tidying.Split y) r h = never_task _ r h
+  tidying_shown (tidying.Collect y) r h = by (collecting.stage_of y) h
+    where
+      by : {A : Type 0} (st : Collects) → shown_collect st ≡ Writing r → A
+      by collected.Bound k = never_task _ r k
+      by collected.Read k = absurd (let never : Collecting ≡ Writing r = k in cc)
+      by collected.Collect k = absurd (let never : Collecting ≡ Writing r = k in cc)
+      by collected.Done k = absurd (let never : Collecting ≡ Writing r = k in cc)
+
   pub reads_as_due : (v x : Work) (o : StepOut) → MakesState s w v u x o → (r : Revision) → shown_work v ≡ Writing r → ReadsAsDue (is_due kind.Read (kind_due v)) o own
   reads_as_due (work.Commit c) x o m r h = commit c (still_open c.revision r c.outcome h) x o m
   reads_as_due work.Rest x o m r h = absurd m
@@ -125,3 +149,60 @@ module _ (s : ℕ) (w u : State) (own : Past) (grown : u.past ≡ own ++ w.past)
   reads_as_due (work.Plan edit marks) x o m r h = never_task _ r h
   reads_as_due (work.Move y) x o m r h = absurd (let never : Awaiting y ≡ Writing r = h in cc)
   reads_as_due (work.Upkeep k) x o m r h = upkeep_shown k r h
+  reads_as_due (work.Tidy y) x o m r h = tidying_shown y r h
+  reads_as_due (work.Told e) x o m r h = absurd m
+
+  -- ---- a split
+
+  -- what isn't a split isn't shown as one
+  read_is_no_split : (parent : Option Path) (q p : Path) → task_of parent q ≡ task.Split p → ⊥
+  read_is_no_split None q p h = cc
+  read_is_no_split (Some r) q p h = cc
+
+  commit_is_no_split : (r : Revision) (o : Option CommitEnd) (p : Path) → shown_by r o ≡ Starting (task.Split p) → ⊥
+  commit_is_no_split r None p h = cc
+  commit_is_no_split r (Some (end.Committed q)) p h = cc
+  commit_is_no_split r (Some (end.Clash item q)) p h = cc
+  commit_is_no_split r (Some end.Memory) p h = cc
+
+  back_is_no_split : (b : BackRead) (at : Syncing) (p : Path) → shown_read b at ≡ Starting (task.Split p) → ⊥
+  back_is_no_split b syncing.Write p h = cc
+  back_is_no_split b syncing.Publish p h = cc
+  back_is_no_split b syncing.Read p h = cc
+  back_is_no_split b syncing.Learn p h = cc
+  back_is_no_split b syncing.Done p h = cc
+
+  sweep_is_no_split : (x : Sweeper) (at : Swept) (p : Path) → shown_sweep x at ≡ Starting (task.Split p) → ⊥
+  sweep_is_no_split x swept.Root p h = cc
+  sweep_is_no_split x swept.Document p h = cc
+  sweep_is_no_split x swept.Publish p h = cc
+  sweep_is_no_split x swept.Learn p h = cc
+  sweep_is_no_split x swept.Done p h = cc
+
+  upkeep_is_no_split : (k : Upkeep) (p : Path) → shown_upkeep k ≡ Starting (task.Split p) → ⊥
+  upkeep_is_no_split upkeep.Write p h = cc
+  upkeep_is_no_split (upkeep.Noted n) p h = cc
+  upkeep_is_no_split (upkeep.Publish b) p h = cc
+  upkeep_is_no_split (upkeep.Read b) p h = back_is_no_split b (stage_of_read b) p h
+  upkeep_is_no_split upkeep.Sweep p h = cc
+  upkeep_is_no_split (upkeep.Sweeping x) p h = sweep_is_no_split x (sweeping.stage_of x) p h
+  upkeep_is_no_split (upkeep.Checkpoint i) p h = cc
+  upkeep_is_no_split (upkeep.Release i) p h = cc
+  upkeep_is_no_split (upkeep.Attach i) p h = cc
+  upkeep_is_no_split upkeep.Detach p h = cc
+  upkeep_is_no_split (upkeep.Detaching pin) p h = cc
+  upkeep_is_no_split upkeep.Observe p h = cc
+
+  pub splits_as_due : (v x : Work) (o : StepOut) → (is_tidying v ≡ false) → MakesState s w v u x o → (p : Path) → shown_work v ≡ Starting (task.Split p) → SplitsAsDue (is_due kind.Read (kind_due v)) o own
+  splits_as_due (work.Tidy y) x o plain m p h = absurd (false≢true (sym plain))
+  splits_as_due (work.Told e) x o plain m p h = absurd m
+  splits_as_due work.Rest x o plain m p h = absurd m
+  splits_as_due work.Login x o plain m p h = absurd (let never : Starting task.Login ≡ Starting (task.Split p) = h in cc)
+  splits_as_due work.End x o plain m p h = absurd (let never : Starting task.End ≡ Starting (task.Split p) = h in cc)
+  splits_as_due work.Refresh x o plain m p h = absurd (let never : Starting task.Refresh ≡ Starting (task.Split p) = h in cc)
+  splits_as_due (work.Read y) x o plain m p h = absurd (let same : task_of y.parent (path_read y) ≡ task.Split p = task_same _ _ h in read_is_no_split y.parent (path_read y) p same)
+  splits_as_due (work.Changes y) x o plain m p h = absurd (let never : Starting (task.Changes y.from) ≡ Starting (task.Split p) = h in cc)
+  splits_as_due (work.Plan edit marks) x o plain m p h = absurd (let never : Starting (task.Commit edit marks) ≡ Starting (task.Split p) = h in cc)
+  splits_as_due (work.Commit c) x o plain m p h = absurd (commit_is_no_split c.revision c.outcome p h)
+  splits_as_due (work.Move y) x o plain m p h = absurd (let never : Awaiting y ≡ Starting (task.Split p) = h in cc)
+  splits_as_due (work.Upkeep k) x o plain m p h = absurd (upkeep_is_no_split k p h)

@@ -18,7 +18,10 @@ use Rattle.core_world.specs.States.{actor_pin, memory_at, memory_of, reader_pin}
 use Rattle.core_world.proofs.Lives.{its_node, on_node}
 use Rattle.oak_world.specs.declared.actor.Actor.{Actor}
 use Rattle.oak_world.specs.Kept.{IsAskedWorld, IsWorld}
-use Rattle.oak_step.specs.Works.{kind_due}
+use Rattle.jr_rev.specs.declared.vector.Pin.{Pin}
+use Rattle.oak_port.specs.declared.task.Task.{Task}
+use Rattle.oak_step.specs.declared.work.Work.{Work}
+use Rattle.oak_step.specs.Works.{Begins, kind_due}
 use Rattle.oak_world.specs.Worlds.{ActorState, WorldOf, actor_in, live, node_in, shown_actor, shown_world, state_of, with_formers, work_in}
 use Rattle.oak_world.proofs.Calls.{actor_shown}
 
@@ -95,6 +98,10 @@ reads_there {L} law j t ms actors w same s d a within at = ap (λ (b : ActorStat
 
 pub on_by : {L : Type 0} (v w : WorldOf L) (s k : ℕ) → v ≡ w → slice_get w.history.sessions s ≡ Some k → slice_get v.history.sessions s ≡ Some k
 on_by {L} v w s k same on = subst (λ (x : WorldOf L). slice_get x.history.sessions s ≡ Some k) (sym same) on
+
+-- what begins there begins in a world of as many cluster nodes
+pub clusters_by : {L : Type 0} (v w : WorldOf L) → v ≡ w → (pin : Option Pin) (t : Task) (x : Work) → Begins v.history.clusters pin t x → Begins w.history.clusters pin t x
+clusters_by {L} v w same pin t x begins = subst (λ (y : WorldOf L). Begins y.history.clusters pin t x) same begins
 
 -- the pin of a session
 module _ (starts : Starts) (says : Says) (proper : StartsProper starts) {L : Type 0} (law : L) (j : Journal) (t : Table) (ms : List NodeState) (actors : List Actor) (is : IsWorld starts says (shown_world law j t ms actors))

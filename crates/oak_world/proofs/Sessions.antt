@@ -19,9 +19,9 @@ module _ {L : Type 0} (w u : WorldOf L) (s : ℕ) (there : is_some (slice_get w.
   stays : u.history.sessions ≡ w.history.sessions → is_some (slice_get u.history.sessions s) ≡ true
   stays same = subst (λ (ns : List ℕ). is_some (slice_get ns s) ≡ true) (sym same) there
 
-  pub start_there : (r : Result Unit AllocError) (pin : Option Pin) (t : Task) → OnOk r ((v : Work) × Begins pin t v × (u ≡ with_work w s v)) → OnErr r (u ≡ w) → is_some (slice_get u.history.sessions s) ≡ true
-  start_there (Ok x) pin t ok err = stays (ap (λ (x : WorldOf L). x.history.sessions) ok.2)
-  start_there (Err x) pin t ok err = stays (ap (λ (x : WorldOf L). x.history.sessions) err)
+  pub start_there : (r : Result Unit AllocError) (n : ℕ) (pin : Option Pin) (t : Task) → OnOk r ((v : Work) × Begins n pin t v × (u ≡ with_work w s v)) → OnErr r (u ≡ w) → is_some (slice_get u.history.sessions s) ≡ true
+  start_there (Ok x) n pin t ok err = stays (ap (λ (x : WorldOf L). x.history.sessions) ok.2)
+  start_there (Err x) n pin t ok err = stays (ap (λ (x : WorldOf L). x.history.sessions) err)
 
   pub reserve_there : (r : Result Unit AllocError) (room : Option ℕ) → OnOk r (u ≡ with_reply w s room) → OnErr r (u ≡ w) → is_some (slice_get u.history.sessions s) ≡ true
   reserve_there (Ok x) room ok err = stays (ap (λ (x : WorldOf L). x.history.sessions) ok)

@@ -22,6 +22,7 @@ use Rattle.core_world.specs.Kept.{IsKept}
 use Rattle.core_world.specs.Start.{documents_of_start, start_state, start_table}
 use Rattle.core_world.specs.States.{State}
 use Rattle.core_world.proofs.Whole.{start_whole}
+use Rattle.core_world.proofs.Begun.{start_lists}
 use Rattle.core_world.proofs.Named.{start_in_order}
 use Rattle.oak_changes.specs.declared.changes.ChangesReader.{ChangesReader}
 use Rattle.oak_read.specs.declared.reader.Reader.{Reader}
@@ -31,7 +32,8 @@ use Rattle.oak_world.specs.declared.actor.Actor.{Actor}
 use Rattle.oak_port.specs.Ports.{MayAppend}
 use Rattle.oak_step.specs.declared.work.Work.{Work}
 use Rattle.oak_step.specs.declared.work.Work.TheVariants as work
-use Rattle.oak_world.specs.Kept.{ArePlaced, IsAskedWorld, IsPlaced, IsWorld, May}
+use Rattle.oak_world.specs.Kept.{ArePlaced, IsAskedWorld, IsPlaced, IsWorld, May, scene}
+use Rattle.oak_world.specs.Looks.{AreOnce}
 use Rattle.oak_world.specs.Seen.{shown_work}
 use Rattle.oak_world.specs.Worlds.{ActorState, WorldOf, actor_in, idle, live, observing_of, reading_of, running_of, shown_actor, shown_world, start_world, state_of, work_in}
 
@@ -74,11 +76,12 @@ start_is_world starts says law clusters sessions few nodes = record {
   formers = λ p k. None;
   kept = subst (λ (t : State). IsKept starts says t) (sym (start_same law clusters sessions)) (start_whole starts says clusters sessions nodes);
   table = start_in_order clusters (length sessions);
+  once = λ p. subst AreOnce (sym (ap (λ (f : Path → List PrevEntry). f p) (start_lists clusters (length sessions)))) tt;
   few = few;
   attached = idle_attached sessions;
   unstopped = λ k. refl;
   seats = length-map sessions (λ k. idle);
-  may = λ s. subst (λ (v : Work). May starts (start_world law clusters sessions).table (live (start_world law clusters sessions).history) s v) (sym (idle_works sessions s)) tt;
+  may = λ s. subst (λ (v : Work). May starts (scene (start_world law clusters sessions).table (λ p k. None) (live (start_world law clusters sessions).history)) s v) (sym (idle_works sessions s)) tt;
 }
 
 -- no event was made, and nothing is done

@@ -15,7 +15,7 @@ use Rattle.core_clash.specs.Sessions.{Running}
 use Rattle.core_world.specs.States.{State, memory_at, with_memory, with_session}
 use Rattle.core_world.proofs.Flights.{other_number, same_number}
 use Rattle.oak_step.specs.declared.work.Work.{Work}
-use Rattle.oak_step.specs.Parts.{Parts}
+use Rattle.oak_saves.specs.Saves.{Parts}
 use Rattle.oak_world.specs.Worlds.{ActorState, WorldOf, actor_in, idle, node_in, observing_of, parts_at, reading_of, running_of, state_of, with_parts, with_reply, work_in}
 
 -- ---- the journal

@@ -1,10 +1,11 @@
 -- What a session does, it may still do after events of others.
-use Rattle.std.proofs.Common.{◌≡◌, inl, inr, ℕ, Bool, true, false, ◌||◌, List, [], ◌∷◌, ◌++◌, map, refl, sym, ap, subst, ◌∙◌, None}
+use Rattle.std.proofs.Common.{◌≡◌, inl, inr, ℕ, Bool, true, false, ◌||◌, Some, List, [], ◌∷◌, ◌++◌, map, refl, sym, ap, subst, ◌∙◌, None}
 use Rattle.std.specs.List.{list_any}
 use Rattle.jr_path.specs.declared.path.Path.{Path}
 use Rattle.jr_rev.specs.declared.revision.Revision.{Revision}
 use Rattle.oak_commit.specs.Clashing.{Met}
 use Rattle.oak_commit.specs.Committing.{Committing}
+use Rattle.oak_commit.specs.declared.look.Look.{Look}
 use Rattle.oak_machine.specs.declared.event.Event.{Event}
 use Rattle.oak_machine.specs.declared.event.Event.TheVariants as event
 use Rattle.oak_machine.specs.declared.event.StepKind.TheVariants as kind
@@ -15,15 +16,16 @@ use Rattle.oak_machine.specs.Runs.{AreNodes, IsRun, IsRunOf, StartsLast}
 use Rattle.oak_machine.specs.Sessions.{has_left, has_login, is_end_of_session, is_login_of}
 use Rattle.oak_machine.proofs.Induction.{neither}
 use Rattle.core_clash.specs.Core.{root_of}
+use Rattle.core_keep.specs.Formers.{Formers}
 use Rattle.core_clash.specs.Views.{In}
 use Rattle.core_clash.proofs.Basics.{or_right}
 use Rattle.core_nodes.proofs.Pasts.{still_drawn}
 use Rattle.core_world.proofs.Truths.{root_stays}
 use Rattle.oak_step.specs.declared.work.Work.{Work}
 use Rattle.oak_step.specs.declared.work.Work.TheVariants as work
-use Rattle.oak_world.specs.Kept.{May}
+use Rattle.oak_world.specs.Kept.{May, scene}
+use Rattle.oak_world.specs.Looks.{IsLookingOn}
 use Rattle.oak_world.proofs.Lasting.{upkeep_lasts}
-use Rattle.oak_world.proofs.Looking.{SamePrevious, once_same}
 use Rattle.oak_world.proofs.Others.{attached_left}
 use Rattle.oak_world.specs.Steps.{IsPresent}
 use Rattle.oak_store.specs.Tables.{Table}
@@ -77,21 +79,25 @@ pub same_roots : (f g : Met → Path) (ms : List Met) → ((m : Met) → In m ms
 same_roots f g [] same = refl
 same_roots f g (m ∷ ms) same = ap (λ x. x ∷ map f ms) (same m (inl refl)) ∙ ap (λ xs. g m ∷ xs) (same_roots f g ms (λ k h. same k (inr h)))
 
-module _ (starts : Starts) (says : Says) (last : StartsLast starts says) (h : Story) (nodes : AreNodes h.clusters h.sessions) (run : IsRun starts says (live h)) (q : ℕ) (own : Past) (now : IsRun starts says (after own (live h))) (others : AreOthers q own h.past) (t u : Table) (same : SamePrevious t u) where
-  pub may_last : (v : Work) → ((c : Committing) → v ≡ work.Commit c → (f : Met) → In f (once_looked t c).writer.due → is_drawn h.past f.other ≡ true) → May starts t (live h) q v → May starts u (after own (live h)) q v
-  may_last work.Rest drawn may = tt
-  may_last work.Login drawn may = login_left q own h.past others ∙ may
-  may_last work.End drawn may = come_left (live h) q own others may
-  may_last work.Refresh drawn may = (come_left (live h) q own others may.0, attached_left q own h.past others ∙ may.1)
-  may_last (work.Read r) drawn may = come_left (live h) q own others may
-  may_last (work.Changes r) drawn may = (come_left (live h) q own others may.0, attached_left q own h.past others ∙ may.1)
-  may_last (work.Plan edit marks) drawn may = (come_left (live h) q own others may.0, attached_left q own h.past others ∙ may.1, last (live h) own q edit marks (record { nodes = nodes; run = run; later = now; others = others }) may.2)
-  may_last (work.Commit c) drawn may = record {
+module _ (starts : Starts) (says : Says) (last : StartsLast starts says) (h : Story) (nodes : AreNodes h.clusters h.sessions) (run : IsRun starts says (live h)) (q : ℕ) (own : Past) (now : IsRun starts says (after own (live h))) (others : AreOthers q own h.past) (t u : Table) (formers more : Formers) where
+  -- of a committer what it is to mark was drawn, it will meet whom it would have met, and it looks on
+  pub may_last : (v : Work) → ((c : Committing) → v ≡ work.Commit c → (f : Met) → In f (once_looked t c).writer.due → is_drawn h.past f.other ≡ true) → ((c : Committing) → v ≡ work.Commit c → once_looked u c ≡ once_looked t c) → ((c : Committing) → v ≡ work.Commit c → (k : Look) → c.looking ≡ Some k → IsLookingOn u more c k)
+      → May starts (scene t formers (live h)) q v → May starts (scene u more (after own (live h))) q v
+  may_last work.Rest drawn same looks may = tt
+  may_last work.Login drawn same looks may = login_left q own h.past others ∙ may
+  may_last work.End drawn same looks may = come_left (live h) q own others may
+  may_last work.Refresh drawn same looks may = (come_left (live h) q own others may.0, attached_left q own h.past others ∙ may.1)
+  may_last (work.Read r) drawn same looks may = come_left (live h) q own others may
+  may_last (work.Changes r) drawn same looks may = (come_left (live h) q own others may.0, attached_left q own h.past others ∙ may.1)
+  may_last (work.Plan edit marks) drawn same looks may = (come_left (live h) q own others may.0, attached_left q own h.past others ∙ may.1, last (live h) own q edit marks (record { nodes = nodes; run = run; later = now; others = others }) may.2)
+  may_last (work.Commit c) drawn same looks may = record {
     come = come_left (live h) q own others may.come;
     unended = may.unended;
-    roots = subst (λ (d : Committing). d.roots ≡ map (λ f. root_of (own ++ h.past) f.other) d.writer.due) (sym (once_same t u same c may.looks))
+    roots = subst (λ (d : Committing). d.roots ≡ map (λ f. root_of (own ++ h.past) f.other) d.writer.due) (sym (same c refl))
         (may.roots ∙ sym (same_roots (λ f. root_of (own ++ h.past) f.other) (λ f. root_of h.past f.other) (once_looked t c).writer.due (λ f i. roots_last starts says h.clusters h.sessions nodes own h.past f.other now (drawn c refl f i))));
-    looks = may.looks;
+    looks = looks c refl;
   }
-  may_last (work.Upkeep u) drawn may = (come_left (live h) q own others may.0, upkeep_lasts starts says h nodes q own now others u may.1)
-  may_last (work.Move r) drawn may = (come_left (live h) q own others may.0, ended_lasts r own h.past may.1, may.2)
+  may_last (work.Upkeep u) drawn same looks may = (come_left (live h) q own others may.0, upkeep_lasts starts says h nodes q own now others u may.1)
+  may_last (work.Move r) drawn same looks may = (come_left (live h) q own others may.0, ended_lasts r own h.past may.1, may.2)
+  may_last (work.Tidy x) drawn same looks may = absurd may
+  may_last (work.Told e) drawn same looks may = absurd may

@@ -49,14 +49,15 @@ use Rattle.oak_sync.proofs.Standing.{IsPathDue, below_due, root_due}
 use Rattle.oak_step.specs.declared.upkeep.Upkeep.{Upkeep}
 use Rattle.oak_step.specs.declared.upkeep.Upkeep.TheVariants as upkeep
 use Rattle.oak_step.proofs.Backs.{goes_on, read_table, reads_on, told_table}
-use Rattle.oak_step.specs.Parts.{CommitsOn, EndsSo, IsGivenUp, IsPassing, KeepsUp, LearnsOn, Parts, PassesOn, PublishesFirst, PublishesOn, Steps, UpdatesDocument, UpdatesOn, after_ask, changes_on, learned_on, parts, parts_ended, pinned_base, published_on, read_on, sweep_event, swept_on}
+use Rattle.oak_step.specs.Parts.{CommitsOn, EndsSo, IsGivenUp, IsPassing, KeepsUp, LearnsOn, PassesOn, PublishesFirst, PublishesOn, Steps, UpdatesOn, after_ask, changes_on, learned_on, pinned_base, published_on, read_on, stepping, sweep_event, swept_on}
+use Rattle.oak_saves.specs.Saves.{Parts, UpdatesDocument, parts, parts_ended, saving}
 use Rattle.oak_world.specs.Steps.{BeginsBackWrite, MakesBackRead, MakesBackWrite, MakesCommit, MakesState, MakesSweep, MakesUpdate, MakesUpkeep, PassesTo}
 use Rattle.oak_world.specs.Worlds.{ActorState, WorldOf, node_in, observing_of, once_looked, parts_at, reading_of, running_as, running_of, state_of, with_parts, work_in}
-use Rattle.oak_world.specs.Kept.{IsLooking}
+use Rattle.oak_world.specs.Looks.{IsLooking}
 use Rattle.oak_world.proofs.Looking.{SamePrevious, both_previous, once_alone, same_previous, update_previous}
 use Rattle.oak_world.proofs.Making.{begins_is, ended_is, makes_last, makes_look, makes_mark, makes_undo, makes_write, observes_is, reads_is, runs_is, same_is, sets_is, told_is}
 use Rattle.oak_world.proofs.States.{LeavesLooks, SameReaders, same_readers}
-use Rattle.oak_step.proofs.Stages.{IsLookStage, IsMarkStage, last_stage, look_stage, mark_stage, undo_stage, write_stage}
+use Rattle.oak_saves.proofs.Stages.{IsLookStage, IsMarkStage, last_stage, look_stage, mark_stage, undo_stage, write_stage}
 use Rattle.oak_world.proofs.Sweepers.{IsLookingFor, looks_stay, root_told}
 
 -- parts with the same documents, memory and events
@@ -155,10 +156,9 @@ module _ {L : Type 0} (w : WorldOf L) (s : ℕ) (there : s < length w.actors) (q
   plan_makes edit marks here _ h = absurd h
 
   move_makes : (r : Revision) → work_in w.actors s ≡ work.Move r → (o : StepOut) → Steps s node (parts_at w s) (work.Move r) q v o → MakesState s (state_of w) (work.Move r) now v o
-  move_makes r here (answers.Wait o) h = (still (work.Move r) (work.Move r) here h.1.2 (λ t. refl) (refl, refl) (same_parts q (parts_at w s) h.0 h.1.0 h.1.1), h.1.2, h.1.3)
-  move_makes r here (answers.Ready (ends.Commit (end.Committed o))) h =
-      (tells (work.Move r) work.Rest here h.1.4 (λ t. refl) (refl, refl) (event.Refresh s memory.head) (with_pin memory s (pin_now memory)) (same_parts q (parts w.table (with_pin memory s (pin_now memory)) (reverse w.history.past ++ event.Refresh s memory.head ∷ [])) h.0 h.1.2 h.1.3), h.1.4, h.1.0, h.1.1)
-  move_makes r here _ h = absurd h.1
+  move_makes r here (answers.Wait o) h = (still (work.Move r) (work.Move r) here h.1 (λ t. refl) (refl, refl) h.0, h.1, h.2)
+  move_makes r here (answers.Ready (ends.Commit (end.Committed o))) h = (tells (work.Move r) work.Rest here h.3 (λ t. refl) (refl, refl) (event.Refresh s memory.head) (with_pin memory s (pin_now memory)) h.2, h.3, h.0, h.1)
+  move_makes r here _ h = absurd h
 
   -- ---- a commit
 
@@ -177,7 +177,7 @@ module _ {L : Type 0} (w : WorldOf L) (s : ℕ) (there : s < length w.actors) (q
     alike : (d : Committing) → v ≡ work.Commit d → SameReaders (work_in w.actors s) a.work
     alike d is = same_readers (work_in w.actors s) a.work (work.Commit c) (work.Commit d) here (does ∙ is) (refl, refl)
 
-    updates : (x : StepKind) (d : Committing) → q.memory ≡ memory → v ≡ work.Commit d → UpdatesDocument s w.table (reverse w.history.past) c q.table q.list d x → MakesUpdate s (state_of w) c now d x
+    updates : (x : StepKind) (d : Committing) → q.memory ≡ memory → v ≡ work.Commit d → UpdatesDocument s (saving w.table (reverse w.history.past) c) (saving q.table q.list d) x → MakesUpdate s (state_of w) c now d x
     updates kind.Mark d same is h = let at : IsMarkStage c = mark_stage c h.0 in makes_mark w s there leaves c q a d same (does ∙ is) (alike d is) at (root_first at) h.1
     updates kind.Write d same is h = makes_write w s there leaves c q a d same (does ∙ is) (alike d is) (write_stage c h.0) h.1
     updates kind.Read d same is h = let at : IsLookStage c = look_stage c h.0 in makes_look w s there leaves c q a d same (does ∙ is) (alike d is) at (looks at.looking at.looked) here h.1
@@ -185,10 +185,13 @@ module _ {L : Type 0} (w : WorldOf L) (s : ℕ) (there : s < length w.actors) (q
     updates kind.Undo d same is h = makes_undo w s there leaves c q a d same (does ∙ is) (alike d is) (undo_stage c h.0) (unlooking (undo_stage c h.0).undoing) h.1
     updates _ d same is h = absurd h
 
-    given_up : (o : StepOut) → q.memory ≡ memory → IsGivenUp w.table (reverse w.history.past) c q.table q.list v o → now ≡ after_want (state_of w) s (running_as s c)
-    given_up o same h =
+    wants : (d : Committing) → v ≡ work.Commit d → d ≡ wanting c → v ≡ work.Commit (wanting c)
+    wants d is so = is ∙ ap (λ (e : Committing). work.Commit e) so
+
+    given_up : (d : Committing) (o : StepOut) → q.memory ≡ memory → v ≡ work.Commit d → IsGivenUp (saving w.table (reverse w.history.past) c) (saving q.table q.list d) o → now ≡ after_want (state_of w) s (running_as s c)
+    given_up d o same is h =
         ap (λ (p : Parts). state_of (with_parts w s p a)) (same_parts q (parts_at w s) h.table same h.list)
-        ∙ (runs_is w s there leaves w.history.past (reverse w.history.past) w.table a (Some (running_as s (wanting c))) (λ k p. refl) (reverse-reverse w.history.past) (running_now w.table (work.Commit (wanting c)) h.does) (alike (wanting c) h.does)
+        ∙ (runs_is w s there leaves w.history.past (reverse w.history.past) w.table a (Some (running_as s (wanting c))) (λ k p. refl) (reverse-reverse w.history.past) (running_now w.table (work.Commit (wanting c)) (wants d is h.committer)) (alike (wanting c) (wants d is h.committer))
         ∙ ap (λ (b : Bool). record (state_of w) { running = with_session (state_of w).running s (Some (record (running_as s (wanting c)) { committed = b })) }) (sym (ap is_past h.going)))
 
     ends_so : (y : Work) (o : StepOut) → EndsSo c y o → (running_of w.table s y ≡ None) × SameReaders (work.Commit c) y
@@ -202,13 +205,13 @@ module _ {L : Type 0} (w : WorldOf L) (s : ℕ) (there : s < length w.actors) (q
         ap (λ (p : Parts). state_of (with_parts w s p a)) same
         ∙ ended_is w s there leaves c.revision a (ap (running_of w.table s) does ∙ quiet.0) (same_readers (work_in w.actors s) a.work (work.Commit c) v here does quiet.1)
 
-    commit_makes : (o : StepOut) → CommitsOn s node (parts_at w s) c q v o → MakesCommit s (state_of w) c now v o
+    commit_makes : (o : StepOut) → CommitsOn (stepping s node (parts_at w s)) c q v o → MakesCommit s (state_of w) c now v o
     commit_makes o (inl h) = inr (inl (h.0, ended o h.1 h.2, h.2))
-    commit_makes o (inr h) = by h.1
+    commit_makes o (inr h) = by h.3
       where
-        by : UpdatesOn s w.table (reverse w.history.past) c q.table q.list v o → MakesCommit s (state_of w) c now v o
-        by (inl g) = inl (g.0, g.1, g.2, g.3, updates g.0 g.2 h.0 g.3 g.4)
-        by (inr g) = inr (inr (g.answer, g.going, given_up o h.0 g, g.does))
+        by : UpdatesOn s (saving w.table (reverse w.history.past) c) (saving q.table q.list h.1) o → MakesCommit s (state_of w) c now v o
+        by (inl g) = inl (g.0, g.1, h.1, h.2, updates g.0 h.1 h.0 h.2 g.2)
+        by (inr g) = inr (inr (g.answer, g.going, given_up h.1 o h.0 h.2 g, wants h.1 h.2 g.committer))
 
   -- ---- background work, and the settings
 
@@ -220,7 +223,7 @@ module _ {L : Type 0} (w : WorldOf L) (s : ℕ) (there : s < length w.actors) (q
     told_previous : (b : BackWrite) (p : Path) → IsPathDue b p → SamePrevious w.table (after_ask w.table (publishing.due b))
     told_previous b p told = both_previous w.table (after_update w.table (publishing.back_op p b.upto)) (after_ask w.table (publishing.due b)) (update_previous w.table (publishing.back_op p b.upto) refl) (told_table w.table b p told)
 
-    publishes : (b : BackWrite) (o : StepOut) → PublishesOn s node (parts_at w s) b q v o → MakesBackWrite s (state_of w) b now v o
+    publishes : (b : BackWrite) (o : StepOut) → PublishesOn (stepping s node (parts_at w s)) b q v o → MakesBackWrite s (state_of w) b now v o
     publishes b (answers.Went kind.Back) h =
         let p = below_due b h.0 in
         let goes = goes_on w.table b p.0 p.1 in (
@@ -242,11 +245,11 @@ module _ {L : Type 0} (w : WorldOf L) (s : ℕ) (there : s < length w.actors) (q
     publishes b answers.Memory h = (nothing h.0 h.1, h.1)
     publishes b _ h = absurd h
 
-    publishes_first : (n : Pending) (o : StepOut) → PublishesFirst s node (parts_at w s) n q v o → BeginsBackWrite s (state_of w) n now v o
+    publishes_first : (n : Pending) (o : StepOut) → PublishesFirst (stepping s node (parts_at w s)) n q v o → BeginsBackWrite s (state_of w) n now v o
     publishes_first n o (inl h) = inl (h.0, nothing h.1.0 h.1.1, h.1.1)
     publishes_first n o (inr h) = inr (h.0, h.1, h.2, publishes h.1 o h.3)
 
-    learns : (b : BackRead) (o : StepOut) → LearnsOn s node (parts_at w s) b q v o → MakesBackRead s (state_of w) b now v o
+    learns : (b : BackRead) (o : StepOut) → LearnsOn (stepping s node (parts_at w s)) b q v o → MakesBackRead s (state_of w) b now v o
     learns b (answers.Went kind.Back) h = (
       h.0,
       sets (work.Upkeep k) (work.Upkeep (upkeep.Read (learned_on w.table b))) here h.2 (λ t. refl) (refl, refl) (event.Went s kind.Back) (after_ask w.table (learning.due b)) (same_previous w.table (after_ask w.table (learning.due b)) (read_table w.table b h.0)) h.1
@@ -258,7 +261,7 @@ module _ {L : Type 0} (w : WorldOf L) (s : ℕ) (there : s < length w.actors) (q
     learns b answers.Memory h = (nothing h.0 h.1, h.1)
     learns b _ h = absurd h
 
-    passes : (x : Sweeper) (o : StepOut) → PassesOn s node (parts_at w s) x q v o → MakesSweep s (state_of w) x now v o
+    passes : (x : Sweeper) (o : StepOut) → PassesOn (stepping s node (parts_at w s)) x q v o → MakesSweep s (state_of w) x now v o
     passes x (answers.Went kind.Sweep) h = (by (sweeping.stage_of x) refl h.0, h.2)
       where
         made : (e : Event) (t : Table) → SamePrevious w.table t → q ≡ parts t memory (reverse w.history.past ++ e ∷ []) → now ≡ record (state_of w) { past = e ∷ w.history.past; table = t }
@@ -291,7 +294,7 @@ module _ {L : Type 0} (w : WorldOf L) (s : ℕ) (there : s < length w.actors) (q
     passes x answers.Memory h = (nothing h.0 h.1, h.1)
     passes x _ h = absurd h
 
-  upkeep_makes : (k : Upkeep) → work_in w.actors s ≡ work.Upkeep k → (o : StepOut) → KeepsUp s node (parts_at w s) k q v o → MakesUpkeep s (state_of w) k now v o
+  upkeep_makes : (k : Upkeep) → work_in w.actors s ≡ work.Upkeep k → (o : StepOut) → KeepsUp (stepping s node (parts_at w s)) k q v o → MakesUpkeep s (state_of w) k now v o
   upkeep_makes upkeep.Write here (answers.Went kind.Back) h = (h.0, h.1, tells (work.Upkeep upkeep.Write) (work.Upkeep (upkeep.Noted h.0)) here h.3 (λ t. refl) (refl, refl) (event.Went s kind.Back) (without_seen memory) h.2, h.3)
   upkeep_makes upkeep.Write here answers.Memory h = (still (work.Upkeep upkeep.Write) work.Rest here h.1 (λ t. refl) (refl, refl) h.0, h.1)
   upkeep_makes upkeep.Write here _ h = absurd h
@@ -323,15 +326,17 @@ module _ {L : Type 0} (w : WorldOf L) (s : ℕ) (there : s < length w.actors) (q
 
   -- ---- all
 
-  pub makes : (u : Work) → work_in w.actors s ≡ u → (u ≡ work.Rest → ⊥) → ((c : Committing) → u ≡ work.Commit c → ((once_looked w.table c).roots ≡ map (λ (f : Met). root_of w.history.past f.other) (once_looked w.table c).writer.due) × ((k : Look) → c.looking ≡ Some k → IsLooking c k))
+  pub makes : (u : Work) → work_in w.actors s ≡ u → ((c : Committing) → u ≡ work.Commit c → ((once_looked w.table c).roots ≡ map (λ (f : Met). root_of w.history.past f.other) (once_looked w.table c).writer.due) × ((k : Look) → c.looking ≡ Some k → IsLooking c k))
       → (o : StepOut) → Steps s node (parts_at w s) u q v o → MakesState s (state_of w) u now v o
-  makes work.Rest here busy roots o h = absurd (busy refl)
-  makes work.Login here busy roots o h = login_makes here o h
-  makes work.End here busy roots o h = end_makes here o h
-  makes work.Refresh here busy roots o h = refresh_makes here o h
-  makes (work.Read r) here busy roots o h = read_makes r here o h
-  makes (work.Changes r) here busy roots o h = changes_make r here o h
-  makes (work.Plan edit marks) here busy roots o h = plan_makes edit marks here o h
-  makes (work.Commit c) here busy roots o h = commit_makes c here (roots c refl).0 (roots c refl).1 o h
-  makes (work.Upkeep k) here busy roots o h = upkeep_makes k here o h
-  makes (work.Move r) here busy roots o h = move_makes r here o h
+  makes work.Rest here roots o h = absurd h
+  makes work.Login here roots o h = login_makes here o h
+  makes work.End here roots o h = end_makes here o h
+  makes work.Refresh here roots o h = refresh_makes here o h
+  makes (work.Read r) here roots o h = read_makes r here o h
+  makes (work.Changes r) here roots o h = changes_make r here o h
+  makes (work.Plan edit marks) here roots o h = plan_makes edit marks here o h
+  makes (work.Commit c) here roots o h = commit_makes c here (roots c refl).0 (roots c refl).1 o h
+  makes (work.Upkeep k) here roots o h = upkeep_makes k here o h
+  makes (work.Move r) here roots o h = move_makes r here o h
+  makes (work.Tidy x) here roots o h = absurd h
+  makes (work.Told e) here roots o h = absurd h

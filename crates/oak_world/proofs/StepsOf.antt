@@ -1,5 +1,5 @@
 -- What a step of a session owes: the events that it adds, what is kept, and what is told of it.
-use Rattle.std.proofs.Common.{◌≡◌, ℕ, Bool, true, false, cond, ◌&&◌, ◌||◌, Option, Some, None, List, [], ◌∷◌, ◌++◌, refl, sym, ap, ◌∙◌}
+use Rattle.std.proofs.Common.{◌≡◌, ◌≤◌, ℕ, Bool, true, false, cond, ◌&&◌, ◌||◌, Option, Some, None, List, [], ◌∷◌, ◌++◌, refl, sym, ap, ◌∙◌}
 use Rattle.std.specs.Prelude.{◌==◌, slice_get}
 use Rattle.std.specs.Option.{option_map_or}
 use Rattle.std.specs.List.{list_any}
@@ -9,32 +9,50 @@ use Rattle.oak_machine.specs.History.{Past}
 use Rattle.oak_machine.specs.Laws.{AreOthers, Says, Starts, after, is_event_of}
 use Rattle.oak_machine.specs.Sessions.{is_attached, is_stopped, is_stopped_under}
 use Rattle.oak_machine.specs.Steps.{is_kind, step_number, where_test}
+use Rattle.core_keep.specs.Holding.{IsHoldingStep}
+use Rattle.core_world.specs.Held.{holding_in}
 use Rattle.core_world.specs.Kept.{IsKept}
+use Rattle.core_world.specs.Numbers.{last_number, IsNumberStep}
 use Rattle.core_world.specs.States.{State, history_in}
 use Rattle.core_world.proofs.Flights.{number_itself, other_number, same_number}
+use Rattle.core_world.proofs.Held.{still_holding}
+use Rattle.core_world.proofs.Numbers.{still_step}
+use Rattle.oak_store.specs.Tables.{Table}
 use Rattle.oak_port.specs.declared.task.StepOut.{StepOut}
 use Rattle.oak_port.specs.declared.task.StepOut.TheVariants as answers
 use Rattle.oak_port.specs.Ports.{AreOfStep, Makes as Tells, is_by_due}
 use Rattle.oak_step.specs.declared.work.Work.{Work}
-use Rattle.oak_world.specs.Kept.{May}
-use Rattle.oak_world.proofs.Looking.{SamePrevious}
+use Rattle.oak_world.specs.Kept.{May, scene}
+use Rattle.oak_world.proofs.Changing.{Changes}
 use Rattle.oak_world.specs.Seen.{shown_work}
 use Rattle.oak_step.specs.Works.{kind_due}
 use Rattle.oak_world.specs.Steps.{attached_after, attaching, is_made}
 
--- a step of session s, from one state to the next: the events that it adds, which are of no other session; the state is kept, the session may do what it does then, it is attached then as the journal tells, and it is told so
+-- a step of session s, from one state to the next: the events that it adds, which are of no other session; the state is kept, the session may do what it does then, it is attached then as the journal tells, the documents are numbered on, what is held rises, and it is told so
 pub record IsStepOf (starts : Starts) (says : Says) (s : ℕ) (w : State) (v : Work) (u : State) (x : Work) (o : StepOut) : Type 0 where
   pub own : Past
   pub grown : history_in u ≡ after own (history_in w)
   pub kept : IsKept starts says u
-  pub may : May starts u.table (after own (history_in w)) s x
+  pub may : May starts (scene u.table u.formers (after own (history_in w))) s x
   pub apart : (q : ℕ) → (q == s) ≡ false → AreOthers q own w.past
   pub attached : attached_after v o (is_attached w.past s) ≡ is_attached (own ++ w.past) s
   pub unstopped : (k : ℕ) → is_stopped w.past k ≡ false → is_stopped (own ++ w.past) k ≡ false
-  pub same : SamePrevious w.table u.table
+  pub changes : Changes w u
+  pub numbers : w.table.number ≤ last_number → IsNumberStep w.table u.table
+  pub holds : IsHoldingStep (holding_in w) (holding_in u)
   pub tells : Tells (history_in w) s (shown_work v) o own (shown_work x)
   pub of_step : AreOfStep (history_in w) s (shown_work v) o own
   pub as_due : is_by_due (kind_due v) own ≡ true
+
+-- ---- documents and what is held, where they stay
+
+-- documents that stay are numbered as they are
+pub numbers_stay : (t : Table) → t.number ≤ last_number → IsNumberStep t t
+numbers_stay t low = still_step t
+
+-- what is held stays
+pub holds_still : (w : State) → IsHoldingStep (holding_in w) (holding_in w)
+holds_still w = still_holding (holding_in w)
 
 -- ---- numbers and kinds
 

@@ -1,5 +1,5 @@
 -- A step of a state is one of that state with former documents told of: no step of a session asks for them.
-use Rattle.std.proofs.Common.{◌≡◌, ◌⊎◌, inl, inr, ℕ, Option, Some, None, Result, Ok, Err, List, refl, ap, ◌∙◌}
+use Rattle.std.proofs.Common.{◌≡◌, inl, inr, ℕ, Some, None, Result, Ok, Err, List, refl, ap, ◌∙◌}
 use Rattle.oak_commit.specs.Clashing.{Met, mark_op}
 use Rattle.oak_commit.specs.Committing.{Committing}
 use Rattle.oak_commit.specs.Writing.{last_op}
@@ -23,7 +23,7 @@ use Rattle.core_clash.specs.Core.{root_of}
 use Rattle.core_clash.specs.Sessions.{Running}
 use Rattle.core_keep.specs.Formers.{Formers}
 use Rattle.core_world.specs.States.{State, node_of, nodes_in}
-use Rattle.core_world.specs.Steps.{after_last, after_mark, lasted_by, marked_by}
+use Rattle.core_world.specs.Steps.{lasted_by, marked_by}
 use Rattle.oak_step.specs.declared.upkeep.Upkeep.{Upkeep}
 use Rattle.oak_step.specs.declared.upkeep.Upkeep.TheVariants as upkeep
 use Rattle.oak_step.specs.declared.work.Work.{Work}
@@ -157,4 +157,9 @@ module _ (f : Formers) (s : ℕ) (w u : State) where
   makes_told (work.Move r) v (answers.Ready (ends.Commit (end.Committed o))) h = (same _ h.0, h.1, h.2, h.3)
   makes_told (work.Move r) v _ h = absurd h
   makes_told (work.Upkeep k) v o h = upkeep_told k v o h
+  makes_told (work.Tidy x) v answers.Memory h = (same _ h.0, h.1)
+  makes_told (work.Tidy x) v (answers.Went k) h = (same _ h.0, h.1, h.2, h.3)
+  makes_told (work.Tidy x) v (answers.Ready e) h = (same _ h.0, h.1, h.2, h.3)
+  makes_told (work.Tidy x) v _ h = absurd h.3
+  makes_told (work.Told e) v o h = absurd h
   makes_told work.Rest v o h = absurd h

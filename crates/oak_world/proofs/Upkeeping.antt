@@ -1,5 +1,5 @@
 -- The steps of background work and on the settings, from one state to the next.
-use Rattle.oak_world.proofs.Looking.{update_previous}
+use Rattle.oak_world.proofs.Changing.{plainly, settings_plain, unchanged, update_plain}
 use Rattle.std.proofs.Common.{Bool, None, Option, Some, [], ap, cond, false, inl, inr, is_some, refl, subst, sym, true, ℕ, ◌&&◌, ◌∙◌, ◌∷◌, ◌≡◌, ◌⊎◌}
 use Rattle.std.specs.Prelude.{◌==◌, IsSome, length, slice_get}
 use Rattle.std.specs.BTreeMap.{is_at}
@@ -30,14 +30,16 @@ use Rattle.oak_node.specs.Notes.{IsPending}
 use Rattle.oak_node.specs.Pins.{pin_now, pin_of}
 use Rattle.core_heads.proofs.Orders.{at_most_itself}
 use Rattle.core_nodes.specs.Nodes.{IsMemoryOf, base_of_pin, cursor_owner}
-use Rattle.core_world.specs.Kept.{IsKept, WereOnRoot}
+use Rattle.core_world.specs.Kept.{AreLayersKept, IsKept, WereOnRoot}
 use Rattle.core_world.specs.States.{State, history_in, memory_of, node_of, nodes_in}
-use Rattle.core_world.specs.Steps.{after_attach, after_back, after_checkpoint, after_detach, after_learn, after_learn_swept, after_observe, after_out, after_pending, after_refresh, after_release, after_sweep, after_unfound, after_went, setting_op}
+use Rattle.core_world.specs.Steps.{after_attach, after_back, after_checkpoint, after_detach, after_learn, after_learn_swept, after_observe, after_out, after_pending, after_refresh, after_release, after_sweep, after_unfound, after_went}
 use Rattle.oak_sync.specs.Publishing.{back_op}
 use Rattle.core_world.proofs.Backs.{heard, own_entry_is, told_now}
 use Rattle.core_world.proofs.Draws.{base_is}
 use Rattle.core_world.proofs.Flights.{number_itself}
 use Rattle.core_world.proofs.Lives.{its_node, on_node, node_alive}
+use Rattle.core_world.proofs.Numbering.{back_numbers, settings_numbers}
+use Rattle.core_world.proofs.Rising.{attach_rises, attach_unfound_rises, back_rises, checkpoint_rises, detach_rises, learn_rises, learn_swept_rises, observe_rises, out_rises, pending_rises, refresh_rises, release_rises, release_unfound_rises, sweep_rises, went_rises}
 use Rattle.core_world.proofs.Sweeps.{published_local}
 use Rattle.core_world.proofs.Whole.{attach_keeps, attach_unfound_keeps, back_keeps, checkpoint_keeps, detach_keeps, layers_of, learn_keeps, learn_swept_keeps, observe_whole, out_keeps, pending_keeps, refresh_whole, release_keeps, release_unfound_keeps, sweep_keeps, went_whole}
 use Rattle.oak_port.specs.declared.task.StepOut.{StepOut}
@@ -68,7 +70,7 @@ use Rattle.oak_world.proofs.Ahead.{begins_ahead, below_root, goes_ahead}
 use Rattle.oak_world.proofs.Lasting.{local_lasts}
 use Rattle.oak_world.proofs.Attached.{attached_reads}
 use Rattle.oak_world.proofs.Sweepers.{document_passed, either_stage, root_read, sweep_told, target_own, target_published}
-use Rattle.oak_world.proofs.StepsOf.{IsStepOf, apart_one, chosen, flipped, kind_told, none_stopped, refused_stays, with_true}
+use Rattle.oak_world.proofs.StepsOf.{IsStepOf, apart_one, chosen, flipped, holds_still, kind_told, none_stopped, numbers_stay, refused_stays, with_true}
 
 module _ (starts : Starts) (says : Says) (proper : StartsProper starts) (w : State) (kept : IsKept starts says w) (s : ℕ) (there : is_some (slice_get w.sessions s) ≡ true) (none_halted : (k : ℕ) → is_stopped w.past k ≡ false) where
   -- its cluster node isn't stopped
@@ -77,6 +79,9 @@ module _ (starts : Starts) (says : Says) (proper : StartsProper starts) (w : Sta
 
   abbrev h : History
   h = history_in w
+
+  abbrev layers : AreLayersKept starts says w
+  layers = layers_of starts says w kept
 
   abbrev StepOf : Work → State → Work → StepOut → Type 0
   StepOf v u x o = IsStepOf starts says s w v u x o
@@ -96,7 +101,7 @@ module _ (starts : Starts) (says : Says) (proper : StartsProper starts) (w : Sta
 
   -- memory was refused
   refused_step : (k : Upkeep) → Tells (history_in w) s (shown_upkeep k) answers.Memory [] Idle → (u : State) (x : Work) → u ≡ w → x ≡ work.Rest → StepOf (work.Upkeep k) u x answers.Memory
-  refused_step k tells u x same is = at_those (work.Upkeep k) answers.Memory w work.Rest u x same is (record { own = []; grown = refl; kept = kept; may = tt; apart = λ q m. refl; attached = refused_stays (work.Upkeep k) (is_attached w.past s); unstopped = λ q m. m; same = λ i q. refl; tells = tells; of_step = refl; as_due = refl })
+  refused_step k tells u x same is = at_those (work.Upkeep k) answers.Memory w work.Rest u x same is (record { own = []; grown = refl; kept = kept; may = tt; apart = λ q m. refl; attached = refused_stays (work.Upkeep k) (is_attached w.past s); unstopped = λ q m. m; changes = unchanged w _ refl refl; numbers = numbers_stay w.table; holds = holds_still w; tells = tells; of_step = refl; as_due = refl })
 
   module _ (come : IsPresent (history_in w) s) (few : slice_get w.sessions (cursor_owner s) ≡ None) (unobserved : w.observing s ≡ None) (idle : w.running s ≡ None) (unread : w.reading s ≡ None) where
     -- ---- a background write
@@ -110,7 +115,9 @@ module _ (starts : Starts) (says : Says) (proper : StartsProper starts) (w : Sta
       apart = apart_one w.past s (event.Went s kind.Back) (λ q m. flipped q s m);
       attached = refl;
       unstopped = λ q k. k;
-      same = λ i q. refl;
+      changes = unchanged w _ refl refl;
+      numbers = numbers_stay w.table;
+      holds = pending_rises starts says proper w layers s come.login come.stays;
       tells = (node_of w s, on, refl, refl, ap Publishing upto_is);
       of_step = kind_told kind.Back (s == s && true) (with_true (s == s) (number_itself s));
       as_due = refl;
@@ -149,7 +156,9 @@ module _ (starts : Starts) (says : Says) (proper : StartsProper starts) (w : Sta
         apart = apart_one w.past s (event.Went s kind.Back) (λ q m. flipped q s m);
         attached = still (answers.Went kind.Back);
         unstopped = λ q k. k;
-        same = update_previous w.table (back_op p b.upto) refl;
+        changes = plainly w _ (update_plain w.table p (back_op p b.upto) refl refl) refl;
+        numbers = λ n. (back_numbers w n s p b.upto).0;
+        holds = back_rises starts says proper w layers s come.login p b.upto come.stays other;
         tells = subst (λ (y : Shows). Tells (history_in w) s y (answers.Went kind.Back) (event.Went s kind.Back ∷ []) (Publishing b.upto)) (sym shown) (refl, refl, refl);
         of_step = kind_told kind.Back (s == s && true) (with_true (s == s) (number_itself s));
         as_due = refl;
@@ -167,14 +176,16 @@ module _ (starts : Starts) (says : Says) (proper : StartsProper starts) (w : Sta
         apart = apart_one w.past s (event.Out (node_of w s) b.upto) (λ q m. refl);
         attached = still (answers.Ready (ends.Published b.upto));
         unstopped = λ q k. k;
-        same = update_previous w.table (back_op [] b.upto) refl;
+        changes = plainly w _ (update_plain w.table [] (back_op [] b.upto) refl refl) refl;
+        numbers = λ n. (back_numbers w n s [] b.upto).1;
+        holds = out_rises starts says proper w layers s come.login b.upto of_node (subst (λ (k : ℕ). is_at_most b.upto (local w.begin w.past k) ≡ true) of_node own.1);
         tells = subst (λ (y : Shows). Tells (history_in w) s y (answers.Ready (ends.Published b.upto)) (event.Out (node_of w s) b.upto ∷ []) Idle) (sym shown) (node_of w s, on, refl, refl, refl);
         of_step = subst (λ (y : Shows). AreOfStep (history_in w) s y (answers.Ready (ends.Published b.upto)) (event.Out (node_of w s) b.upto ∷ [])) (sym shown) (kind_told kind.Back (is_on (history_in w) s (node_of w s)) is_mine);
         as_due = refl;
       }
 
       still_step : (u : State) (x : Work) → u ≡ w → x ≡ work.Rest → StepOf v u x answers.Memory
-      still_step u x same is = at_those v answers.Memory w work.Rest u x same is (record { own = []; grown = refl; kept = kept; may = tt; apart = λ q m. refl; attached = refused_stays v (is_attached w.past s); unstopped = λ q m. m; same = λ i q. refl; tells = subst (λ (y : Shows). Tells (history_in w) s y answers.Memory [] Idle) (sym shown) (refl, refl); of_step = refl; as_due = refl })
+      still_step u x same is = at_those v answers.Memory w work.Rest u x same is (record { own = []; grown = refl; kept = kept; may = tt; apart = λ q m. refl; attached = refused_stays v (is_attached w.past s); unstopped = λ q m. m; changes = unchanged w _ refl refl; numbers = numbers_stay w.table; holds = holds_still w; tells = subst (λ (y : Shows). Tells (history_in w) s y answers.Memory [] Idle) (sym shown) (refl, refl); of_step = refl; as_due = refl })
 
       publish_step : (u : State) (x : Work) (o : StepOut) → MakesBackWrite s w b u x o → StepOf v u x o
       publish_step u x (answers.Went kind.Back) m =
@@ -211,7 +222,9 @@ module _ (starts : Starts) (says : Says) (proper : StartsProper starts) (w : Sta
             apart = apart_one w.past s (event.Went s kind.Back) (λ q m. flipped q s m);
             attached = refl;
             unstopped = λ q k. k;
-            same = λ i q. refl;
+            changes = unchanged w _ refl refl;
+            numbers = numbers_stay w.table;
+            holds = went_rises starts says proper w layers s come.login kind.Back refl refl come.stays;
             tells = subst (λ (y : Shows). Tells (history_in w) s y (answers.Went kind.Back) (event.Went s kind.Back ∷ []) (Learning d.last_rev)) (sym (ap (shown_read b) at)) (d.last_rev, told.public, refl, refl, refl);
             of_step = kind_told kind.Back (s == s && true) (with_true (s == s) (number_itself s));
             as_due = refl;
@@ -226,7 +239,9 @@ module _ (starts : Starts) (says : Says) (proper : StartsProper starts) (w : Sta
         apart = apart_one w.past s (event.In (node_of w s) (learned (memory_of w s) b.last b.sweep).head) (λ q m. refl);
         attached = refl;
         unstopped = λ q k. k;
-        same = λ i q. refl;
+        changes = unchanged w _ refl refl;
+        numbers = numbers_stay w.table;
+        holds = learn_rises starts says proper w layers s come.login on_now b.last b.sweep were;
         tells = subst (λ (y : Shows). Tells (history_in w) s y (answers.Ready (ends.Learnt (learned (memory_of w s) b.last b.sweep).head)) (event.In (node_of w s) (learned (memory_of w s) b.last b.sweep).head ∷ []) Idle) (sym (ap (shown_read b) at)) (node_of w s, on, λ r seen. heard starts says proper w (layers_of starts says w kept) s come.login b.last b.sweep were r seen, refl, refl);
         of_step = subst (λ (y : Shows). AreOfStep (history_in w) s y (answers.Ready (ends.Learnt (learned (memory_of w s) b.last b.sweep).head)) (event.In (node_of w s) (learned (memory_of w s) b.last b.sweep).head ∷ [])) (sym (ap (shown_read b) at)) (kind_told kind.Learn (is_on (history_in w) s (node_of w s)) is_mine);
         as_due = refl;
@@ -281,7 +296,9 @@ module _ (starts : Starts) (says : Says) (proper : StartsProper starts) (w : Sta
         apart = apart_one w.past s (event.Went s kind.Sweep) (λ q m. flipped q s m);
         attached = unmoved_stays (answers.Went kind.Sweep);
         unstopped = λ q k. k;
-        same = λ i q. refl;
+        changes = unchanged w _ refl refl;
+        numbers = numbers_stay w.table;
+        holds = went_rises starts says proper w layers s come.login kind.Sweep refl refl come.stays;
         tells = subst (λ (z : Shows). Tells (history_in w) s z (answers.Went kind.Sweep) (event.Went s kind.Sweep ∷ []) (shown_sweep next (sweeping.stage_of next))) (shown_there swept.Root at) (node_of w s, on, refl, refl, ap (shown_sweep next) read.0 ∙ ap Passing (target ∙ target_published starts says w kept (node_of w s) node));
         of_step = kind_told kind.Sweep (s == s && true) (with_true (s == s) (number_itself s));
         as_due = refl;
@@ -309,7 +326,9 @@ module _ (starts : Starts) (says : Says) (proper : StartsProper starts) (w : Sta
         apart = apart_one w.past s (event.Went s kind.Sweep) (λ q m. flipped q s m);
         attached = unmoved_stays (answers.Went kind.Sweep);
         unstopped = λ q k. k;
-        same = λ i q. refl;
+        changes = unchanged w _ refl refl;
+        numbers = numbers_stay w.table;
+        holds = went_rises starts says proper w layers s come.login kind.Sweep refl refl come.stays;
         tells = subst (λ (z : Shows). Tells (history_in w) s z (answers.Went kind.Sweep) (event.Went s kind.Sweep ∷ []) (shown_sweep next (sweeping.stage_of next))) (shown_there swept.Document at)
             (refl, inl (refl, either_stage (sweeping.stage_of next) passed.0 (λ z. shown_sweep next z ≡ Passing y.target) (ap Passing passed.1) (ap Passing passed.1)));
         of_step = kind_told kind.Sweep (s == s && true) (with_true (s == s) (number_itself s));
@@ -339,7 +358,9 @@ module _ (starts : Starts) (says : Says) (proper : StartsProper starts) (w : Sta
         apart = apart_one w.past s (event.Sweep (node_of w s) y.target) (λ q m. refl);
         attached = unmoved_stays (answers.Went kind.Sweep);
         unstopped = λ q k. k;
-        same = update_previous w.table (sweeping.sweep_op y.target) refl;
+        changes = plainly w _ (update_plain w.table [] (sweeping.sweep_op y.target) refl refl) refl;
+        numbers = λ n. (back_numbers w n s [] y.target).2;
+        holds = sweep_rises starts says proper w layers s come.login y.target (of_its_node mine) (low mine);
         tells = subst (λ (z : Shows). Tells (history_in w) s z (answers.Went kind.Sweep) (event.Sweep (node_of w s) y.target ∷ []) (shown_sweep next (sweeping.stage_of next))) (shown_there swept.Publish at)
             (refl, inr (node_of w s, on, refl, ap (shown_sweep next) told.0 ∙ ap Sweeping told.1));
         of_step = kind_told kind.Sweep (is_on (history_in w) s (node_of w s)) is_mine;
@@ -359,7 +380,9 @@ module _ (starts : Starts) (says : Says) (proper : StartsProper starts) (w : Sta
         apart = apart_one w.past s (event.Went s kind.Learn) (λ q m. flipped q s m);
         attached = unmoved_stays (answers.Ready (ends.Swept y.target));
         unstopped = λ q k. k;
-        same = λ i q. refl;
+        changes = unchanged w _ refl refl;
+        numbers = numbers_stay w.table;
+        holds = learn_swept_rises starts says proper w layers s come.login y.target come.stays (of_its_node mine) (published_local starts says w layers (node_of w s) y.target (low mine));
         tells = subst (λ (z : Shows). Tells (history_in w) s z (answers.Ready (ends.Swept y.target)) (event.Went s kind.Learn ∷ []) Idle) (shown_there swept.Learn at) (refl, refl, refl);
         of_step = subst (λ (z : Shows). AreOfStep (history_in w) s z (answers.Ready (ends.Swept y.target)) (event.Went s kind.Learn ∷ [])) (shown_there swept.Learn at) (kind_told kind.Learn (s == s && true) (with_true (s == s) (number_itself s)));
         as_due = refl;
@@ -385,7 +408,7 @@ module _ (starts : Starts) (says : Says) (proper : StartsProper starts) (w : Sta
       sweep_step may u x (answers.Ready (ends.Swept r)) m =
           subst (λ (z : Revision). StepOf v u x (answers.Ready (ends.Swept z))) (sym m.1)
           (at_those v (answers.Ready (ends.Swept y.target)) (after_learn_swept w s y.target) work.Rest u x m.2 m.3 (swept_step m.0 (subst (MaySweepOn (history_in w) s y) m.0 may)))
-      sweep_step may u x answers.Memory m = at_those v answers.Memory w work.Rest u x m.0 m.1 (record { own = []; grown = refl; kept = kept; may = tt; apart = λ q m. refl; attached = refused_stays v (is_attached w.past s); unstopped = λ q m. m; same = λ i q. refl; tells = subst (λ (z : Shows). Tells (history_in w) s z answers.Memory [] Idle) (sym shown) (unswept_step (sweeping.stage_of y)); of_step = refl; as_due = refl })
+      sweep_step may u x answers.Memory m = at_those v answers.Memory w work.Rest u x m.0 m.1 (record { own = []; grown = refl; kept = kept; may = tt; apart = λ q m. refl; attached = refused_stays v (is_attached w.past s); unstopped = λ q m. m; changes = unchanged w _ refl refl; numbers = numbers_stay w.table; holds = holds_still w; tells = subst (λ (z : Shows). Tells (history_in w) s z answers.Memory [] Idle) (sym shown) (unswept_step (sweeping.stage_of y)); of_step = refl; as_due = refl })
       sweep_step may u x _ m = absurd m
 
     -- ---- the settings
@@ -399,7 +422,9 @@ module _ (starts : Starts) (says : Says) (proper : StartsProper starts) (w : Sta
       apart = apart_one w.past s (event.Checkpoint i pin.base) (λ q m. refl);
       attached = refl;
       unstopped = λ q k. k;
-      same = update_previous w.table (setting_op (change.Checkpoint i pin)) refl;
+      changes = plainly w _ (settings_plain w.table (change.Checkpoint i pin)) refl;
+      numbers = λ n. settings_numbers w n (change.Checkpoint i pin);
+      holds = checkpoint_rises starts says proper w layers s come.login i pin on_now come.stays detached has;
       tells = (pin.base, base_is starts says proper w kept.sessions s (node_alive starts says proper w kept.sessions s there on_now) come.login come.stays detached ∙ ap (λ (o : Option Pin). Some (option_map_or (λ (p : Pin). p.base) o (memory_of w s).head)) has, refl, refl);
       of_step = refl;
       as_due = refl;
@@ -425,7 +450,9 @@ module _ (starts : Starts) (says : Says) (proper : StartsProper starts) (w : Sta
       apart = apart_one w.past s (event.Release i) (λ q m. refl);
       attached = refl;
       unstopped = λ q k. k;
-      same = update_previous w.table (setting_op (change.Release i)) refl;
+      changes = plainly w _ (settings_plain w.table (change.Release i)) refl;
+      numbers = λ n. settings_numbers w n (change.Release i);
+      holds = release_rises starts says proper w layers i (some_kept i has);
       tells = (refl, refl);
       of_step = refl;
       as_due = refl;
@@ -442,7 +469,9 @@ module _ (starts : Starts) (says : Says) (proper : StartsProper starts) (w : Sta
           apart = apart_one w.past s (event.Went s kind.Settings) (λ q m. flipped q s m);
           attached = refl;
           unstopped = λ q k. k;
-          same = update_previous w.table (setting_op (change.Release i)) refl;
+          changes = plainly w _ (settings_plain w.table (change.Release i)) refl;
+          numbers = λ n. settings_numbers w n (change.Release i);
+          holds = release_unfound_rises starts says proper w layers s come.login i come.stays gone;
           tells = (gone, refl, refl);
           of_step = kind_told kind.Settings (s == s && true) (with_true (s == s) (number_itself s));
           as_due = refl;
@@ -461,7 +490,9 @@ module _ (starts : Starts) (says : Says) (proper : StartsProper starts) (w : Sta
           apart = apart_one w.past s (event.Attach s i) (λ q m. flipped q s m);
           attached = chosen s true (is_attached w.past s);
           unstopped = λ q k. k;
-          same = update_previous w.table (setting_op (change.Attach s i)) refl;
+          changes = plainly w _ (settings_plain w.table (change.Attach s i)) refl;
+          numbers = λ n. settings_numbers w n (change.Attach s i);
+          holds = attach_rises starts says proper w layers s come.login i pin.base on_now come.stays detached unread there_is;
           tells = (there_is, refl, refl);
           of_step = kind_told kind.Settings (s == s) (number_itself s);
           as_due = refl;
@@ -478,7 +509,9 @@ module _ (starts : Starts) (says : Says) (proper : StartsProper starts) (w : Sta
           apart = apart_one w.past s (event.Went s kind.Settings) (λ q m. flipped q s m);
           attached = refl;
           unstopped = λ q k. k;
-          same = update_previous w.table (setting_op (change.Attach s i)) refl;
+          changes = plainly w _ (settings_plain w.table (change.Attach s i)) refl;
+          numbers = λ n. settings_numbers w n (change.Attach s i);
+          holds = attach_unfound_rises starts says proper w layers s come.login i come.stays gone;
           tells = (gone, refl, refl);
           of_step = kind_told kind.Settings (s == s && true) (with_true (s == s) (number_itself s));
           as_due = refl;
@@ -496,7 +529,9 @@ module _ (starts : Starts) (says : Says) (proper : StartsProper starts) (w : Sta
       apart = apart_one w.past s (event.Refresh s (memory_of w s).head) (λ q m. flipped q s m);
       attached = chosen s false (is_attached w.past s);
       unstopped = λ q k. k;
-      same = λ i q. refl;
+      changes = unchanged w _ refl refl;
+      numbers = numbers_stay w.table;
+      holds = refresh_rises starts says proper w layers s come.login on_now come.stays idle unread unobserved;
       tells = ((memory_of w s).head, refl, refl, refl);
       of_step = kind_told kind.Pin (s == s) (number_itself s);
       as_due = refl;
@@ -512,7 +547,9 @@ module _ (starts : Starts) (says : Says) (proper : StartsProper starts) (w : Sta
       apart = apart_one w.past s (event.Detach s) (λ q m. flipped q s m);
       attached = refl;
       unstopped = λ q k. k;
-      same = update_previous w.table (setting_op (change.Detach s)) refl;
+      changes = plainly w _ (settings_plain w.table (change.Detach s)) refl;
+      numbers = λ n. settings_numbers w n (change.Detach s);
+      holds = detach_rises starts says proper w layers s come.login come.stays detached reads;
       tells = (refl, refl, refl);
       of_step = kind_told kind.Settings (s == s) (number_itself s);
       as_due = refl;
@@ -529,7 +566,9 @@ module _ (starts : Starts) (says : Says) (proper : StartsProper starts) (w : Sta
       apart = apart_one w.past s (event.Went s kind.Pin) (λ q m. flipped q s m);
       attached = refl;
       unstopped = λ q k. k;
-      same = λ i q. refl;
+      changes = unchanged w _ refl refl;
+      numbers = numbers_stay w.table;
+      holds = observe_rises starts says proper w layers s come.login pin few come.stays unread unobserved has;
       tells = (base_is starts says proper w kept.sessions s (node_alive starts says proper w kept.sessions s there on_now) come.login come.stays detached ∙ ap (λ (o : Option Pin). Some (option_map_or (λ (p : Pin). p.base) o (memory_of w s).head)) has, refl, refl);
       of_step = kind_told kind.Pin (s == s && true) (with_true (s == s) (number_itself s));
       as_due = refl;

@@ -33,7 +33,7 @@ use Rattle.oak_commit.specs.Looking.{whole}
 use Rattle.oak_commit.specs.Writing.{last_op, write_op}
 use Rattle.oak_commit.specs.declared.look.Look.{Look}
 use Rattle.oak_doc.specs.Updates.{updated}
-use Rattle.oak_store.specs.Tables.{Table, next_number}
+use Rattle.oak_store.specs.Tables.{next_number}
 use Rattle.oak_doc.specs.declared.document.Document.{Document}
 use Rattle.oak_doc.specs.declared.update.OpFault.{OpFault}
 use Rattle.oak_doc.specs.declared.update.OpFault.TheVariants as fault
@@ -78,16 +78,18 @@ use Rattle.core_nodes.proofs.Waits.{flying_is}
 use Rattle.core_watch.specs.Moments.{IsReaderFor}
 use Rattle.core_watch.specs.Standing.{path_read}
 use Rattle.core_watch.proofs.Moments.{fed_keeps}
-use Rattle.core_world.specs.Kept.{IsKept}
+use Rattle.core_world.specs.Kept.{AreLayersKept, IsKept}
 use Rattle.core_world.specs.States.{State, base_in, history_in, memory_at, memory_of, moved_in, node_of, nodes_in, with_session}
 use Rattle.core_world.specs.Steps.{IsThrough, after_draw, after_finish, after_last, after_leave, after_login, after_mark, after_refresh, after_undoing, after_want, after_write, after_write_in_want, draw_in, lasted_by, marked_by, with_observer, with_reader}
 use Rattle.core_world.proofs.Commits.{its, on_its_node}
 use Rattle.core_world.proofs.Flights.{number_itself}
 use Rattle.core_world.proofs.Lives.{its_head}
 use Rattle.core_world.proofs.Loads.{children_given, node_given}
+use Rattle.core_world.proofs.Numbering.{last_numbers, mark_numbers, undo_numbers, write_numbers}
 use Rattle.core_world.proofs.Readers.{live_is}
+use Rattle.core_world.proofs.Rising.{draw_rises, finish_rises, last_rises, leave_rises, login_rises, mark_rises, refresh_rises, undo_rises, write_in_want_rises, write_rises}
 use Rattle.core_world.proofs.Truths.{met_rooted}
-use Rattle.core_world.proofs.Whole.{changes_whole, draw_whole, feed_whole, finish_whole, gone_whole, last_whole, leave_whole, login_whole, mark_whole, read_whole, refresh_whole, undo_whole, unnotice_whole, want_whole, write_in_want_whole, write_whole}
+use Rattle.core_world.proofs.Whole.{base_above, changes_whole, draw_whole, feed_whole, finish_whole, gone_whole, last_whole, layers_of, leave_whole, login_whole, mark_whole, read_whole, refresh_whole, undo_whole, unnotice_whole, want_whole, write_in_want_whole, write_whole}
 use Rattle.oak_port.specs.declared.task.StepOut.{StepOut}
 use Rattle.oak_port.specs.declared.task.StepOut.TheVariants as answers
 use Rattle.oak_port.specs.declared.task.Task.TheVariants as task
@@ -96,17 +98,22 @@ use Rattle.oak_port.specs.declared.task.TaskEnd.TheVariants as ends
 use Rattle.oak_port.specs.Ports.{AreOfStep, Awaiting, HoldsBack, Idle, IsFinish, Makes as Tells, Starting, Undoing, Work as Shows, Writing, is_by_due, is_due, tree_of}
 use Rattle.oak_step.specs.declared.work.Work.{Work}
 use Rattle.oak_step.specs.declared.work.Work.TheVariants as work
-use Rattle.oak_world.specs.Kept.{IsAtWork, IsLooking, May}
-use Rattle.oak_step.specs.Parts.{EndsSo, changes_on, committed, end_of_reading, fed_previous, mark_made, read_on}
+use Rattle.oak_world.specs.Acting.{is_tidying}
+use Rattle.oak_world.specs.Kept.{IsAtWork, May, Scene, scene}
+use Rattle.oak_world.specs.Looks.{AreListedOnce, IsLooking}
+use Rattle.oak_step.specs.Parts.{EndsSo, changes_on, end_of_reading, read_on}
+use Rattle.oak_saves.specs.Saves.{committed, fed_previous, mark_made}
 use Rattle.oak_world.specs.Seen.{shown_by, shown_work, task_of}
 use Rattle.oak_step.specs.Works.{kind_due, kind_of_stage}
 use Rattle.oak_world.specs.Steps.{IsPresent, MakesState, MakesCommit, MakesUpdate, MayUpdate}
 use Rattle.oak_world.specs.Worlds.{observing_of, once_looked, reading_of, running_as, running_of}
-use Rattle.oak_world.proofs.Looking.{SamePrevious, ended_found, ended_written, last_previous, looks_found, looks_written, mark_previous, once_alone, once_found, once_outcome, once_written, outcome_found, outcome_written, revision_found, revision_written, undo_previous, update_previous, want_same, whole_rooted}
-use Rattle.oak_step.proofs.Feeding.{stage_last, stage_mark, stage_write}
-use Rattle.oak_step.proofs.Stages.{finish_stage}
+use Rattle.oak_world.proofs.Looking.{SamePrevious, ended_found, ended_written, once_alone, once_found, once_outcome, once_written, outcome_found, outcome_written, revision_found, revision_written, update_previous, want_same, whole_rooted}
+use Rattle.oak_world.proofs.Changing.{last_formers, last_plain, mark_formers, mark_plain, plainly, unchanged, undo_plain, write_plain}
+use Rattle.oak_world.proofs.Lookers.{looks_found_on, written_looks}
+use Rattle.oak_saves.proofs.Feeding.{stage_last, stage_mark, stage_write}
+use Rattle.oak_saves.proofs.Stages.{finish_stage}
 use Rattle.oak_world.proofs.Pinning.{pin_base}
-use Rattle.oak_world.proofs.StepsOf.{IsStepOf, apart_one, chosen, flipped, kind_told, none_stopped, refused_stays, with_true}
+use Rattle.oak_world.proofs.StepsOf.{IsStepOf, apart_one, chosen, flipped, holds_still, kind_told, none_stopped, numbers_stay, refused_stays, with_true}
 use Rattle.oak_world.proofs.Upkeeping.{upkeep_step}
 use Rattle.oak_world.proofs.Staying.{come_left, same_roots}
 
@@ -209,13 +216,16 @@ same_end a b h = cc
 
 -- ---- a step
 
-module _ (starts : Starts) (says : Says) (proper : StartsProper starts) (writes : StartsWrite starts) (w : State) (kept : IsKept starts says w) (s : ℕ) (there : is_some (slice_get w.sessions s) ≡ true) (few : slice_get w.sessions (cursor_owner s) ≡ None) (none_halted : (k : ℕ) → is_stopped w.past k ≡ false) where
+module _ (starts : Starts) (says : Says) (proper : StartsProper starts) (writes : StartsWrite starts) (w : State) (kept : IsKept starts says w) (s : ℕ) (there : is_some (slice_get w.sessions s) ≡ true) (few : slice_get w.sessions (cursor_owner s) ≡ None) (none_halted : (k : ℕ) → is_stopped w.past k ≡ false) (lists : AreListedOnce w.table) where
   -- its cluster node isn't stopped
   on_now : is_stopped_under w.sessions w.past s ≡ false
   on_now = none_stopped w.sessions w.past none_halted s
 
   abbrev h : History
   h = history_in w
+
+  abbrev layers : AreLayersKept starts says w
+  layers = layers_of starts says w kept
 
   abbrev StepOf : Work → State → Work → StepOut → Type 0
   StepOf v u x o = IsStepOf starts says s w v u x o
@@ -231,7 +241,9 @@ module _ (starts : Starts) (says : Says) (proper : StartsProper starts) (writes 
     apart = apart_one w.past s (event.Login s (memory_of w s).head) (λ q k. flipped q s k);
     attached = chosen s false (is_attached w.past s);
     unstopped = λ q k. k;
-    same = λ i q. refl;
+    changes = unchanged w _ refl refl;
+    numbers = numbers_stay w.table;
+    holds = login_rises starts says proper w layers s on_now there first;
     tells = (ap (λ (p : Pin). event.Login s p.base ∷ []) (sym is), refl);
     of_step = kind_told kind.Login (s == s) (number_itself s);
     as_due = refl;
@@ -246,7 +258,9 @@ module _ (starts : Starts) (says : Says) (proper : StartsProper starts) (writes 
     apart = apart_one w.past s (event.Went s kind.End) (λ q k. flipped q s k);
     attached = refl;
     unstopped = λ q k. k;
-    same = λ i q. refl;
+    changes = unchanged w _ refl refl;
+    numbers = numbers_stay w.table;
+    holds = leave_rises starts says proper w layers s come.login on_now few come.stays idle unread unobserved;
     tells = (refl, refl);
     of_step = kind_told kind.End (s == s && true) (with_true (s == s) (number_itself s));
     as_due = refl;
@@ -261,7 +275,9 @@ module _ (starts : Starts) (says : Says) (proper : StartsProper starts) (writes 
     apart = apart_one w.past s (event.Refresh s (memory_of w s).head) (λ q k. flipped q s k);
     attached = chosen s false (is_attached w.past s);
     unstopped = λ q k. k;
-    same = λ i q. refl;
+    changes = unchanged w _ refl refl;
+    numbers = numbers_stay w.table;
+    holds = refresh_rises starts says proper w layers s come.login on_now come.stays idle unread unobserved;
     tells = (ap (λ (p : Pin). event.Refresh s p.base ∷ []) (sym is), refl);
     of_step = kind_told kind.Pin (s == s) (number_itself s);
     as_due = refl;
@@ -290,7 +306,9 @@ module _ (starts : Starts) (says : Says) (proper : StartsProper starts) (writes 
     apart = λ q k. refl;
     attached = refl;
     unstopped = λ q k. k;
-    same = λ i q. refl;
+    changes = unchanged w _ refl refl;
+    numbers = numbers_stay w.table;
+    holds = holds_still w;
     tells = (refl, refl, ap (λ (v : RevVec). sees v r) (sym (head_is r on)) ∙ awaits.unseen, held_back r q awaits on);
     of_step = refl;
     as_due = refl;
@@ -305,7 +323,9 @@ module _ (starts : Starts) (says : Says) (proper : StartsProper starts) (writes 
     apart = apart_one w.past s (event.Refresh s (memory_of w s).head) (λ q k. flipped q s k);
     attached = chosen s false (is_attached w.past s);
     unstopped = λ q k. k;
-    same = λ i q. refl;
+    changes = unchanged w _ refl refl;
+    numbers = numbers_stay w.table;
+    holds = refresh_rises starts says proper w layers s come.login on_now come.stays idle unread unobserved;
     tells = (ap end.Committed is, ap (λ (v : RevVec). sees v r) (sym (head_is r on)) ∙ seen, (memory_of w s).head, seen, refl, refl);
     of_step = kind_told kind.Pin (s == s) (number_itself s);
     as_due = refl;
@@ -339,7 +359,9 @@ module _ (starts : Starts) (says : Says) (proper : StartsProper starts) (writes 
       apart = λ q k. refl;
       attached = refl;
       unstopped = λ q k. k;
-      same = λ i q. refl;
+      changes = unchanged w _ refl refl;
+      numbers = numbers_stay w.table;
+      holds = holds_still w;
       tells = goes_on r.parent (path_read r) (shown_work (work.Read next)) same_task;
       of_step = refl;
       as_due = refl;
@@ -358,7 +380,9 @@ module _ (starts : Starts) (says : Says) (proper : StartsProper starts) (writes 
       apart = λ q k. refl;
       attached = refl;
       unstopped = λ q k. k;
-      same = λ i q. refl;
+      changes = unchanged w _ refl refl;
+      numbers = numbers_stay w.table;
+      holds = holds_still w;
       tells = gone_tells r.parent (path_read r);
       of_step = refl;
       as_due = refl;
@@ -406,7 +430,9 @@ module _ (starts : Starts) (says : Says) (proper : StartsProper starts) (writes 
         apart = λ q k. refl;
         attached = refl;
         unstopped = λ q k. k;
-        same = λ i q. refl;
+        changes = unchanged w _ refl refl;
+        numbers = numbers_stay w.table;
+        holds = holds_still w;
         tells = given r.parent for_same.same_kind next.step refl gives;
         of_step = last_read r.parent (path_read r);
         as_due = refl;
@@ -434,7 +460,9 @@ module _ (starts : Starts) (says : Says) (proper : StartsProper starts) (writes 
       apart = λ q k. refl;
       attached = refl;
       unstopped = λ q k. k;
-      same = λ i q. refl;
+      changes = unchanged w _ refl refl;
+      numbers = numbers_stay w.table;
+      holds = holds_still w;
       tells = (refl, refl, ap (λ (v : RevVec). Starting (task.Changes v)) then_same.0);
       of_step = refl;
       as_due = refl;
@@ -449,7 +477,9 @@ module _ (starts : Starts) (says : Says) (proper : StartsProper starts) (writes 
       apart = λ q k. refl;
       attached = refl;
       unstopped = λ q k. k;
-      same = λ i q. refl;
+      changes = unchanged w _ refl refl;
+      numbers = numbers_stay w.table;
+      holds = holds_still w;
       tells = (refl, refl);
       of_step = refl;
       as_due = refl;
@@ -478,18 +508,20 @@ module _ (starts : Starts) (says : Says) (proper : StartsProper starts) (writes 
         apart = λ q k. refl;
         attached = refl;
         unstopped = λ q k. k;
-        same = λ i q. refl;
+        changes = unchanged w _ refl refl;
+        numbers = numbers_stay w.table;
+        holds = holds_still w;
         tells = (r.pin.base, own_base, told_is, refl, refl);
         of_step = refl;
         as_due = refl;
       }
 
   -- a committer that looks at no previous document is at work
-  at_rest : (t : Table) (g : History) (d : Committing) → IsPresent g s → d.ended ≡ false → d.looking ≡ None → d.roots ≡ map (λ (f : Met). root_of g.past f.other) d.writer.due → IsAtWork t g s d
-  at_rest t g d come unended none roots = record {
+  at_rest : (y : Scene) (d : Committing) → IsPresent y.history s → d.ended ≡ false → d.looking ≡ None → d.roots ≡ map (λ (f : Met). root_of y.history.past f.other) d.writer.due → IsAtWork y s d
+  at_rest y d come unended none roots = record {
     come = come;
     unended = unended;
-    roots = subst (λ (e : Committing). e.roots ≡ map (λ (f : Met). root_of g.past f.other) e.writer.due) (sym (once_alone t d none)) roots;
+    roots = subst (λ (e : Committing). e.roots ≡ map (λ (f : Met). root_of y.history.past f.other) e.writer.due) (sym (once_alone y.table d none)) roots;
     looks = λ k is. absurd (never d.looking k none is);
   }
     where
@@ -504,11 +536,13 @@ module _ (starts : Starts) (says : Says) (proper : StartsProper starts) (writes 
     own = event.Draw (draw_in w s edit marks) ∷ [];
     grown = refl;
     kept = draw_whole starts says proper w kept s edit marks (marked_paths marks) on_now come.login come.stays apart_now idle lawful;
-    may = at_rest _ _ (begun (next_draw (memory_of w s)) (base_in w s) edit marks) (record { login = come.login; stays = come.stays }) refl refl refl;
+    may = at_rest _ (begun (next_draw (memory_of w s)) (base_in w s) edit marks) (record { login = come.login; stays = come.stays }) refl refl refl;
     apart = apart_one w.past s (event.Draw (draw_in w s edit marks)) (λ q k. flipped q s k);
     attached = refl;
     unstopped = λ q k. k;
-    same = λ i q. refl;
+    changes = unchanged w _ refl refl;
+    numbers = numbers_stay w.table;
+    holds = draw_rises starts says proper w layers s edit marks (marked_paths marks) on_now come.login come.stays apart_now idle lawful (base_above starts says proper w kept s on_now come.login come.stays);
     tells = (draw_in w s edit marks, record { session = refl; edit_is = refl; marks_are = refl }, refl, refl, refl);
     of_step = kind_told kind.Draw (s == s) (number_itself s);
     as_due = refl;
@@ -517,7 +551,7 @@ module _ (starts : Starts) (says : Says) (proper : StartsProper starts) (writes 
   -- ---- a commit
 
   -- a commit turns to undoing for want of memory, whatever it looks at
-  module _ (c : Committing) (here : w.running s ≡ Some (running_as s (once_looked w.table c))) (at : IsAtWork w.table h s c) (going : c.outcome ≡ None) where
+  module _ (c : Committing) (here : w.running s ≡ Some (running_as s (once_looked w.table c))) (at : IsAtWork (scene w.table w.formers h) s c) (going : c.outcome ≡ None) where
     -- what is told of one that writes
     told_writing : (o : StepOut) (own : Past) (y : Shows) → Tells h s (Writing c.revision) o own y → Tells h s (shown_work (work.Commit c)) o own y
     told_writing o own y t = subst (λ (z : Shows). Tells h s z o own y) (ap (shown_by c.revision) (sym going)) t
@@ -532,11 +566,13 @@ module _ (starts : Starts) (says : Says) (proper : StartsProper starts) (writes 
       own = [];
       grown = refl;
       kept = want_kept;
-      may = at_rest _ _ (wanting c) at.come at.unended refl refl;
+      may = at_rest _ (wanting c) at.come at.unended refl refl;
       apart = λ q k. refl;
       attached = refl;
       unstopped = λ q k. k;
-      same = λ i q. refl;
+      changes = unchanged w _ refl refl;
+      numbers = numbers_stay w.table;
+      holds = holds_still w;
       tells = told_writing answers.Memory [] (shown_work (work.Commit (wanting c))) (refl, refl);
       of_step = refl;
       as_due = refl;
@@ -548,7 +584,7 @@ module _ (starts : Starts) (says : Says) (proper : StartsProper starts) (writes 
       found_on = fed_previous w.table c
 
       looks : IsLooking c k
-      looks = at.looks k is
+      looks = (at.looks k is).form
 
       look_step : StepOf (work.Commit c) w (work.Commit found_on) (answers.Went kind.Read)
       look_step = record {
@@ -559,12 +595,14 @@ module _ (starts : Starts) (says : Says) (proper : StartsProper starts) (writes 
           come = at.come;
           unended = ended_found w.table c k is looks ∙ at.unended;
           roots = subst (λ (e : Committing). e.roots ≡ map (λ (f : Met). root_of w.past f.other) e.writer.due) (sym (once_found w.table c k is looks)) at.roots;
-          looks = looks_found w.table c k is looks;
+          looks = looks_found_on w.table w.formers kept.sessions.readers.told.copies c k is (at.looks k is);
         };
         apart = λ q k. refl;
         attached = refl;
         unstopped = λ q k. k;
-        same = λ i q. refl;
+        changes = unchanged w _ refl refl;
+        numbers = numbers_stay w.table;
+        holds = holds_still w;
         tells = told_writing (answers.Went kind.Read) [] (shown_work (work.Commit found_on)) (inr (inl (refl, refl, inl (ap (λ (r : Revision). shown_by r found_on.outcome) (revision_found w.table c k is looks) ∙ ap (shown_by c.revision) (outcome_found w.table c k is looks ∙ going)))));
         of_step = refl;
         as_due = refl;
@@ -575,17 +613,19 @@ module _ (starts : Starts) (says : Says) (proper : StartsProper starts) (writes 
         own = [];
         grown = refl;
         kept = want_kept;
-        may = at_rest _ _ (wanting found_on) at.come (ended_found w.table c k is looks ∙ at.unended) refl refl;
+        may = at_rest _ (wanting found_on) at.come (ended_found w.table c k is looks ∙ at.unended) refl refl;
         apart = λ q k. refl;
         attached = refl;
         unstopped = λ q k. k;
-        same = λ i q. refl;
+        changes = unchanged w _ refl refl;
+        numbers = numbers_stay w.table;
+        holds = holds_still w;
         tells = told_writing (answers.Went kind.Read) [] (shown_work (work.Commit (wanting found_on))) (inr (inl (refl, refl, inr (ap (λ (r : Revision). Undoing r end.Memory) (revision_found w.table c k is looks)))));
         of_step = refl;
         as_due = refl;
       }
 
-  module _ (c : Committing) (here : w.running s ≡ Some (running_as s c)) (at : IsAtWork w.table h s c) (looked : c.looking ≡ None) where
+  module _ (c : Committing) (here : w.running s ≡ Some (running_as s c)) (at : IsAtWork (scene w.table w.formers h) s c) (looked : c.looking ≡ None) where
     roots_here : c.roots ≡ map (λ (f : Met). root_of w.past f.other) c.writer.due
     roots_here = subst (λ (e : Committing). e.roots ≡ map (λ (f : Met). root_of w.past f.other) e.writer.due) (once_alone w.table c looked) at.roots
 
@@ -644,11 +684,13 @@ module _ (starts : Starts) (says : Says) (proper : StartsProper starts) (writes 
           own = event.Went s kind.Mark ∷ [];
           grown = mark_grown (event.Went s kind.Mark ∷ []) past;
           kept = mark_kept;
-          may = at_rest _ _ (mark_made c rest) (record { login = at.come.login; stays = at.come.stays }) at.unended looked (ap (drop 1) roots_here ∙ ap (λ (fs : List Met). drop 1 (map (λ m. root_of w.past m.other) fs)) due_is);
+          may = at_rest _ (mark_made c rest) (record { login = at.come.login; stays = at.come.stays }) at.unended looked (ap (drop 1) roots_here ∙ ap (λ (fs : List Met). drop 1 (map (λ m. root_of w.past m.other) fs)) due_is);
           apart = apart_went kind.Mark;
           attached = refl;
           unstopped = λ q k. k;
-          same = mark_previous w s x f rest;
+          changes = plainly w _ (mark_plain w s x f rest) (mark_formers w s x f rest);
+          numbers = λ n. mark_numbers w n s x f rest;
+          holds = mark_rises starts says proper w layers s x here uncommitted unundone f rest due_is;
           tells = writing (answers.Went kind.Mark) (event.Went s kind.Mark ∷ []) (shown_work (work.Commit (mark_made c rest))) (inr (inr (inl (refl, refl, still_writing (mark_made c rest) refl refl))));
           of_step = kind_told kind.Mark (s == s && true) (with_true (s == s) (number_itself s));
           as_due = ap (λ (y : Stage). is_due kind.Mark (kind_of_stage y)) (stage_mark c going looked f rest due_is);
@@ -659,11 +701,13 @@ module _ (starts : Starts) (says : Says) (proper : StartsProper starts) (writes 
           own = event.Refuse c.revision f.mine f.other ∷ [];
           grown = mark_grown (event.Refuse c.revision f.mine f.other ∷ []) past;
           kept = mark_kept;
-          may = at_rest _ _ (refused c f.mine f.other) (record { login = at.come.login; stays = at.come.stays }) at.unended looked refl;
+          may = at_rest _ (refused c f.mine f.other) (record { login = at.come.login; stays = at.come.stays }) at.unended looked refl;
           apart = apart_refusal f.mine f.other;
           attached = refl;
           unstopped = λ q k. k;
-          same = mark_previous w s x f rest;
+          changes = plainly w _ (mark_plain w s x f rest) (mark_formers w s x f rest);
+          numbers = λ n. mark_numbers w n s x f rest;
+          holds = mark_rises starts says proper w layers s x here uncommitted unundone f rest due_is;
           tells = refusal_tells kind.Mark (inl refl) f.mine f.other (refused c f.mine f.other) refl;
           of_step = ap (λ t. list_any (is_kind kind.Mark) (where_test t (kind.Mark ∷ kind.Last ∷ []))) revision_mine;
           as_due = refl;
@@ -694,12 +738,14 @@ module _ (starts : Starts) (says : Says) (proper : StartsProper starts) (writes 
             come = record { login = at.come.login; stays = at.come.stays };
             unended = ended_written c p rest (nodes_in w.table p) ∙ at.unended;
             roots = subst (λ (e : Committing). e.roots ≡ map (λ (f : Met). root_of w.past f.other) e.writer.due) (sym (once_written c p rest w.table (after_write w s x p rest).table documents)) roots_stood;
-            looks = looks_written c p rest going (nodes_in w.table p);
+            looks = written_looks starts says w kept (after_write w s x p rest) (plainly w _ (write_plain w s x p) refl) s c here going p rest lists;
           };
           apart = apart_went kind.Write;
           attached = refl;
           unstopped = λ q k. k;
-          same = documents;
+          changes = plainly w _ (write_plain w s x p) refl;
+          numbers = λ n. (write_numbers w n s x p rest).0;
+          holds = write_rises starts says proper w layers s x here uncommitted unundone p rest unmet left;
           tells = writing (answers.Went kind.Write) (event.Went s kind.Write ∷ []) (shown_work (work.Commit behind)) (inl (refl, refl, inl (still_writing behind (revision_written c p rest (nodes_in w.table p)) (outcome_written c p rest (nodes_in w.table p)))));
           of_step = kind_told kind.Write (s == s && true) (with_true (s == s) (number_itself s));
           as_due = ap (λ (y : Stage). is_due kind.Write (kind_of_stage y)) (stage_write c going looked p rest unmet left);
@@ -710,11 +756,13 @@ module _ (starts : Starts) (says : Says) (proper : StartsProper starts) (writes 
           own = event.Went s kind.Write ∷ [];
           grown = refl;
           kept = write_in_want_whole starts says proper w kept s x p rest here uncommitted unundone unmet left;
-          may = at_rest _ _ (wanting behind) (record { login = at.come.login; stays = at.come.stays }) (ended_written c p rest (nodes_in w.table p) ∙ at.unended) refl refl;
+          may = at_rest _ (wanting behind) (record { login = at.come.login; stays = at.come.stays }) (ended_written c p rest (nodes_in w.table p) ∙ at.unended) refl refl;
           apart = apart_went kind.Write;
           attached = refl;
           unstopped = λ q k. k;
-          same = documents;
+          changes = plainly w _ (write_plain w s x p) refl;
+          numbers = λ n. (write_numbers w n s x p rest).1;
+          holds = write_in_want_rises starts says proper w layers s x here uncommitted unundone p rest unmet left;
           tells = writing (answers.Went kind.Write) (event.Went s kind.Write ∷ []) (shown_work (work.Commit (wanting behind))) (inl (refl, refl, inr (ap (λ (r : Revision). Undoing r end.Memory) (revision_written c p rest (nodes_in w.table p)))));
           of_step = kind_told kind.Write (s == s && true) (with_true (s == s) (number_itself s));
           as_due = ap (λ (y : Stage). is_due kind.Write (kind_of_stage y)) (stage_write c going looked p rest unmet left);
@@ -741,11 +789,13 @@ module _ (starts : Starts) (says : Says) (proper : StartsProper starts) (writes 
           own = event.Commit c.revision ∷ [];
           grown = last_grown (event.Commit c.revision ∷ []) past;
           kept = last_kept;
-          may = at_rest _ _ (committed c) (record { login = at.come.login; stays = at.come.stays }) at.unended looked roots_here;
+          may = at_rest _ (committed c) (record { login = at.come.login; stays = at.come.stays }) at.unended looked roots_here;
           apart = apart_one w.past s (event.Commit c.revision) (λ q k. its_session q false (flipped q s k));
           attached = refl;
           unstopped = λ q k. k;
-          same = last_previous w s x;
+          changes = plainly w _ (last_plain w s x) (last_formers w s x);
+          numbers = λ n. last_numbers w n s x;
+          holds = last_rises starts says proper w layers s x here uncommitted unundone unmet none_left;
           tells = writing (answers.Went kind.Last) (event.Commit c.revision ∷ []) (shown_work (work.Commit (committed c))) (inr (inr (inr (inl (refl, refl, refl)))));
           of_step = kind_told kind.Last (is_revision_of w.past s c.revision) revision_mine;
           as_due = ap (λ (y : Stage). is_due kind.Last (kind_of_stage y)) (stage_last c going looked unmet none_left);
@@ -756,11 +806,13 @@ module _ (starts : Starts) (says : Says) (proper : StartsProper starts) (writes 
           own = event.Refuse c.revision item o ∷ [];
           grown = last_grown (event.Refuse c.revision item o ∷ []) past;
           kept = last_kept;
-          may = at_rest _ _ (refused c item o) (record { login = at.come.login; stays = at.come.stays }) at.unended looked refl;
+          may = at_rest _ (refused c item o) (record { login = at.come.login; stays = at.come.stays }) at.unended looked refl;
           apart = apart_refusal item o;
           attached = refl;
           unstopped = λ q k. k;
-          same = last_previous w s x;
+          changes = plainly w _ (last_plain w s x) (last_formers w s x);
+          numbers = λ n. last_numbers w n s x;
+          holds = last_rises starts says proper w layers s x here uncommitted unundone unmet none_left;
           tells = refusal_tells kind.Last (inr refl) item o (refused c item o) refl;
           of_step = ap (λ t. list_any (is_kind kind.Last) (where_test t (kind.Mark ∷ kind.Last ∷ []))) revision_mine;
           as_due = refl;
@@ -773,11 +825,13 @@ module _ (starts : Starts) (says : Says) (proper : StartsProper starts) (writes 
       own = event.Went s kind.Undo ∷ [];
       grown = refl;
       kept = undo_whole starts says proper w kept s x p rest here (not_past c.outcome undoing) undoing next;
-      may = at_rest _ _ (with_undone c) (record { login = at.come.login; stays = at.come.stays }) at.unended looked roots_here;
+      may = at_rest _ (with_undone c) (record { login = at.come.login; stays = at.come.stays }) at.unended looked roots_here;
       apart = apart_went kind.Undo;
       attached = refl;
       unstopped = λ q k. k;
-      same = undo_previous w.table p c.revision;
+      changes = plainly w _ (undo_plain w.table p c.revision) refl;
+      numbers = λ n. undo_numbers w n s x p rest;
+      holds = undo_rises starts says proper w layers s x here p rest (not_past c.outcome undoing) undoing next;
       tells = undoing_tells h s c.revision c.outcome undoing;
       of_step = kind_told kind.Undo (s == s && true) (with_true (s == s) (number_itself s));
       as_due = refl;
@@ -868,7 +922,9 @@ module _ (starts : Starts) (says : Says) (proper : StartsProper starts) (writes 
         apart = λ q k. ends_apart moved (node_of w s) done.head c.revision w.past q;
         attached = ends_attached moved (node_of w s) done.head c.revision w.past s;
         unstopped = ends_unstopped moved (node_of w s) done.head c.revision w.past;
-        same = λ i q. refl;
+        changes = unchanged w _ refl refl;
+        numbers = numbers_stay w.table;
+        holds = finish_rises starts says proper w layers s x here through;
         tells = deciding_tells h s c.revision c.outcome own_ends ends_so.0 (is_finish moved (node_of w s) done.head c.revision);
         of_step = finish_told;
         as_due = ends_by_due moved (node_of w s) done.head c.revision (kind_due (work.Commit c));
@@ -883,7 +939,9 @@ module _ (starts : Starts) (says : Says) (proper : StartsProper starts) (writes 
             apart = λ q k. ends_apart moved (node_of w s) done.head c.revision w.past q;
             attached = ends_attached moved (node_of w s) done.head c.revision w.past s;
             unstopped = ends_unstopped moved (node_of w s) done.head c.revision w.past;
-            same = λ i q. refl;
+            changes = unchanged w _ refl refl;
+            numbers = numbers_stay w.table;
+            holds = finish_rises starts says proper w layers s x here through;
             tells = subst (λ (y : Option CommitEnd). Tells h s (shown_by c.revision y) (answers.Ready (ends.Commit e)) own_ends Idle) (sym ends_so.0) (undone_tells h s c.revision e own_ends past (is_finish moved (node_of w s) done.head c.revision));
             of_step = subst (λ (y : Option CommitEnd). AreOfStep h s (shown_by c.revision y) (answers.Ready (ends.Commit e)) own_ends) (sym ends_so.0) (undone_of_step h s c.revision e own_ends past finish_told);
             as_due = ends_by_due moved (node_of w s) done.head c.revision (kind_due (work.Commit c));
@@ -896,7 +954,7 @@ module _ (starts : Starts) (says : Says) (proper : StartsProper starts) (writes 
   at_both : (v : Work) (o : StepOut) (t : State) (d : Committing) (u : State) (e : Committing) → u ≡ t → e ≡ d → StepOf v t (work.Commit d) o → StepOf v u (work.Commit e) o
   at_both v o t d u e same is f = subst (λ (y : State). StepOf v y (work.Commit e) o) (sym same) (subst (λ (y : Committing). StepOf v t (work.Commit y) o) (sym is) f)
 
-  module _ (c : Committing) (here : w.running s ≡ Some (running_as s c)) (at : IsAtWork w.table h s c) (looked : c.looking ≡ None) (u : State) (d : Committing) where
+  module _ (c : Committing) (here : w.running s ≡ Some (running_as s c)) (at : IsAtWork (scene w.table w.formers h) s c) (looked : c.looking ≡ None) (u : State) (d : Committing) where
     mark_any : MakesUpdate s w c u d kind.Mark → StepOf (work.Commit c) u (work.Commit d) (answers.Went kind.Mark)
     mark_any g = subst (λ (y : State). StepOf (work.Commit c) y (work.Commit d) (answers.Went kind.Mark)) (sym g.4) (by g.5)
       where
@@ -930,13 +988,13 @@ module _ (starts : Starts) (says : Says) (proper : StartsProper starts) (writes 
     update_any _ g = absurd g
 
   -- the commit gives up for want of memory
-  wants_step : (c : Committing) → w.running s ≡ Some (running_as s (once_looked w.table c)) → IsAtWork w.table h s c → c.outcome ≡ None → (u : State) (v : Work) (o : StepOut) → o ≡ answers.Memory → u ≡ after_want w s (running_as s c) → v ≡ work.Commit (wanting c) → StepOf (work.Commit c) u v o
+  wants_step : (c : Committing) → w.running s ≡ Some (running_as s (once_looked w.table c)) → IsAtWork (scene w.table w.formers h) s c → c.outcome ≡ None → (u : State) (v : Work) (o : StepOut) → o ≡ answers.Memory → u ≡ after_want w s (running_as s c) → v ≡ work.Commit (wanting c) → StepOf (work.Commit c) u v o
   wants_step c runs at going u v o answer same is =
       subst (λ (y : Work). StepOf (work.Commit c) u y o) (sym is) (subst (λ (y : StepOut). StepOf (work.Commit c) u (work.Commit (wanting c)) y) (sym answer)
       (subst (λ (y : State). StepOf (work.Commit c) y (work.Commit (wanting c)) answers.Memory) (sym same) (want_step c runs at going)))
 
   -- a committer that looks at no previous document
-  alone_step : (c : Committing) → w.running s ≡ Some (running_as s (once_looked w.table c)) → IsAtWork w.table h s c → c.looking ≡ None → (u : State) (v : Work) (o : StepOut) → MakesCommit s w c u v o → StepOf (work.Commit c) u v o
+  alone_step : (c : Committing) → w.running s ≡ Some (running_as s (once_looked w.table c)) → IsAtWork (scene w.table w.formers h) s c → c.looking ≡ None → (u : State) (v : Work) (o : StepOut) → MakesCommit s w c u v o → StepOf (work.Commit c) u v o
   alone_step c runs at looked u v o m = by m
     where
       here : w.running s ≡ Some (running_as s c)
@@ -948,9 +1006,9 @@ module _ (starts : Starts) (says : Says) (proper : StartsProper starts) (writes 
       by (inr (inr m)) = wants_step c runs at m.1 u v o m.0 m.2 m.3
 
   -- one that looks at a previous document
-  module _ (c : Committing) (runs : w.running s ≡ Some (running_as s (once_looked w.table c))) (at : IsAtWork w.table h s c) (k : Look) (is : c.looking ≡ Some k) (u : State) where
+  module _ (c : Committing) (runs : w.running s ≡ Some (running_as s (once_looked w.table c))) (at : IsAtWork (scene w.table w.formers h) s c) (k : Look) (is : c.looking ≡ Some k) (u : State) where
     going_on : c.outcome ≡ None
-    going_on = (at.looks k is).going
+    going_on = (at.looks k is).form.going
 
     unlooked : {A : Type 0} → MayUpdate c → A
     unlooked may = absurd (never (sym may.looked ∙ is))
@@ -978,7 +1036,7 @@ module _ (starts : Starts) (says : Says) (proper : StartsProper starts) (writes 
     looking_step v o (inr (inl m)) = absurd (false≢true (sym (ap is_some going_on) ∙ (finish_stage c m.0).settled))
     looking_step v o (inr (inr m)) = wants_step c runs at going_on u v o m.0 m.2 m.3
 
-  commit_step : (c : Committing) → w.running s ≡ Some (running_as s (once_looked w.table c)) → IsAtWork w.table h s c → (u : State) (v : Work) (o : StepOut) → MakesCommit s w c u v o → StepOf (work.Commit c) u v o
+  commit_step : (c : Committing) → w.running s ≡ Some (running_as s (once_looked w.table c)) → IsAtWork (scene w.table w.formers h) s c → (u : State) (v : Work) (o : StepOut) → MakesCommit s w c u v o → StepOf (work.Commit c) u v o
   commit_step c runs at u v o m = by c.looking refl
     where
       by : (l : Option Look) → c.looking ≡ l → StepOf (work.Commit c) u v o
@@ -991,34 +1049,36 @@ module _ (starts : Starts) (says : Says) (proper : StartsProper starts) (writes 
 
   -- nothing is done
   still_step : (v : Work) → Tells h s (shown_work v) answers.Memory [] Idle → is_by_due (kind_due v) [] ≡ true → (u : State) (x : Work) → u ≡ w → x ≡ work.Rest → StepOf v u x answers.Memory
-  still_step v tells due u x same is = at_those v answers.Memory w work.Rest u x same is (record { own = []; grown = refl; kept = kept; may = tt; apart = λ q k. refl; attached = refused_stays v (is_attached w.past s); unstopped = λ q k. k; same = λ i q. refl; tells = tells; of_step = refl; as_due = due })
+  still_step v tells due u x same is = at_those v answers.Memory w work.Rest u x same is (record { own = []; grown = refl; kept = kept; may = tt; apart = λ q k. refl; attached = refused_stays v (is_attached w.past s); unstopped = λ q k. k; changes = unchanged w _ refl refl; numbers = numbers_stay w.table; holds = holds_still w; tells = tells; of_step = refl; as_due = due })
 
-  -- a step of a session that may do what it does
-  pub any_step : IsTable w.table.documents → (v : Work) → w.running s ≡ running_of w.table s v → w.reading s ≡ reading_of v → w.observing s ≡ observing_of v → May starts w.table h s v → (u : State) (x : Work) (o : StepOut) → MakesState s w v u x o → StepOf v u x o
-  any_step table work.Login runs reads observes may u x (answers.Ready (ends.Pinned pin)) m = at_those work.Login (answers.Ready (ends.Pinned pin)) (after_login w s) work.Rest u x m.0 m.1 (login_step pin m.2 may)
-  any_step table work.Login runs reads observes may u x answers.Memory m = still_step work.Login (refl, refl) refl u x m.0 m.1
-  any_step table work.Login runs reads observes may u x _ m = absurd m
-  any_step table work.End runs reads observes may u x (answers.Ready ends.Ended) m = at_those work.End (answers.Ready ends.Ended) (after_leave w s) work.Rest u x m.0 m.1 (leave_step may runs reads observes)
-  any_step table work.End runs reads observes may u x answers.Memory m = still_step work.End (refl, refl) refl u x m.0 m.1
-  any_step table work.End runs reads observes may u x _ m = absurd m
-  any_step table work.Refresh runs reads observes may u x (answers.Ready (ends.Pinned pin)) m = at_those work.Refresh (answers.Ready (ends.Pinned pin)) (after_refresh w s) work.Rest u x m.0 m.1 (refresh_step pin m.2 may.0 runs reads observes)
-  any_step table work.Refresh runs reads observes may u x answers.Memory m = still_step work.Refresh (refl, refl) refl u x m.0 m.1
-  any_step table work.Refresh runs reads observes may u x _ m = absurd m
-  any_step table (work.Read r) runs reads observes may u x (answers.Went kind.Read) m = at_those (work.Read r) (answers.Went kind.Read) (with_reader w s (Some (read_on w.table r))) (work.Read (read_on w.table r)) u x m.0 m.1 (read_step table r reads may)
-  any_step table (work.Read r) runs reads observes may u x (answers.Ready e) m = at_those (work.Read r) (answers.Ready e) (with_reader w s None) work.Rest u x m.0 m.1 (given_step table r reads may e m.2)
-  any_step table (work.Read r) runs reads observes may u x answers.Memory m = at_those (work.Read r) answers.Memory (with_reader w s None) work.Rest u x m.0 m.1 (gone_step table r reads may)
-  any_step table (work.Read r) runs reads observes may u x _ m = absurd m
-  any_step table (work.Changes r) runs reads observes may u x (answers.Went kind.Read) m = at_those (work.Changes r) (answers.Went kind.Read) (with_observer w s (Some (changes_on w.table r))) (work.Changes (changes_on w.table r)) u x m.0 m.1 (changes_step table r observes may.0 may.1)
-  any_step table (work.Changes r) runs reads observes may u x (answers.Ready (ends.Changes commits)) m = at_those (work.Changes r) (answers.Ready (ends.Changes commits)) (with_observer w s None) work.Rest u x m.0 m.1 (told_step table r observes may.0 may.1 commits m.2)
-  any_step table (work.Changes r) runs reads observes may u x answers.Memory m = at_those (work.Changes r) answers.Memory (with_observer w s None) work.Rest u x m.0 m.1 (unobserved_step table r observes may.0 may.1)
-  any_step table (work.Changes r) runs reads observes may u x _ m = absurd m
-  any_step table (work.Plan edit marks) runs reads observes may u x (answers.Went kind.Draw) m =
+  -- a step of a session that may do what it does, but for splits and collections
+  pub any_step : IsTable w.table.documents → (v : Work) → is_tidying v ≡ false → w.running s ≡ running_of w.table s v → w.reading s ≡ reading_of v → w.observing s ≡ observing_of v → May starts (scene w.table w.formers h) s v → (u : State) (x : Work) (o : StepOut) → MakesState s w v u x o → StepOf v u x o
+  any_step table work.Login plain runs reads observes may u x (answers.Ready (ends.Pinned pin)) m = at_those work.Login (answers.Ready (ends.Pinned pin)) (after_login w s) work.Rest u x m.0 m.1 (login_step pin m.2 may)
+  any_step table work.Login plain runs reads observes may u x answers.Memory m = still_step work.Login (refl, refl) refl u x m.0 m.1
+  any_step table work.Login plain runs reads observes may u x _ m = absurd m
+  any_step table work.End plain runs reads observes may u x (answers.Ready ends.Ended) m = at_those work.End (answers.Ready ends.Ended) (after_leave w s) work.Rest u x m.0 m.1 (leave_step may runs reads observes)
+  any_step table work.End plain runs reads observes may u x answers.Memory m = still_step work.End (refl, refl) refl u x m.0 m.1
+  any_step table work.End plain runs reads observes may u x _ m = absurd m
+  any_step table work.Refresh plain runs reads observes may u x (answers.Ready (ends.Pinned pin)) m = at_those work.Refresh (answers.Ready (ends.Pinned pin)) (after_refresh w s) work.Rest u x m.0 m.1 (refresh_step pin m.2 may.0 runs reads observes)
+  any_step table work.Refresh plain runs reads observes may u x answers.Memory m = still_step work.Refresh (refl, refl) refl u x m.0 m.1
+  any_step table work.Refresh plain runs reads observes may u x _ m = absurd m
+  any_step table (work.Read r) plain runs reads observes may u x (answers.Went kind.Read) m = at_those (work.Read r) (answers.Went kind.Read) (with_reader w s (Some (read_on w.table r))) (work.Read (read_on w.table r)) u x m.0 m.1 (read_step table r reads may)
+  any_step table (work.Read r) plain runs reads observes may u x (answers.Ready e) m = at_those (work.Read r) (answers.Ready e) (with_reader w s None) work.Rest u x m.0 m.1 (given_step table r reads may e m.2)
+  any_step table (work.Read r) plain runs reads observes may u x answers.Memory m = at_those (work.Read r) answers.Memory (with_reader w s None) work.Rest u x m.0 m.1 (gone_step table r reads may)
+  any_step table (work.Read r) plain runs reads observes may u x _ m = absurd m
+  any_step table (work.Changes r) plain runs reads observes may u x (answers.Went kind.Read) m = at_those (work.Changes r) (answers.Went kind.Read) (with_observer w s (Some (changes_on w.table r))) (work.Changes (changes_on w.table r)) u x m.0 m.1 (changes_step table r observes may.0 may.1)
+  any_step table (work.Changes r) plain runs reads observes may u x (answers.Ready (ends.Changes commits)) m = at_those (work.Changes r) (answers.Ready (ends.Changes commits)) (with_observer w s None) work.Rest u x m.0 m.1 (told_step table r observes may.0 may.1 commits m.2)
+  any_step table (work.Changes r) plain runs reads observes may u x answers.Memory m = at_those (work.Changes r) answers.Memory (with_observer w s None) work.Rest u x m.0 m.1 (unobserved_step table r observes may.0 may.1)
+  any_step table (work.Changes r) plain runs reads observes may u x _ m = absurd m
+  any_step table (work.Plan edit marks) plain runs reads observes may u x (answers.Went kind.Draw) m =
       at_those (work.Plan edit marks) (answers.Went kind.Draw) (after_draw w s edit marks (marked_paths marks)) (work.Commit (begun (next_draw (memory_of w s)) (base_in w s) edit marks)) u x m.0 m.1 (draw_step edit marks may.0 may.1 may.2 runs)
-  any_step table (work.Plan edit marks) runs reads observes may u x answers.Memory m = still_step (work.Plan edit marks) (refl, refl) refl u x m.0 m.1
-  any_step table (work.Plan edit marks) runs reads observes may u x _ m = absurd m
-  any_step table (work.Commit c) runs reads observes may u x o m = commit_step c runs may u x o m
-  any_step table (work.Move r) runs reads observes may u x (answers.Wait q) m = at_those (work.Move r) (answers.Wait q) w (work.Move r) u x m.0 m.1 (waits_step r q m.2 may.0 may.1 may.2)
-  any_step table (work.Move r) runs reads observes may u x (answers.Ready (ends.Commit (end.Committed o))) m = at_those (work.Move r) (answers.Ready (ends.Commit (end.Committed o))) (after_refresh w s) work.Rest u x m.0 m.1 (moves_step r o m.2 m.3 may.0 may.2 runs reads observes)
-  any_step table (work.Move r) runs reads observes may u x _ m = absurd m
-  any_step table (work.Upkeep k) runs reads observes may u x o m = upkeep_step starts says proper w kept s there none_halted may.0 few observes runs reads k may.1 u x o m
-  any_step table work.Rest runs reads observes may u x o m = absurd m
+  any_step table (work.Plan edit marks) plain runs reads observes may u x answers.Memory m = still_step (work.Plan edit marks) (refl, refl) refl u x m.0 m.1
+  any_step table (work.Plan edit marks) plain runs reads observes may u x _ m = absurd m
+  any_step table (work.Commit c) plain runs reads observes may u x o m = commit_step c runs may u x o m
+  any_step table (work.Move r) plain runs reads observes may u x (answers.Wait q) m = at_those (work.Move r) (answers.Wait q) w (work.Move r) u x m.0 m.1 (waits_step r q m.2 may.0 may.1 may.2)
+  any_step table (work.Move r) plain runs reads observes may u x (answers.Ready (ends.Commit (end.Committed o))) m = at_those (work.Move r) (answers.Ready (ends.Commit (end.Committed o))) (after_refresh w s) work.Rest u x m.0 m.1 (moves_step r o m.2 m.3 may.0 may.2 runs reads observes)
+  any_step table (work.Move r) plain runs reads observes may u x _ m = absurd m
+  any_step table (work.Upkeep k) plain runs reads observes may u x o m = upkeep_step starts says proper w kept s there none_halted may.0 few observes runs reads k may.1 u x o m
+  any_step table work.Rest plain runs reads observes may u x o m = absurd m
+  any_step table (work.Tidy y) plain runs reads observes may u x o m = absurd (false≢true (sym plain))
+  any_step table (work.Told e) plain runs reads observes may u x o m = absurd m

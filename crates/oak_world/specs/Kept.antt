@@ -1,10 +1,8 @@
 -- What each world keeps.
-use Rattle.jr_path.specs.declared.path.DocId.TheVariants as id
 use Rattle.jr_path.specs.declared.path.Path.{Path}
 use Rattle.oak_commit.specs.declared.look.Look.{Look}
-use Rattle.oak_doc.specs.declared.document.PrevEntry.{PrevEntry}
 use Rattle.oak_store.specs.Tables.{Table}
-use Rattle.std.specs.Prelude.{◌≡◌, ◌≤◌, ◌+◌, ℕ, false, cond, [], ◌∷◌, ◌++◌, List, length, map, sum_by, slice_get, None, Some, is_some, IsTrue, IsFalse}
+use Rattle.std.specs.Prelude.{◌≡◌, ◌≤◌, ◌+◌, ℕ, false, cond, [], ◌∷◌, ◌++◌, List, length, map, sum_by, slice_get, Some, is_some, IsTrue, IsFalse}
 use Rattle.oak_commit.specs.Committing.{Committing}
 use Rattle.oak_machine.specs.History.{History}
 use Rattle.oak_machine.specs.Commits.{is_ended}
@@ -36,27 +34,28 @@ use Rattle.oak_step.specs.declared.work.Work.{Work}
 use Rattle.oak_step.specs.declared.work.Work.TheVariants as work
 use Rattle.oak_step.specs.Parts.{needed}
 use Rattle.oak_world.specs.Worlds.{WorldOf, actor_in, live, once_looked, state_of, with_formers, work_in}
+use Rattle.oak_world.specs.Looks.{AreListedOnce, IsLookingOn}
 use Rattle.oak_world.specs.Seen.{shown_work}
 use Rattle.oak_world.specs.Steps.{IsPresent}
 
--- a committer that looks is before its commit point, and asks for previous documents of one node,
--- by the entries that list them
-pub record IsLooking (c : Committing) (k : Look) : Type 0 where
-  pub going : c.outcome ≡ None
-  pub path : Path
-  pub entry : PrevEntry
-  pub asks : k.first ≡ id.Prev entry.number path
-  pub entries : List PrevEntry
-  pub rest : k.rest ≡ map (λ e. id.Prev e.number path) entries
+-- what a session goes by: the documents, what is told of former ones, and the history
+pub record Scene : Type 0 where
+  pub table : Table
+  pub formers : Formers
+  pub history : History
+
+-- a scene of these
+abbrev pub scene : Table → Formers → History → Scene
+scene t formers h = record { table = t; formers = formers; history = h }
 
 -- the session has come, and the commit hasn't ended; the commit goes to the commit roots of those
 -- that it is to mark, also of those whom it will meet in its look
-pub record IsAtWork (t : Table) (h : History) (s : ℕ) (c : Committing) : Type 0 where
-  pub come : IsPresent h s
+pub record IsAtWork (x : Scene) (s : ℕ) (c : Committing) : Type 0 where
+  pub come : IsPresent x.history s
   pub unended : c.ended ≡ false
-  pub roots : (once_looked t c).roots
-      ≡ map (λ f. root_of h.past f.other) (once_looked t c).writer.due
-  pub looks : (k : Look) → c.looking ≡ Some k → IsLooking c k
+  pub roots : (once_looked x.table c).roots
+      ≡ map (λ f. root_of x.history.past f.other) (once_looked x.table c).writer.due
+  pub looks : (k : Look) → c.looking ≡ Some k → IsLookingOn x.table x.formers c k
 
 -- the revision is one of the session's cluster node, at most its local one
 abbrev pub IsOwn : History → ℕ → Revision → Type 0
@@ -88,9 +87,9 @@ MaySweepOn h s x swept.Root = slice_get h.sessions s ≡ Some x.cluster
 MaySweepOn h s x swept.Done = ⊥
 MaySweepOn h s x _ = IsOwnPublished h s x.target
 
--- what is published is the node's own, what is learned the root told, and what is swept published; at an attached session no
--- checkpoint is made, no cursor is pinned, and no further checkpoint is taken; it is detached, and
--- once it is at the head, its reader goes
+-- what is published is the node's own, what is learned the root told, and what is swept published;
+-- at an attached session no checkpoint is made, no cursor is pinned, and no further checkpoint is
+-- taken; it is detached, and once it is at the head, its reader goes
 abbrev pub MayKeepUp : History → ℕ → Upkeep → Type 0
 MayKeepUp h s (upkeep.Noted n) = IsOwn h s n.upto
 MayKeepUp h s (upkeep.Publish b) = IsOwn h s b.upto × EndsInRoot b
@@ -104,33 +103,39 @@ MayKeepUp h s (upkeep.Detaching pin) =
 MayKeepUp h s upkeep.Observe = IsFalse (is_attached h.past s)
 MayKeepUp h s _ = Unit {0}
 
--- what a session does, it may do
-abbrev pub May : Starts → Table → History → ℕ → Work → Type 0
-May starts t h s work.Rest = Unit {0}
-May starts t h s work.Login = IsFalse (has_login h.past s)
-May starts t h s work.End = IsPresent h s
-May starts t h s work.Refresh = IsPresent h s × IsFalse (is_attached h.past s)
-May starts t h s (work.Read r) = IsPresent h s
-May starts t h s (work.Changes r) = IsPresent h s × IsFalse (is_attached h.past s)
-May starts t h s (work.Plan edit marks) =
-    IsPresent h s × IsFalse (is_attached h.past s) × starts h s edit marks
-May starts t h s (work.Commit c) = IsAtWork t h s c
-May starts t h s (work.Upkeep u) = IsPresent h s × MayKeepUp h s u
-May starts t h s (work.Move r) =
-    IsPresent h s × IsTrue (is_ended h.past r) × (slice_get h.sessions s ≡ Some r.cluster)
+-- what a session does, it may do; no session splits or collects yet
+abbrev pub May : Starts → Scene → ℕ → Work → Type 0
+May starts x s work.Rest = Unit {0}
+May starts x s work.Login = IsFalse (has_login x.history.past s)
+May starts x s work.End = IsPresent x.history s
+May starts x s work.Refresh = IsPresent x.history s × IsFalse (is_attached x.history.past s)
+May starts x s (work.Read r) = IsPresent x.history s
+May starts x s (work.Changes r) = IsPresent x.history s × IsFalse (is_attached x.history.past s)
+May starts x s (work.Plan edit marks) =
+    IsPresent x.history s × IsFalse (is_attached x.history.past s) × starts x.history s edit marks
+May starts x s (work.Commit c) = IsAtWork x s c
+May starts x s (work.Upkeep u) = IsPresent x.history s × MayKeepUp x.history s u
+May starts x s (work.Move r) =
+    IsPresent x.history s × IsTrue (is_ended x.history.past r)
+    × (slice_get x.history.sessions s ≡ Some r.cluster)
+May starts x s (work.Tidy y) = ⊥
+May starts x s (work.Told e) = ⊥
 
 -- the state is kept by its law, with the former documents of those that list previous ones; the
--- documents are in store order, there are at most 64 sessions, of each it is known whether it is attached to a checkpoint, no cluster node is stopped, and each may
--- do what it does
+-- documents are in store order, and each lists each previous document once; there are at most 64
+-- sessions, of each it is known whether it is attached to a checkpoint, no cluster node is stopped,
+-- and each may do what it does
 pub record IsWorld (starts : Starts) (says : Says) {L : Type 0} (w : WorldOf L) : Type 0 where
   pub formers : Formers
   pub kept : IsKept starts says (with_formers (state_of w) formers)
   pub table : IsTable w.table.documents
+  pub once : AreListedOnce w.table
   pub few : length w.history.sessions ≤ 64
   pub attached : (s : ℕ) → (actor_in w.actors s).attached ≡ is_attached w.history.past s
   pub unstopped : (k : ℕ) → IsFalse (is_stopped w.history.past k)
   pub seats : length w.actors ≡ length w.history.sessions
-  pub may : (s : ℕ) → May starts w.table (live w.history) s (work_in w.actors s)
+  pub may : (s : ℕ)
+      → May starts (scene w.table formers (live w.history)) s (work_in w.actors s)
 
 -- each event was made for a command that asks for it, and the next command of each session asks for
 -- each event that what is being done for it may still append

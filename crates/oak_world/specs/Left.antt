@@ -42,6 +42,7 @@ use Rattle.oak_step.specs.declared.upkeep.Upkeep.TheVariants as upkeep
 use Rattle.oak_step.specs.declared.work.Work.{Work}
 use Rattle.oak_step.specs.declared.work.Work.TheVariants as work
 use Rattle.oak_step.specs.Parts.{pinned_base, changes_on, read_on}
+use Rattle.oak_tidy.specs.Left.{tidying_left}
 use Rattle.oak_world.specs.Worlds.{WorldOf, once_looked, state_of, work_in}
 
 -- ---- a reader
@@ -231,6 +232,8 @@ steps_left s t m (work.Plan edit marks) =
     suc (commit_left t (begun (next_draw m) (pinned_base m s) edit marks) None)
 steps_left s t m (work.Commit c) = commit_left t c c.outcome
 steps_left s t m (work.Upkeep u) = upkeep_left t m u
+steps_left s t m (work.Tidy x) = tidying_left t x
+steps_left s t m (work.Told e) = 0
 steps_left s t m _ = 1
 
 -- of what session s of a world does

@@ -1,8 +1,11 @@
 pub mod Rooms
 pub mod Worlds
 pub mod Steps
+pub mod Acting
+pub mod Looks
 pub mod Kept
 pub mod Seen
 pub mod Clashes
 pub mod Left
 pub mod Pairs
+pub mod Ends

@@ -6,6 +6,9 @@ use Rattle.jr_rev.specs.declared.revision.Revision.{Revision}
 use Rattle.oak_commit.specs.declared.outcome.CommitEnd.{CommitEnd}
 use Rattle.oak_commit.specs.declared.outcome.CommitEnd.TheVariants as end
 use Rattle.core_watch.specs.Standing.{path_read}
+use Rattle.oak_gc.specs.Stages as collecting
+use Rattle.oak_gc.specs.declared.stage.Stage.{Stage as Collected}
+use Rattle.oak_gc.specs.declared.stage.Stage.TheVariants as collected
 use Rattle.oak_port.specs.declared.task.Task.{Task}
 use Rattle.oak_port.specs.declared.task.Task.TheVariants as task
 use Rattle.oak_sweep.specs.Sweeping as sweeping
@@ -18,10 +21,12 @@ use Rattle.oak_sync.specs.declared.stage.Stage.{Stage as Syncing}
 use Rattle.oak_sync.specs.declared.stage.Stage.TheVariants as syncing
 use Rattle.oak_step.specs.declared.upkeep.Upkeep.{Upkeep}
 use Rattle.oak_step.specs.declared.upkeep.Upkeep.TheVariants as upkeep
-use Rattle.oak_port.specs.Ports.{Awaiting, Deciding, Detaching, Idle, Learning, Passing, Publishing, Seat, Shown, Starting, Sweeping, Undoing, Work as Shows, Writing}
+use Rattle.oak_port.specs.Ports.{Awaiting, Collecting, Deciding, Detaching, Idle, Learning, Passing, Publishing, Seat, Shown, Starting, Sweeping, Telling, Undoing, Work as Shows, Writing}
 use Rattle.oak_step.specs.declared.work.Work.{Work}
 use Rattle.oak_step.specs.declared.work.Work.TheVariants as work
 use Rattle.oak_step.specs.Works.{kind_due}
+use Rattle.oak_tidy.specs.declared.tidying.Tidying.{Tidying}
+use Rattle.oak_tidy.specs.declared.tidying.Tidying.TheVariants as tidying
 use Rattle.oak_world.specs.Worlds.{ActorState, WorldOf, actor_in, live, work_in}
 
 -- the task of a reader: a list where it has a parent, and else a load
@@ -61,6 +66,16 @@ shown_upkeep upkeep.Detach = Starting task.Detach
 shown_upkeep (upkeep.Detaching pin) = Detaching pin.base
 shown_upkeep upkeep.Observe = Starting task.Observe
 
+-- a collection that stands in a stage: before its bound is taken it starts
+abbrev pub shown_collect : Collected → Shows
+shown_collect collected.Bound = Starting task.Collect
+shown_collect _ = Collecting
+
+-- a split, or a collection
+abbrev pub shown_tidying : Tidying → Shows
+shown_tidying (tidying.Split x) = Starting (task.Split x.path)
+shown_tidying (tidying.Collect x) = shown_collect (collecting.stage_of x)
+
 -- what is shown of what a session does
 abbrev pub shown_work : Work → Shows
 shown_work work.Rest = Idle
@@ -73,6 +88,8 @@ shown_work (work.Plan edit marks) = Starting (task.Commit edit marks)
 shown_work (work.Commit c) = shown_by c.revision c.outcome
 shown_work (work.Move r) = Awaiting r
 shown_work (work.Upkeep u) = shown_upkeep u
+shown_work (work.Tidy x) = shown_tidying x
+shown_work (work.Told e) = Telling e
 
 -- the seat of a session
 abbrev pub seat_of : ActorState → Seat

@@ -1,5 +1,5 @@
 -- What sessions do, and what a step makes of a world.
-use Rattle.std.specs.Prelude.{◌≡◌, ◌≢◌, ◌⊎◌, ◌≤◌, ◌+◌, ◌-◌, ◌^◌, ℕ, Bool, true, false, cond, min, List, [], ◌∷◌, length, slice_get, slice_set, Option, Some, None, is_some, IsTrue, IsFalse}
+use Rattle.std.specs.Prelude.{◌≡◌, ◌≢◌, ◌⊎◌, ◌≤◌, ◌+◌, ◌-◌, ◌^◌, ℕ, Bool, true, false, cond, min, List, [], ◌∷◌, ◌++◌, length, slice_get, slice_set, Option, Some, None, is_some, IsTrue, IsFalse}
 use Rattle.std.specs.Option.{IsSomeAnd, option_map_or}
 use Rattle.std.specs.declared.alloc.Global.{Global}
 use Rattle.jr_path.specs.declared.path.Path.{Path}
@@ -23,7 +23,7 @@ use Rattle.oak_machine.specs.declared.event.Event.TheVariants as event
 use Rattle.oak_machine.specs.declared.event.StepKind.{StepKind}
 use Rattle.oak_machine.specs.declared.event.StepKind.TheVariants as kind
 use Rattle.oak_machine.specs.History.{History}
-use Rattle.oak_machine.specs.Laws.{Says}
+use Rattle.oak_machine.specs.Laws.{Says, after}
 use Rattle.oak_machine.specs.Sessions.{has_left, has_login, next_index}
 use Rattle.oak_node.specs.declared.pending.Pending.{Pending}
 use Rattle.oak_node.specs.Pins.{pin_of}
@@ -32,7 +32,7 @@ use Rattle.oak_node.specs.Notes.{IsPending}
 use Rattle.oak_node.specs.Heads.{AwaitsEarlier, learned, next_draw}
 use Rattle.oak_node.specs.Pins.{pin_now}
 use Rattle.oak_read.specs.Reading.{due}
-use Rattle.core_world.specs.States.{State, base_in, memory_of, node_of, nodes_in}
+use Rattle.core_world.specs.States.{State, base_in, memory_of, node_of, nodes_in, with_session}
 use Rattle.core_world.specs.Steps.{after_attach, after_back, after_checkpoint, after_detach, after_learn, after_learn_swept, after_observe, after_out, after_pending, after_release, after_sweep, after_unfound, after_went, after_draw, after_finish, after_last, after_leave, after_login, after_mark, after_refresh, after_undoing, after_want, after_write, after_write_in_want, with_observer, with_reader}
 use Rattle.oak_port.specs.declared.task.StepOut.{StepOut}
 use Rattle.oak_port.specs.declared.task.StepOut.TheVariants as answers
@@ -52,8 +52,14 @@ use Rattle.oak_step.specs.Upkeeps.{set_checkpoint}
 use Rattle.oak_step.specs.declared.work.Work.{Work}
 use Rattle.oak_step.specs.declared.work.Work.TheVariants as work
 use Rattle.oak_step.specs.Works.{kind_due}
-use Rattle.oak_step.specs.Parts.{EndsSo, changes_on, committed, end_of_reading, fed_previous, mark_made, read_on, swept_on}
-use Rattle.oak_world.specs.Worlds.{WorldOf, actor_in, running_as, state_of, work_in}
+use Rattle.oak_step.specs.Parts.{EndsSo, changes_on, end_of_reading, read_on, swept_on}
+use Rattle.oak_saves.specs.Saves.{committed, fed_previous, mark_made}
+use Rattle.oak_tidy.specs.declared.tidying.Tidied.{Tidied}
+use Rattle.oak_tidy.specs.declared.tidying.Tidied.TheVariants as tidied
+use Rattle.oak_tidy.specs.declared.tidying.Tidying.{Tidying}
+use Rattle.oak_tidy.specs.Replies.{all_parts, table_after}
+use Rattle.oak_tidy.specs.Tidyings.{GoesOrEnds, kind_tidied, tidied_on, tidy_events, tidying_ask}
+use Rattle.oak_world.specs.Worlds.{ActorState, IsAtRest, WorldOf, actor_in, reader_of, running_as, state_of, told_first, work_in}
 
 -- ---- who may be told what
 
@@ -67,12 +73,19 @@ pub record IsIdle {L : Type 0} (w : WorldOf L) (s : ℕ) : Type 0 where
   pub there : IsTrue (is_some (slice_get w.history.sessions s))
   pub idle : work_in w.actors s ≡ work.Rest
 
--- the text is the next reply of session s, which the law lets it say, and its bytes are reserved
-pub record HasReplyPlace (says : Says) (h : History) (reply : Option ℕ) (s i : ℕ)
+-- the session is one of the world's, and nothing is left to be done for it but to tell how its task
+-- ended
+pub record IsResting {L : Type 0} (w : WorldOf L) (s : ℕ) : Type 0 where
+  pub there : IsTrue (is_some (slice_get w.history.sessions s))
+  pub rest : IsAtRest (work_in w.actors s)
+
+-- the text is the next reply of session s, which the law lets it say behind how its task ended, and
+-- its bytes are reserved
+pub record HasReplyPlace (says : Says) (h : History) (a : ActorState) (s i : ℕ)
     (text : Text) : Type 0 where
   pub next : i ≡ next_index h.past s
-  pub lawful : says h s i text
-  pub room : IsSomeAnd reply (λ bytes. length text ≤ bytes)
+  pub lawful : says (after (told_first a.work) h) s i text
+  pub room : IsSomeAnd a.reply (λ bytes. length text ≤ bytes)
 
 -- ---- a step
 
@@ -218,6 +231,32 @@ MakesUpkeep s w upkeep.Observe u v (answers.Ready (ends.Pinned pin)) =
 MakesUpkeep s w upkeep.Observe u v answers.Memory = (u ≡ w) × (v ≡ work.Rest)
 MakesUpkeep s w upkeep.Observe u v _ = ⊥
 
+-- what tidies documents is this after a step in a world
+abbrev pub tidied_in : State → Tidying → Tidying
+tidied_in w x = tidied_on (all_parts w.table w.memories []) x
+
+-- the world after a step of session s that tidies documents, but for what is told of former ones:
+-- what is asked is done and answered, with its event
+abbrev pub after_tidied : State → ℕ → Tidying → State
+after_tidied w s x = record w {
+  past = tidy_events s x (tidied_in w x) ++ w.past;
+  table = table_after w.table (tidying_ask x);
+  reading = with_session w.reading s (reader_of (tidied_in w x));
+}
+
+-- what a session does whose split or collection has left this
+abbrev pub work_left : Tidied → Work
+work_left (tidied.Going x) = work.Tidy x
+work_left (tidied.Told e) = work.Told e
+work_left tidied.Gone = work.Rest
+
+-- a split or a collection makes the operation for which its automaton asks, and is fed the reply;
+-- where memory is refused it is gone
+abbrev pub MakesTidying : ℕ → State → Tidying → State → Work → StepOut → Type 0
+MakesTidying s w x u v answers.Memory = (u ≡ with_reader w s None) × (v ≡ work.Rest)
+MakesTidying s w x u v o = (u ≡ after_tidied w s x)
+    × (left : Tidied) × (v ≡ work_left left) × GoesOrEnds s (kind_tidied x) (tidied_in w x) left o
+
 -- how a step of session s goes, by what it does: the state after it, what it does then, and the
 -- answer
 abbrev pub MakesState : ℕ → State → Work → State → Work → StepOut → Type 0
@@ -260,6 +299,8 @@ MakesState s w (work.Move r) u v (answers.Ready (ends.Commit (end.Committed o)))
     (u ≡ after_refresh w s) × (v ≡ work.Rest) × (o ≡ r) × IsTrue (sees (memory_of w s).head r)
 MakesState s w (work.Move r) u v _ = ⊥
 MakesState s w (work.Upkeep k) u v o = MakesUpkeep s w k u v o
+MakesState s w (work.Tidy x) u v o = MakesTidying s w x u v o
+MakesState s w (work.Told e) u v _ = ⊥
 MakesState s w work.Rest u v _ = ⊥
 
 -- the documents that loads have read, after a step of a load; the count stays at its last value

@@ -1,5 +1,5 @@
 -- What contracts see of a world.
-use Rattle.std.specs.Prelude.{ℕ, Bool, false, List, [], ◌∷◌, length, map, reverse, slice_get, slice_set, Option, Some, None}
+use Rattle.std.specs.Prelude.{ℕ, Bool, false, ⊤, List, [], ◌∷◌, ◌++◌, length, map, reverse, slice_get, slice_set, Option, Some, None}
 use Rattle.std.specs.Option.{unwrap_or}
 use Rattle.std.specs.List.{fold, range_with_len}
 use Rattle.jr_path.specs.Ids.{names_of}
@@ -12,12 +12,15 @@ use Rattle.oak_commit.specs.Kept.{undoes, wants}
 use Rattle.oak_commit.specs.Looking.{with_found}
 use Rattle.oak_commit.specs.declared.look.Look.{Look}
 use Rattle.oak_doc.specs.declared.document.Document.{Document}
-use Rattle.oak_machine.specs.declared.event.Event.{Event}
 use Rattle.oak_machine.specs.declared.event.Event.TheVariants as event
 use Rattle.oak_machine.specs.declared.event.Journal.{Journal}
 use Rattle.oak_machine.specs.History.{History, Past}
 use Rattle.oak_node.specs.Memory.{NodeState, begun as begun_memory}
 use Rattle.oak_read.specs.Meaning.{documents_in}
+use Rattle.oak_prev.specs.declared.splitter.Splitter.{Splitter}
+use Rattle.oak_prev.specs.declared.splitter.Step.{Step as SplitStep}
+use Rattle.oak_prev.specs.declared.splitter.Step.TheVariants as split_step
+use Rattle.oak_read.specs.Reading.{node_reader}
 use Rattle.oak_read.specs.declared.reader.Reader.{Reader}
 use Rattle.oak_store.specs.Tables.{Table}
 use Rattle.core_clash.specs.Sessions.{Running}
@@ -27,7 +30,9 @@ use Rattle.core_world.specs.States.{State, memory_at, with_memory}
 use Rattle.oak_world.specs.declared.actor.Actor.{Actor}
 use Rattle.oak_step.specs.declared.work.Work.{Work}
 use Rattle.oak_step.specs.declared.work.Work.TheVariants as work
-use Rattle.oak_step.specs.Parts.{Parts, parts}
+use Rattle.oak_saves.specs.Saves.{Parts, parts}
+use Rattle.oak_tidy.specs.declared.tidying.Tidying.{Tidying}
+use Rattle.oak_tidy.specs.declared.tidying.Tidying.TheVariants as tidying
 
 -- ---- a world
 
@@ -96,6 +101,17 @@ actor_in actors s = unwrap_or (slice_get actors s) idle
 abbrev pub work_in : List ActorState → ℕ → Work
 work_in actors s = (actor_in actors s).work
 
+-- nothing is left to be done but to tell how a task ended
+abbrev pub IsAtRest : Work → Type 0
+IsAtRest work.Rest = ⊤
+IsAtRest (work.Told e) = ⊤
+IsAtRest _ = ⊥
+
+-- what is told directly before the reply: how a split or a collection ended
+abbrev pub told_first : Work → Past
+told_first (work.Told e) = e ∷ []
+told_first _ = []
+
 -- the world of these cluster nodes and sessions before any step
 abbrev pub start_world : {L : Type 0} → L → ℕ → List ℕ → WorldOf L
 start_world law clusters sessions = record {
@@ -144,9 +160,20 @@ abbrev pub running_of : Table → ℕ → Work → Option Running
 running_of t s (work.Commit c) = Some (running_as s (once_looked t c))
 running_of t s _ = None
 
--- a session's reader, where it loads
+-- the reader as which a splitter stands that has read nothing
+abbrev pub reader_at : Splitter → SplitStep → Option Reader
+reader_at x split_step.Read = Some (node_reader x.alloc x.pin x.path)
+reader_at x _ = None
+
+-- the reader as which something that tidies stands
+abbrev pub reader_of : Tidying → Option Reader
+reader_of (tidying.Split x) = reader_at x x.step
+reader_of (tidying.Collect x) = None
+
+-- a session's reader, where it loads, or splits and has read nothing
 abbrev pub reading_of : Work → Option Reader
 reading_of (work.Read r) = Some r
+reading_of (work.Tidy x) = reader_of x
 reading_of _ = None
 
 -- the reader of what changed that a session's work has
@@ -215,11 +242,18 @@ abbrev pub with_reply : {L : Type 0} → WorldOf L → ℕ → Option ℕ → Wo
 with_reply w s bytes =
     record w { actors = slice_set w.actors s (record (actor_in w.actors s) { reply = bytes }) }
 
--- the story with an event more
-abbrev pub with_event : Story → Event → Story
-with_event h e = record h { past = e ∷ h.past }
+-- the story with these events more, the newest first
+abbrev pub with_events : Story → Past → Story
+with_events h es = record h { past = es ++ h.past }
 
--- the world after session s has said its reply of index i
+-- the events of the reply of index i of a session that does this
+abbrev pub reply_events : ℕ → ℕ → Text → Work → Past
+reply_events s i text v = event.Said s i text ∷ told_first v
+
+-- the world after session s has said its reply of index i, and before it how its task ended, where
+-- that was to be told
 abbrev pub said_in : {L : Type 0} → WorldOf L → ℕ → ℕ → Text → WorldOf L
-said_in w s i text =
-    record (with_reply w s None) { history = with_event w.history (event.Said s i text) }
+said_in w s i text = record w {
+  history = with_events w.history (reply_events s i text (work_in w.actors s));
+  actors = slice_set w.actors s (record (actor_in w.actors s) { work = work.Rest; reply = None });
+}

@@ -1,15 +1,17 @@
 // A session's seat in the world: what it does, what is kept for its reply, and its steps.
-ghost use Rattle.std.specs.Prelude.{◌≡◌, ◌≤◌, ◌+◌, ◌∷◌, ◌++◌, [], false, IfOk, None, OnErr, OnOk, Some, cond, length};
+ghost use Rattle.std.specs.Prelude.{◌≡◌, ◌≤◌, ◌+◌, ◌∷◌, ◌++◌, [], false, IfOk, IsTrue, None, OnErr, OnOk, Some, cond, length, reverse};
 ghost use Rattle.std.specs.Option.{IsSomeAnd, option_map_or};
 ghost use Rattle.oak_machine.specs.declared.event.Event.TheVariants as event;
 ghost use Rattle.oak_node.specs.Pins.{pin_of};
 ghost use Rattle.oak_read.specs.Reading.{IsTable};
 ghost use Rattle.core_world.specs.States.{reader_pin};
-ghost use Rattle.oak_step.specs.Parts.{CanStep, Steps, parts};
+ghost use Rattle.oak_step.specs.Parts.{needed};
 ghost use Rattle.oak_step.specs.declared.work.Work.TheVariants as work;
 ghost use Rattle.oak_world.specs.Kept.{IsPlaced};
-ghost use Rattle.oak_world.specs.Steps.{attached_after, attaching, attaching_by, is_made, reads_after, reads_of_load};
-ghost use Rattle.oak_world.specs.Worlds.{shown_actor};
+ghost use Rattle.oak_tidy.specs.Replies.{all_parts};
+ghost use Rattle.oak_world.specs.Acting.{Acts, ActsOnAll, CanAct, is_tidying};
+ghost use Rattle.oak_world.specs.Steps.{attached_after, attaching, attaching_by, is_made, reads_after, reads_of_load, work_left};
+ghost use Rattle.oak_world.specs.Worlds.{IsAtRest, reply_events, shown_actor, told_first};
 
 use jr_path::{DocId, Text};
 use jr_rev::Pin;
@@ -18,6 +20,7 @@ use oak_node::NodeMem;
 use oak_port::{StepOut, TaskEnd};
 use oak_step::{Upkeep, Work, step_work};
 use oak_store::DocTable;
+use oak_tidy::{Tidied, tidy};
 use std::alloc::{AllocError, Global};
 use std::marker::Model;
 use std::mem;
@@ -108,8 +111,74 @@ impl Actor {
         Ok(())
     }
 
-    // Says a reply for which room is kept. No memory is taken.
+    // Begins what the session does now. A split or a collection keeps a place of the journal for how
+    // it ends. Where memory is refused nothing changes.
+    pub(crate) fn begin(&mut self, events: &mut Events, work: Work) -> Result<(), AllocError>
+        requires needed { needed work ≤ cond (is_tidying work) 1 0 }
+        requires placed { IsPlaced self.old }
+        requires places { self.old.places ≤ events.old.places }
+        ensures ok { OnOk result (shown_actor self.new ≡ record (shown_actor self.old) {
+          work = work;
+          began = length events.old.list;
+        }) }
+        ensures err { OnErr result (shown_actor self.new ≡ shown_actor self.old) }
+        ensures list { events.new.list ≡ events.old.list }
+        ensures placed { IsPlaced self.new }
+        ensures places { events.new.places + self.old.places ≡ events.old.places + self.new.places }
+    {
+        if is_tidying(&work) {
+            events.keep(1)?;
+            let _all = events.places();
+            self.places += 1;
+        }
+        self.began = events.len();
+        self.work = work;
+        Ok(())
+    }
+
+    // Says a reply for which room is kept, and before it how a split or a collection ended, where
+    // that is to be told. No memory is taken.
     pub(crate) fn say(&mut self, events: &mut Events, s: u32, index: u32, text: &str)
+        requires rest { IsAtRest self.old.work }
+        requires room { IsSomeAnd self.old.reply (λ bytes. length text.now ≤ bytes) }
+        requires placed { IsPlaced self.old }
+        requires places { self.old.places ≤ events.old.places }
+        ensures actor { shown_actor self.new ≡ record (shown_actor self.old) {
+          work = work.Rest;
+          reply = None;
+        } }
+        ensures list { events.new.list
+            ≡ events.old.list ++ reverse (reply_events s index text.now self.old.work) }
+        ensures placed { IsPlaced self.new }
+        ensures places { events.new.places + self.old.places ≡ events.old.places + self.new.places }
+    {
+        self.tell(events);
+        self.reply(events, s, index, text);
+    }
+
+    // Tells how a split or a collection ended, where that is to be told.
+    fn tell(&mut self, events: &mut Events)
+        requires rest { IsAtRest self.old.work }
+        requires placed { IsPlaced self.old }
+        requires places { self.old.places ≤ events.old.places }
+        ensures actor { shown_actor self.new ≡ record (shown_actor self.old) { work = work.Rest } }
+        ensures list { events.new.list ≡ events.old.list ++ told_first self.old.work }
+        ensures placed { IsPlaced self.new }
+        ensures places { events.new.places + self.old.places ≡ events.old.places + self.new.places }
+        ensures kept { self.new.places ≤ events.new.places }
+    {
+        match mem::replace(&mut self.work, Work::Rest) {
+            Work::Told(told) => {
+                events.push_kept(told);
+                self.places -= 1;
+            }
+            Work::Rest => {}
+            _ => unreachable!(),
+        }
+    }
+
+    // Says a reply for which room is kept.
+    fn reply(&mut self, events: &mut Events, s: u32, index: u32, text: &str)
         requires room { IsSomeAnd self.old.reply (λ bytes. length text.now ≤ bytes) }
         requires placed { IsPlaced self.old }
         requires places { self.old.places ≤ events.old.places }
@@ -139,18 +208,19 @@ fn reader_pin(table: &DocTable, s: u32) -> Option<Pin>
 pub(crate) fn step_actor(
     alloc: Global,
     table: &mut DocTable,
-    memory: &mut NodeMem,
+    memories: &mut Vec<NodeMem>,
     events: &mut Events,
     node: u32,
     s: u32,
     actor: &mut Actor,
 ) -> StepOut
-    requires can { CanStep s memory.old events.old.places actor.old.work }
+    requires can { CanAct s node memories.old.items events.old.places actor.old.work }
     requires table { IsTable table.old.documents }
     requires placed { IsPlaced actor.old }
     requires places { actor.old.places ≤ events.old.places }
-    ensures made { Steps s node (parts table.old memory.old events.old.list) actor.old.work
-        (parts table.new memory.new events.new.list) actor.new.work result }
+    ensures made { Acts s node (all_parts table.old memories.old.items events.old.list)
+        actor.old.work (all_parts table.new memories.new.items events.new.list) actor.new.work
+        result }
     ensures began { actor.new.began ≡ actor.old.began }
     ensures reply { actor.new.reply ≡ actor.old.reply }
     ensures reads { actor.new.reads ≡ reads_after actor.old.work result actor.old.reads }
@@ -165,13 +235,95 @@ pub(crate) fn step_actor(
     let reading = is_read(&actor.work);
     let attaching = attaching(&actor.work);
     let work = mem::replace(&mut actor.work, Work::Rest);
-    let (work, out) = step_work(alloc, table, memory, events, node, s, work);
+    let (work, out) = act(alloc, table, memories, events, node, s, work);
     actor.reads = reads_after(reading, &out, reads);
     actor.attached = attached_after(attaching, &out, actor.attached);
     actor.work = work;
     actor.places = events.places() - others;
     settle(events, actor);
     out
+}
+
+// One step of what a session does: over all memories, or on that of its cluster node alone.
+fn act(
+    alloc: Global,
+    table: &mut DocTable,
+    memories: &mut Vec<NodeMem>,
+    events: &mut Events,
+    node: u32,
+    s: u32,
+    work: Work,
+) -> (Work, StepOut)
+    requires can { CanAct s node memories.old.items events.old.places work }
+    requires table { IsTable table.old.documents }
+    ensures made { Acts s node (all_parts table.old memories.old.items events.old.list) work
+        (all_parts table.new memories.new.items events.new.list) result.0 result.1 }
+    ensures places { events.old.places + needed result.0 ≤ events.new.places + needed work }
+    ensures order { IsTable table.new.documents }
+{
+    if is_tidying(&work) {
+        act_on_all(alloc, table, memories.as_slice(), events, s, work)
+    } else {
+        let memory = &mut memories[node as usize - 1];
+        step_work(alloc, table, memory, events, node, s, work)
+    }
+}
+
+// One step of a split or a collection, over all memories.
+fn act_on_all(
+    alloc: Global,
+    table: &mut DocTable,
+    memories: &[NodeMem],
+    events: &mut Events,
+    s: u32,
+    work: Work,
+) -> (Work, StepOut)
+    requires tidies { IsTrue (is_tidying work) }
+    requires can { CanAct s 0 memories.now events.old.places work }
+    requires table { IsTable table.old.documents }
+    ensures made { ActsOnAll s (all_parts table.old memories.now events.old.list) work
+        (all_parts table.new memories.now events.new.list) result.0 result.1 }
+    ensures places { events.old.places + needed result.0 ≤ events.new.places + needed work }
+    ensures order { IsTable table.new.documents }
+{
+    match work {
+        Work::Tidy(tidying) => {
+            let (left, out) = tidy(alloc, table, memories, events, s, tidying);
+            (work_left(left), out)
+        }
+        _ => unreachable!(),
+    }
+}
+
+// What a session does whose split or collection has left this.
+fn work_left(left: Tidied) -> Work
+    ensures { result ≡ work_left left }
+{
+    match left {
+        Tidied::Going(tidying) => Work::Tidy(tidying),
+        Tidied::Told(told) => Work::Told(told),
+        Tidied::Gone => Work::Rest,
+    }
+}
+
+// Whether a session splits or collects.
+fn is_tidying(work: &Work) -> bool
+    ensures { result ≡ is_tidying work.now }
+{
+    match work {
+        Work::Tidy(_) => true,
+        Work::Rest
+        | Work::Login
+        | Work::End
+        | Work::Refresh
+        | Work::Read(_)
+        | Work::Changes(_)
+        | Work::Plan(_, _)
+        | Work::Commit(_)
+        | Work::Move(_)
+        | Work::Upkeep(_)
+        | Work::Told(_) => false,
+    }
 }
 
 // Whether what a session does is a load or a list.
@@ -189,7 +341,9 @@ fn is_read(work: &Work) -> bool
         | Work::Plan(_, _)
         | Work::Commit(_)
         | Work::Move(_)
-        | Work::Upkeep(_) => false,
+        | Work::Upkeep(_)
+        | Work::Tidy(_)
+        | Work::Told(_) => false,
     }
 }
 
@@ -205,7 +359,9 @@ fn attaching(work: &Work) -> Option<bool>
         | Work::Read(_)
         | Work::Changes(_)
         | Work::Plan(_, _)
-        | Work::Commit(_) => None,
+        | Work::Commit(_)
+        | Work::Tidy(_)
+        | Work::Told(_) => None,
     }
 }
 

@@ -1,5 +1,5 @@
 // A world under a law.
-ghost use Rattle.std.specs.Prelude.{ℕ, IfOk, IsFalse, IsSome, IsTrue, None, OnErr, OnOk, Some, is_some, length, map, slice_get, ◌-◌, ◌<◌, ◌^◌, ◌↔◌, ◌≡◌, ◌≢◌, ◌≤◌, ◌⊎◌};
+ghost use Rattle.std.specs.Prelude.{ℕ, IfOk, IsFalse, IsSome, IsTrue, None, OnErr, OnOk, Some, is_some, length, map, slice_get, ◌-◌, ◌<◌, ◌^◌, ◌↔◌, ◌≡◌, ◌≤◌, ◌⊎◌};
 ghost use Rattle.std.specs.Borrow.{GName};
 ghost use Rattle.std.specs.List.{range_with_len};
 ghost use Rattle.std.specs.Option.{option_map};
@@ -26,15 +26,16 @@ ghost use Rattle.core_world.specs.Kept.{IsFreeOf, IsKept, reader_at};
 ghost use Rattle.core_world.specs.States.{actor_pin, memory_at, nodes_in, reader_pin};
 ghost use Rattle.core_clash.specs.Unclashing.{IsUnclashing};
 ghost use Rattle.oak_step.specs.declared.work.Work.{Work};
-ghost use Rattle.oak_step.specs.declared.work.Work.TheVariants as work;
+ghost use Rattle.oak_step.specs.declared.work.Work.TheVariants.{Told};
 ghost use Rattle.oak_world.specs.Clashes.{Wanted};
+ghost use Rattle.oak_world.specs.Ends.{MayTell};
 ghost use Rattle.oak_world.specs.Left.{left_in};
 ghost use Rattle.oak_world.specs.Pairs.{ShowsTree};
 ghost use Rattle.oak_world.specs.Seen.{shown_at};
 ghost use Rattle.oak_step.specs.Upkeeps.{set_checkpoint};
 ghost use Rattle.oak_step.specs.Works.{Begins, kind_due};
-ghost use Rattle.oak_world.specs.Steps.{HasReplyPlace, IsIdle, Plays, StepsIn, Turns};
-ghost use Rattle.oak_world.specs.Worlds.{actor_in, live, said_in, start_world, state_of, with_formers, with_reply, with_work, work_in};
+ghost use Rattle.oak_world.specs.Steps.{HasReplyPlace, IsIdle, IsResting, Plays, StepsIn, Turns};
+ghost use Rattle.oak_world.specs.Worlds.{IsAtRest, actor_in, live, said_in, start_world, state_of, with_formers, with_reply, with_work, work_in};
 
 use crate::actor::{Actor, Room, step_actor};
 use crate::start::start_documents;
@@ -165,7 +166,8 @@ impl<L: Law + Drop> World<L> {
         &self.journal
     }
 
-    /// All that `journal` tells of the world is so. The call does nothing: callers learn the facts.
+    /// All that `journal` tells of the world is so; and how a split or a collection has ended, where
+    /// that is to be told, may be told. The call does nothing: callers learn the facts.
     pub fn is_kept(&self)
         ensures run { IsRun (L.may_start self.now.law) (L.may_say self.now.law)
             (live self.now.history) }
@@ -183,6 +185,8 @@ impl<L: Law + Drop> World<L> {
             → IsUnclashing self.now.history.past r
             → IsTrue (is_committed self.now.history.past r) ⊎ Wanted self.now.history.past r }
         ensures asked { AreAsked (L.asks self.now.law) (live self.now.history) }
+        ensures told { (s : ℕ) (e : Event) → work_in self.now.actors s ≡ Told e
+            → MayTell (live self.now.history) s e }
     {
         let _ = &self.journal;
     }
@@ -252,31 +256,31 @@ impl<L: Law + Drop> World<L> {
     }
 
     /// Tells a session that does nothing what to do; its next command asks for the events of the
-    /// task. Where memory is refused nothing changes.
+    /// task. For how a split or a collection ends a place of the journal is kept. Where memory is
+    /// refused nothing changes.
     pub fn start(&mut self, actor: u32, task: Task) -> Result<(), AllocError>
         requires idle { IsIdle self.old actor }
         requires may { MayBegin (L.may_start self.old.law) (live self.old.history) actor task }
         requires asked { IsAskedOf (L.asks self.old.law) (live self.old.history) actor task }
         ensures ok { OnOk result ((v : Work)
-            × Begins (actor_pin (state_of self.old) actor) task v
+            × Begins self.old.history.clusters (actor_pin (state_of self.old) actor) task v
             × (self.new ≡ with_work self.old actor v)) }
         ensures err { OnErr result (self.new ≡ self.old) }
     {
         let pin = self.pin(actor);
-        let work = Work::of(self.alloc, pin, task)?;
-        let began = self.journal.events.len();
+        let work = Work::of(self.alloc, self.journal.clusters, pin, task)?;
         let seat = &mut self.actors[actor as usize];
-        seat.work = work;
-        seat.began = began;
-        Ok(())
+        seat.begin(&mut self.journal.events, work)
     }
 
-    /// One step of a session that has a task. A port tells of it what the second clause says,
-    /// whatever the reference that leads to the world. A step lowers the number of steps that are
-    /// left of the task, or the session waits.
+    /// One step of a session that has a task. A split or a collection makes the operation for which
+    /// its automaton asks, and is fed the reply; once it has ended, how it ended is to be told with
+    /// the session's next reply. A port tells of the step what the second clause says, whatever the
+    /// reference that leads to the world. A step lowers the number of steps that are left of the
+    /// task, or the session waits.
     pub fn step(&mut self, actor: u32) -> StepOut
         requires there { IsTrue (is_some (slice_get self.old.history.sessions actor)) }
-        requires busy { work_in self.old.actors actor ≢ work.Rest }
+        requires busy { IsAtRest (work_in self.old.actors actor) → ⊥ }
         ensures made { StepsIn self.old actor self.new result }
         ensures seen { (name : GName) → Steps (L.may_start self.old.law) (L.may_say self.old.law)
             (shown_at name self.old actor) (shown_at name self.new actor) result }
@@ -284,12 +288,11 @@ impl<L: Law + Drop> World<L> {
     {
         let node = self.node(actor);
         are_few(self.journal.events.as_slice());
-        let memory = &mut self.memories[node as usize - 1];
         let seat = &mut self.actors[actor as usize];
         step_actor(
             self.alloc,
             &mut self.table,
-            memory,
+            &mut self.memories,
             &mut self.journal.events,
             node,
             actor,
@@ -297,13 +300,13 @@ impl<L: Law + Drop> World<L> {
         )
     }
 
-    /// The kind of the session's next step; None where it has no task. No memory is taken. Where no
-    /// step is left it has none.
+    /// The kind of the session's next step; None where nothing is left to be done but to tell how a
+    /// task ended. No memory is taken. Where no step is left nothing is.
     pub fn due(&self, actor: u32) -> Option<StepKind>
         requires { IsTrue (is_some (slice_get self.now.history.sessions actor)) }
         ensures due { result ≡ kind_due (work_in self.now.actors actor) }
-        ensures busy { IsSome result ↔ (work_in self.now.actors actor ≢ work.Rest) }
-        ensures over { left_in self.now actor ≡ 0 → work_in self.now.actors actor ≡ work.Rest }
+        ensures busy { IsSome result ↔ (IsAtRest (work_in self.now.actors actor) → ⊥) }
+        ensures over { left_in self.now actor ≡ 0 → IsAtRest (work_in self.now.actors actor) }
     {
         let seat = &self.actors[actor as usize];
         seat.work.due()
@@ -329,12 +332,13 @@ impl<L: Law + Drop> World<L> {
         seat.reserve(&mut self.journal.events, room)
     }
 
-    /// Says the session's next reply, which the law lets it say, and whose bytes are reserved. The
-    /// reply can't be refused.
+    /// Says the session's next reply, which the law lets it say, and whose bytes are reserved.
+    /// Directly before it stands how the session's split or collection ended, where it is to be
+    /// told. Neither can be refused.
     pub fn say(&mut self, actor: u32, index: u32, text: &str)
-        requires idle { IsIdle self.old actor }
+        requires rest { IsResting self.old actor }
         requires may { HasReplyPlace (L.may_say self.old.law) (live self.old.history)
-            (actor_in self.old.actors actor).reply actor index text.now }
+            (actor_in self.old.actors actor) actor index text.now }
         ensures { self.new ≡ said_in self.old actor index text.now }
     {
         let seat = &mut self.actors[actor as usize];

@@ -52,7 +52,7 @@ fn word(stage: Stage) -> &'static str {
 
 fn end(splitter: Splitter, out: &mut Out) {
     if splitter.is_done() {
-        put_end(splitter.end(), out);
+        put_end(splitter.end().1, out);
     } else {
         mem::forget(splitter);
     }

@@ -1,6 +1,6 @@
 -- Each step by its lemma.
 use Rattle.core_world.proofs.sessions_keep_the_world.Goals as goal
-use Rattle.core_world.proofs.Whole.{gone_whole, leave_whole, list_whole, load_whole, login_whole, observe_whole, read_whole, refresh_whole, said_whole, start_whole, went_whole}
+use Rattle.core_world.proofs.Whole.{gone_whole, leave_whole, list_whole, load_whole, login_whole, observe_whole, read_whole, refresh_whole, said_whole, start_whole, task_end_whole, went_whole}
 
 pub returns-clause-start : goal.returns-clause-start
 returns-clause-start g c = λ clusters sessions nodes. start_whole (g.L.Law.may_start c.args.law.now) (g.L.Law.may_say c.args.law.now) clusters sessions nodes
@@ -34,3 +34,6 @@ returns-clause-read g c = λ w s r kept here table. read_whole (g.L.Law.may_star
 
 pub returns-clause-gone : goal.returns-clause-gone
 returns-clause-gone g c = λ w s kept. gone_whole (g.L.Law.may_start c.args.law.now) (g.L.Law.may_say c.args.law.now) (g.L.Law.proper c.args.law.now) w kept s
+
+pub returns-clause-task_end : goal.returns-clause-task_end
+returns-clause-task_end g c = λ w s e kept own may. task_end_whole (g.L.Law.may_start c.args.law.now) (g.L.Law.may_say c.args.law.now) (g.L.Law.proper c.args.law.now) w kept s e own may

@@ -1,6 +1,6 @@
 -- By the form of the steps.
 use Rattle.core_world.proofs.sessions_leave_others.Goals as goal
-use Rattle.core_world.proofs.Others.{learn_swept_others, unfound_others, attach_others, checkpoint_others, detach_others, release_others, pending_others, back_others, out_others, swept_others, learn_others, draw_others, finish_others, last_others, leave_others, login_others, mark_others, observe_others, reader_others, observer_others, refresh_others, said_others, undo_others, want_others, went_others, write_in_want_others, write_others}
+use Rattle.core_world.proofs.Others.{learn_swept_others, task_end_others, unfound_others, attach_others, checkpoint_others, detach_others, release_others, pending_others, back_others, out_others, swept_others, learn_others, draw_others, finish_others, last_others, leave_others, login_others, mark_others, observe_others, reader_others, observer_others, refresh_others, said_others, undo_others, want_others, went_others, write_in_want_others, write_others}
 
 pub returns-clause-login : goal.returns-clause-login
 returns-clause-login c = login_others
@@ -82,3 +82,6 @@ returns-clause-unfound c = unfound_others
 
 pub returns-clause-learn_swept : goal.returns-clause-learn_swept
 returns-clause-learn_swept c = learn_swept_others
+
+pub returns-clause-task_end : goal.returns-clause-task_end
+returns-clause-task_end c = task_end_others

@@ -3,7 +3,7 @@ use Rattle.core_world.proofs.what_is_held_rises.Goals as goal
 use Rattle.core_world.specs.Held.{holding_in}
 use Rattle.core_world.proofs.Held.{still_holding}
 use Rattle.core_world.proofs.Whole.{base_above, bound_keeps, layers_of}
-use Rattle.core_world.proofs.Rising.{attach_rises, attach_unfound_rises, back_rises, checkpoint_rises, detach_rises, draw_rises, finish_rises, last_rises, learn_rises, learn_swept_rises, leave_rises, login_rises, mark_rises, observe_rises, out_rises, pending_rises, refresh_rises, release_rises, release_unfound_rises, said_rises, sweep_rises, undo_rises, went_rises, write_in_want_rises, write_rises}
+use Rattle.core_world.proofs.Rising.{attach_rises, attach_unfound_rises, back_rises, checkpoint_rises, detach_rises, draw_rises, finish_rises, last_rises, learn_rises, learn_swept_rises, leave_rises, login_rises, mark_rises, observe_rises, out_rises, pending_rises, refresh_rises, task_end_rises, release_rises, release_unfound_rises, said_rises, sweep_rises, undo_rises, went_rises, write_in_want_rises, write_rises}
 
 pub returns-clause-login : goal.returns-clause-login
 returns-clause-login g c = λ w s kept on there first. login_rises (g.L.Law.may_start c.args.law.now) (g.L.Law.may_say c.args.law.now) (g.L.Law.proper c.args.law.now) w (layers_of (g.L.Law.may_start c.args.law.now) (g.L.Law.may_say c.args.law.now) w kept) s on there first
@@ -91,3 +91,6 @@ returns-clause-bound g c = λ w m t. still_holding (holding_in w)
 
 pub returns-clause-bound_kept : goal.returns-clause-bound_kept
 returns-clause-bound_kept g c = λ w m t kept takes. bound_keeps (g.L.Law.may_start c.args.law.now) (g.L.Law.may_say c.args.law.now) (g.L.Law.proper c.args.law.now) w kept m t takes
+
+pub returns-clause-task_end : goal.returns-clause-task_end
+returns-clause-task_end g c = λ w s e kept own may. task_end_rises (g.L.Law.may_start c.args.law.now) (g.L.Law.may_say c.args.law.now) (g.L.Law.proper c.args.law.now) w (layers_of (g.L.Law.may_start c.args.law.now) (g.L.Law.may_say c.args.law.now) w kept) s e own may

@@ -78,14 +78,14 @@ returns-in-Memory-clause-reads g c =
     let later = g.P.Port.law c.step.new.self in
     twice_reads (g.P.Port.shown c.args.port.now) (g.P.Port.shown c.step-answer.new.self) c.args.run.now c.committed_on.new.run a.0 a.1 (starts_of law) (says_of law) law (starts_of later) (says_of later)
     (g.P.Port.left c.args.port.now) (g.P.Port.left c.step.new.self) (g.P.Port.left c.step-answer.new.self) (g.P.Port.shown c.step.new.self) c.step.result c.step-answer.result c.committed_on.result c.in-Memory.is
-    c.step.ensures.steps c.step.ensures.lowers c.step-answer.ensures.steps c.step-answer.ensures.lowers c.committed_on.ensures.turn
+    c.step.ensures.steps c.step.ensures.lowers c.step-answer.ensures.steps c.step-answer.ensures.lowers c.committed_on.ensures.run c.committed_on.ensures.turn
 
 pub returns-in_default-clause-reads : goal.returns-in_default-clause-reads
 returns-in_default-clause-reads g c =
     let a = commits_by c.args.run.now.phase c.requires.commits in
     let law = g.P.Port.law c.args.port.now in
     once_reads (g.P.Port.shown c.args.port.now) (g.P.Port.shown c.step.new.self) c.args.run.now c.committed_on-in_default.new.run a.0 a.1 (starts_of law) (says_of law) law (g.P.Port.left c.args.port.now) (g.P.Port.left c.step.new.self)
-    c.step.result c.committed_on-in_default.result c.step.ensures.steps c.step.ensures.lowers c.committed_on-in_default.ensures.turn
+    c.step.result c.committed_on-in_default.result c.step.ensures.steps c.step.ensures.lowers c.committed_on-in_default.ensures.run c.committed_on-in_default.ensures.turn
 
 -- it draws no other
 pub returns-in-Memory-clause-draws : goal.returns-in-Memory-clause-draws

@@ -8,7 +8,7 @@ use Rattle.jcr_run.proofs.Waiting.{by_waits}
 use Rattle.jcr_session.proofs.errand.begin_errand.Goals as goal
 
 pub start-requires-clause-idle : goal.start-requires-clause-idle
-start-requires-clause-idle g c = c.requires.sets.asked.idle
+start-requires-clause-idle g c = c.requires.sets.idle
 
 pub start-requires-clause-may : goal.start-requires-clause-may
 start-requires-clause-may g c = errand_begins (g.P.Port.law c.args.port.now) (g.P.Port.shown c.args.port.now) c.args.run.now c.args.task

@@ -1,8 +1,8 @@
 use Rattle.std.proofs.Common.{subst, sym, ap}
 use Rattle.jcr_run.specs.declared.run.Phase.{Phase}
-use Rattle.jcr_run.specs.Standing.{HasCommitEnded, is_detaching, is_on_errand, is_told}
+use Rattle.jcr_run.specs.Standing.{HasCommitEnded, is_detaching, is_on_errand, is_tidied, is_tidying, is_told}
 use Rattle.jcr_run.proofs.Looking.{over_ends}
-use Rattle.jcr_session.proofs.Nearer.{reply_steps, steps_sooner}
+use Rattle.jcr_session.proofs.Nearer.{begins_reads, reply_steps, steps_sooner}
 use Rattle.jcr_session.proofs.Undrawn.{reply_undrawn}
 use Rattle.jcr_session.proofs.turns.counted.Goals as goal
 
@@ -50,3 +50,13 @@ returns-in-Committed-clause-steps g c = reply_steps _ _ _ c.say_end.result c.say
 pub returns-in-Committed-clause-draws : goal.returns-in-Committed-clause-draws
 returns-in-Committed-clause-draws g c = λ saving.
     reply_undrawn (g.P.Port.law c.args.port.now) (g.P.Port.shown c.args.port.now) (g.P.Port.shown c.say_end.new.port) c.args.run.now c.say_end.new.run c.say_end.result c.requires.stands c.say_end.ensures.said c.say_end.ensures.granted c.say_end.ensures.turned
+
+-- the step that begins a collection may be one of reading
+pub returns-in-Between-clause-reads : goal.returns-in-Between-clause-reads
+returns-in-Between-clause-reads g c = begins_reads (g.P.Port.law c.args.port.now) (g.P.Port.shown c.args.port.now) c.args.run.now c.rest.new.run _ c.rest.result c.in-Between.is c.rest.ensures.reads
+
+pub say_tidied-requires-clause-tidied : goal.say_tidied-requires-clause-tidied
+say_tidied-requires-clause-tidied g c = ap is_tidied c.in-Tidied.is
+
+pub returns-in-Tidied-clause-steps : goal.returns-in-Tidied-clause-steps
+returns-in-Tidied-clause-steps g c = reply_steps _ _ _ c.say_tidied.result c.say_tidied.ensures.said

@@ -1,27 +1,31 @@
 use Rattle.std.proofs.Common.{ℕ, inl, sym, subst, false, ◌∙◌}
 use Rattle.jcr_run.proofs.Calling.{forgo_law, stands_law, turned_law}
 use Rattle.jcr_run.proofs.Lawful.{idle_by}
-use Rattle.jcr_run.proofs.Looking.{looked_reads, refused_forgoes, turned_behind}
+use Rattle.jcr_run.proofs.Looking.{looked_reads, refused_forgoes, turned_behind, turned_on}
 use Rattle.jcr_run.proofs.Nexts.{reads_between, reads_unbegun, reads_unmoved, reads_unsaving}
-use Rattle.jcr_session.proofs.Nearer.{counted_reads, counted_turns, left_looked, reads_nearer, reply_steps, steps_sooner, turn_nearer}
-use Rattle.jcr_run.specs.Nearing.{EndsSooner, StepsOn, WorksSooner, turns_left}
+use Rattle.jcr_session.proofs.Nearer.{begins_reads, commit_nearer, counted_reads, counted_turns, left_looked, reads_nearer, reply_steps, steps_sooner, tidying_unsaving, turn_nearer}
+use Rattle.jcr_law.specs.declared.law.JcrLaw.{JcrLaw}
+use Rattle.jcr_run.specs.Nearing.{BeginsNearer, EndsSooner, StepsOn, WorksSooner, turns_left}
+use Rattle.jcr_run.specs.Standing.{HasTurned}
 use Rattle.jcr_session.proofs.turns.turn.Goals as goal
 
--- no reading step can be due
-pub returns-then-not-may_read-clause-turned : goal.returns-then-not-may_read-clause-turned
-returns-then-not-may_read-clause-turned g c =
-    counted_turns (g.P.Port.law c.args.port.now) (g.P.Port.shown c.args.port.now) (g.P.Port.shown c.counted.new.port) c.args.run.now c.counted.new.run c.counted.result c.counted.ensures.turned
+-- a split or a collection is under way
+pub returns-then-is_tidying-clause-nears : goal.returns-then-is_tidying-clause-nears
+returns-then-is_tidying-clause-nears g c =
+    commit_nearer (g.P.Port.law c.args.port.now) (g.P.Port.shown c.args.port.now) (g.P.Port.shown c.tidy_on.new.port) c.args.run.now c.tidy_on.new.run
+    (WorksSooner (g.P.Port.left c.args.port.now) (g.P.Port.left c.tidy_on.new.port) (g.P.Port.shown c.args.port.now) c.args.run.now)
+    c.tidy_on.result c.requires.stands c.tidy_on.ensures.turned c.tidy_on.ensures.steps
 
+pub returns-then-is_tidying-clause-draws : goal.returns-then-is_tidying-clause-draws
+returns-then-is_tidying-clause-draws g c = λ saving. tidying_unsaving c.args.run.now.phase (sym c.is_tidying.ensures ∙ c.if-is_tidying.true) saving
+
+-- no reading step can be due
 pub returns-then-not-may_read-clause-nears : goal.returns-then-not-may_read-clause-nears
 returns-then-not-may_read-clause-nears g c =
-    turn_nearer (g.P.Port.law c.args.port.now) (g.P.Port.shown c.args.port.now) (g.P.Port.shown c.counted.new.port) c.args.run.now
+    commit_nearer (g.P.Port.law c.args.port.now) (g.P.Port.shown c.args.port.now) (g.P.Port.shown c.counted.new.port) c.args.run.now
     c.counted.new.run
     (WorksSooner (g.P.Port.left c.args.port.now) (g.P.Port.left c.counted.new.port) (g.P.Port.shown c.args.port.now) c.args.run.now)
     c.counted.result c.requires.stands c.counted.ensures.turned c.counted.ensures.steps
-
-pub returns-then-not-may_read-clause-reads : goal.returns-then-not-may_read-clause-reads
-returns-then-not-may_read-clause-reads g c =
-    counted_reads (g.P.Port.law c.args.port.now) (g.P.Port.shown c.args.port.now) (g.P.Port.shown c.counted.new.port) c.args.run.now c.counted.new.run (EndsSooner (g.P.Port.left c.args.port.now) (g.P.Port.left c.counted.new.port) (g.P.Port.shown c.args.port.now)) c.counted.result c.counted.ensures.turned
 
 -- a reading step was made
 pub returns-in-Ok-true-clause-turned : goal.returns-in-Ok-true-clause-turned
@@ -54,10 +58,9 @@ returns-in-Ok-false-clause-turned g c =
     let mid = g.P.Port.shown c.read.new.port in
     let new = g.P.Port.shown c.go_on.new.port in
     let reads = sym c.may_read.ensures ∙ c.if-not-may_read.false in
-    counted_turns law old new c.args.run.now c.go_on.new.run c.go_on.result
-    (turned_behind law old mid new c.args.run.now c.read.new.run c.go_on.new.run c.go_on.result c.requires.stands reads c.read.ensures.looked
+    turned_on law old mid new c.args.run.now c.read.new.run c.go_on.new.run c.go_on.result c.requires.stands reads c.read.ensures.looked
     (idle_by law mid c.read.new.run c.read.ensures.looked.stands (c.read.ensures.looked.same.phase ∙ reads_between c.args.run.now reads) (c.in-Ok-false.ensures.read.prepared c.in-Ok-false.field-0-test reads).done)
-    (turned_law law (g.P.Port.law c.read.new.port) c.read.ensures.law mid new c.read.new.run c.go_on.new.run c.go_on.result c.go_on.ensures.turned))
+    (subst (λ (l : JcrLaw). HasTurned l mid new c.read.new.run c.go_on.new.run c.go_on.result) c.read.ensures.law c.go_on.ensures.turned)
 
 pub returns-in-Ok-false-clause-nears : goal.returns-in-Ok-false-clause-nears
 returns-in-Ok-false-clause-nears g c =
@@ -67,24 +70,19 @@ returns-in-Ok-false-clause-nears g c =
     let new = g.P.Port.shown c.go_on.new.port in
     let reads = sym c.may_read.ensures ∙ c.if-not-may_read.false in
     let sooner = WorksSooner (g.P.Port.left c.args.port.now) (g.P.Port.left c.go_on.new.port) old c.args.run.now in
-    turn_nearer law old new c.args.run.now c.go_on.new.run sooner c.go_on.result c.requires.stands
-    (turned_behind law old mid new c.args.run.now c.read.new.run c.go_on.new.run c.go_on.result c.requires.stands reads c.read.ensures.looked
+    commit_nearer law old new c.args.run.now c.go_on.new.run sooner c.go_on.result c.requires.stands
+    (turned_on law old mid new c.args.run.now c.read.new.run c.go_on.new.run c.go_on.result c.requires.stands reads c.read.ensures.looked
     (idle_by law mid c.read.new.run c.read.ensures.looked.stands (c.read.ensures.looked.same.phase ∙ reads_between c.args.run.now reads) (c.in-Ok-false.ensures.read.prepared c.in-Ok-false.field-0-test reads).done)
-    (turned_law law (g.P.Port.law c.read.new.port) c.read.ensures.law mid new c.read.new.run c.go_on.new.run c.go_on.result c.go_on.ensures.turned))
+    (subst (λ (l : JcrLaw). HasTurned l mid new c.read.new.run c.go_on.new.run c.go_on.result) c.read.ensures.law c.go_on.ensures.turned))
     (steps_sooner sooner (turns_left c.args.run.now) (turns_left c.go_on.new.run) c.go_on.result
     (subst (λ (n : ℕ). StepsOn ⊥ n (turns_left c.go_on.new.run) c.go_on.result) (left_looked c.args.run.now c.read.new.run c.read.ensures.looked.same) c.go_on.ensures.steps))
 
 pub returns-in-Ok-false-clause-reads : goal.returns-in-Ok-false-clause-reads
 returns-in-Ok-false-clause-reads g c =
-    let law = g.P.Port.law c.args.port.now in
-    let old = g.P.Port.shown c.args.port.now in
-    let mid = g.P.Port.shown c.read.new.port in
-    let new = g.P.Port.shown c.go_on.new.port in
     let reads = sym c.may_read.ensures ∙ c.if-not-may_read.false in
-    counted_reads law old new c.args.run.now c.go_on.new.run (EndsSooner (g.P.Port.left c.args.port.now) (g.P.Port.left c.go_on.new.port) old) c.go_on.result
-    (turned_behind law old mid new c.args.run.now c.read.new.run c.go_on.new.run c.go_on.result c.requires.stands reads c.read.ensures.looked
-    (idle_by law mid c.read.new.run c.read.ensures.looked.stands (c.read.ensures.looked.same.phase ∙ reads_between c.args.run.now reads) (c.in-Ok-false.ensures.read.prepared c.in-Ok-false.field-0-test reads).done)
-    (turned_law law (g.P.Port.law c.read.new.port) c.read.ensures.law mid new c.read.new.run c.go_on.new.run c.go_on.result c.go_on.ensures.turned))
+    begins_reads (g.P.Port.law c.args.port.now) (g.P.Port.shown c.args.port.now) c.args.run.now c.go_on.new.run
+    (EndsSooner (g.P.Port.left c.args.port.now) (g.P.Port.left c.go_on.new.port) (g.P.Port.shown c.args.port.now)) c.go_on.result (reads_between c.args.run.now reads)
+    (subst (λ (n : ℕ). BeginsNearer n (turns_left c.go_on.new.run) c.go_on.result) (left_looked c.args.run.now c.read.new.run c.read.ensures.looked.same) c.go_on.ensures.reads)
 
 -- a session that reads isn't in its commit
 pub returns-in-Ok-false-clause-granted : goal.returns-in-Ok-false-clause-granted

@@ -1,6 +1,6 @@
 use Rattle.std.proofs.Common.{ap, ◌∙◌}
 use Rattle.oak_commit.specs.Committing.{due_of}
-use Rattle.oak_step.proofs.Replies.{end_done, fed_end, fed_finished}
+use Rattle.oak_saves.proofs.Replies.{end_done, fed_end, fed_finished}
 use Rattle.oak_step.proofs.step.ended.Goals as goal
 
 pub end-requires : goal.end-requires

@@ -1,17 +1,17 @@
 use Rattle.std.proofs.Common.{subst}
-use Rattle.oak_tidy.specs.declared.tidying.Tidying.{Tidying}
 use Rattle.oak_tidy.specs.Replies.{all_parts, told_to}
-use Rattle.oak_tidy.specs.Tidyings.{GoesOrEnds, tidying_ask}
+use Rattle.oak_tidy.specs.Tidyings.{ComesTo, tidied_on, tidying_ask}
+use Rattle.oak_tidy.specs.declared.tidying.Onward.{Onward}
 use Rattle.oak_tidy.proofs.Lowering.{goes_lower_on}
 use Rattle.oak_tidy.proofs.Staying.{goes_can}
 use Rattle.oak_tidy.proofs.steps.tidy.Goals as goal
 
-pub returns-in-Ok-clause-can : goal.returns-in-Ok-clause-can
-returns-in-Ok-clause-can c =
-    goes_can _ c.args.tidying (told_to (all_parts c.args.table.now c.args.memories.now c.args.events.now.list) (tidying_ask c.args.tidying)) c.in-Ok.kind c.gone_on.result.0 c.gone_on.result.1 c.requires.can.asks
-    (subst (λ (z : Tidying). GoesOrEnds c.in-Ok.kind z c.gone_on.result.0 c.gone_on.result.1) c.in-Ok.ensures.tidying c.gone_on.ensures)
+pub returns-in-Ok-Goes-clause-can : goal.returns-in-Ok-Goes-clause-can
+returns-in-Ok-Goes-clause-can c =
+    let h = subst (λ (o : Onward). ComesTo c.args.s (tidied_on (all_parts c.args.table.now c.args.memories.now c.args.events.now.list) c.args.tidying) o) c.in-Ok-Goes.field-0-is c.in-Ok-Goes.ensures.onward in
+    goes_can _ c.args.tidying c.in-Ok-Goes.tidying (told_to (all_parts c.args.table.now c.args.memories.now c.args.events.now.list) (tidying_ask c.args.tidying)) c.requires.can.asks h.0 h.1
 
-pub returns-in-Ok-clause-lowers : goal.returns-in-Ok-clause-lowers
-returns-in-Ok-clause-lowers c =
-    goes_lower_on (all_parts c.args.table.now c.args.memories.now c.args.events.now.list) (all_parts c.step.new.table c.args.memories.now c.step.new.events.list) _ c.args.s c.args.tidying c.step.new.tidying c.in-Ok.kind c.gone_on.result.0 c.gone_on.result.1
-    c.requires.table c.requires.can c.in-Ok.ensures.parts c.in-Ok.ensures.tidying c.gone_on.ensures
+pub returns-in-Ok-Goes-clause-lowers : goal.returns-in-Ok-Goes-clause-lowers
+returns-in-Ok-Goes-clause-lowers c =
+    let h = subst (λ (o : Onward). ComesTo c.args.s (tidied_on (all_parts c.args.table.now c.args.memories.now c.args.events.now.list) c.args.tidying) o) c.in-Ok-Goes.field-0-is c.in-Ok-Goes.ensures.onward in
+    goes_lower_on (all_parts c.args.table.now c.args.memories.now c.args.events.now.list) c.answered.new.table _ c.args.tidying c.in-Ok-Goes.tidying c.requires.table c.requires.can c.in-Ok-Goes.ensures.table h.0

@@ -1,12 +1,13 @@
-use Rattle.std.proofs.Common.{sym, ap, ◌∙◌}
+use Rattle.std.proofs.Common.{sym, ◌∙◌}
 use Rattle.atomic_table.specs.Seated.{TableId}
 use Rattle.seat_lock.specs.Passes.{view_of}
-use Rattle.oak_world.specs.Seen.{shown_work}
+use Rattle.oak_world.proofs.Keeping.{shown_rest}
+use Rattle.jr_shared.specs.Holds.{actor_by}
 use Rattle.jr_shared.proofs.Through.{framed_new, has_new, law_stays, lowers, others_new, rest_new, steps, told_new, weight_new}
 use Rattle.jr_shared.proofs.port.SharedPortPort.step.Goals as goal
 
 pub step-requires-clause-busy : goal.step-requires-clause-busy
-step-requires-clause-busy g c rests = c.requires.busy (ap shown_work rests)
+step-requires-clause-busy g c rests = c.requires.busy (shown_rest (actor_by (view_of c.args.self.now.pass.now) c.args.self.now.actor).work rests)
 
 pub invariant_of-self : goal.invariant_of-self
 invariant_of-self g c = record {

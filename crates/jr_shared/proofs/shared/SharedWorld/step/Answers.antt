@@ -1,5 +1,6 @@
-use Rattle.std.proofs.Common.{◌∙◌}
+use Rattle.std.proofs.Common.{subst, sym}
 use Rattle.seat_lock.specs.Passes.{view_of}
+use Rattle.oak_world.specs.Worlds.{IsAtRest}
 use Rattle.jr_shared.proofs.Acts.{step_acts}
 use Rattle.jr_shared.proofs.Got.{there, work_got}
 use Rattle.jr_shared.proofs.Holding.{has_author, is_got, locked, on_frame, on_longer, on_others, on_steady, one_hold}
@@ -11,8 +12,8 @@ step-out-requires-clause-there g c =
     (is_got g.L.Law (view_of c.args.pass.now) c.acquire-hold.result.value.world c.is_whole.ensures c.acquire-hold.ensures.frame c.acquire-hold.ensures.longer c.acquire-hold.ensures.parts c.acquire-hold.ensures.steady) c.args.actor c.requires.seat
 
 pub step-out-requires-clause-busy : goal.step-out-requires-clause-busy
-step-out-requires-clause-busy g c rests = c.requires.busy (work_got g.L.Law (view_of c.args.pass.now) c.acquire-hold.result.value.world
-    (is_got g.L.Law (view_of c.args.pass.now) c.acquire-hold.result.value.world c.is_whole.ensures c.acquire-hold.ensures.frame c.acquire-hold.ensures.longer c.acquire-hold.ensures.parts c.acquire-hold.ensures.steady) c.args.actor c.requires.seat ∙ rests)
+step-out-requires-clause-busy g c rests = c.requires.busy (subst IsAtRest (sym (work_got g.L.Law (view_of c.args.pass.now) c.acquire-hold.result.value.world
+    (is_got g.L.Law (view_of c.args.pass.now) c.acquire-hold.result.value.world c.is_whole.ensures c.acquire-hold.ensures.frame c.acquire-hold.ensures.longer c.acquire-hold.ensures.parts c.acquire-hold.ensures.steady) c.args.actor c.requires.seat)) rests)
 
 pub release-requires-clause-goes_on : goal.release-requires-clause-goes_on
 release-requires-clause-goes_on g c =

@@ -2,7 +2,7 @@ use Rattle.std.proofs.Common.{◌∙◌, Some, ap, sym}
 use Rattle.jr_stage.specs.Parts.{by_entry}
 use Rattle.jr_stage.specs.Stages.{IsNearerOrCome}
 use Rattle.jr_stage.proofs.Counting.{gone_begins}
-use Rattle.jr_stage.proofs.Going.{go_less, only_four, until_as}
+use Rattle.jr_stage.proofs.Going.{go_less, only_five, until_as}
 use Rattle.jr_stage.proofs.Reaching.{as_many, ends_until, go_closes, goes_until, is_stepped, still_there}
 use Rattle.jr_stage.proofs.stage.Stage.go_to.Goals as goal
 
@@ -30,6 +30,11 @@ go_on-requires-clause-there c = still_there c.args.self.now c.turns.self c.args.
 pub go_on-requires-clause-short : goal.go_on-requires-clause-short
 go_on-requires-clause-short c = sym c.has_come.ensures ∙ c.turns-test.true
 
+pub returns-in-Read : goal.returns-in-Read
+returns-in-Read c =
+    ends_until c.args.self.now c.turns.self c.args.s c.args.entry c.requires.named c.requires.stage c.requires.there c.turns.invariant
+    (IsNearerOrCome c.turns.self c.go_on.new.self c.args.s (Some c.args.entry)) c.go_on.new.self c.in_ok-go_on.field-0 (ap is_stepped c.in-Read.is) c.in_ok-go_on.ensures
+
 pub returns-in-Said : goal.returns-in-Said
 returns-in-Said c =
     ends_until c.args.self.now c.turns.self c.args.s c.args.entry c.requires.named c.requires.stage c.requires.there c.turns.invariant
@@ -47,8 +52,8 @@ returns-in-Ended c =
 
 pub unreachable-requires : goal.unreachable-requires
 unreachable-requires c =
-    only_four (IsNearerOrCome c.turns.self c.go_on.new.self c.args.s (Some c.args.entry)) c.turns.self c.go_on.new.self c.args.s (Some c.args.entry) _
-    c.in_default.not-Stepped c.in_default.not-Said c.in_default.not-Waiting c.in_default.not-Ended c.in_ok-go_on.ensures
+    only_five (IsNearerOrCome c.turns.self c.go_on.new.self c.args.s (Some c.args.entry)) c.turns.self c.go_on.new.self c.args.s (Some c.args.entry) _
+    c.in_default.not-Stepped c.in_default.not-Read c.in_default.not-Said c.in_default.not-Waiting c.in_default.not-Ended c.in_ok-go_on.ensures
 
 pub turns-preserved : goal.turns-preserved
 turns-preserved c =

@@ -4,7 +4,7 @@ use Rattle.jr_script.specs.Schedules.{session_named}
 use Rattle.jr_script.specs.declared.script.Entry.{Entry}
 use Rattle.jr_stage.specs.Parts.{by_entry}
 use Rattle.jr_stage.specs.Stages.{Closes}
-use Rattle.jr_stage.proofs.Closing.{turn_closes}
+use Rattle.jr_stage.proofs.Closing.{turn_closes_to}
 use Rattle.jr_stage.proofs.stage.Stage.play.Goals as goal
 
 pub turn-requires-clause-stage : goal.turn-requires-clause-stage
@@ -12,6 +12,9 @@ turn-requires-clause-stage c = c.requires.stage
 
 pub turn-requires-clause-there : goal.turn-requires-clause-there
 turn-requires-clause-there c = subst (λ (e : Entry). session_named e < length c.args.self.now.seats.items) c.in-Turn.is c.requires.entry.named
+
+pub turn-requires-clause-short : goal.turn-requires-clause-short
+turn-requires-clause-short c = refl
 
 pub say-requires-clause-stage : goal.say-requires-clause-stage
 say-requires-clause-stage c = c.requires.stage
@@ -53,7 +56,7 @@ pub go_to-requires-in-Last-clause-named : goal.go_to-requires-in-Last-clause-nam
 go_to-requires-in-Last-clause-named c = refl
 
 pub returns-in_ok-turn-in-Turn : goal.returns-in_ok-turn-in-Turn
-returns-in_ok-turn-in-Turn c = subst (λ (e : Entry). Closes c.args.self.now c.turn.new.self (by_entry e)) (sym c.in-Turn.is) (turn_closes c.args.self.now c.turn.new.self c.in-Turn.s _ c.requires.stage c.in_ok-turn-in-Turn.ensures)
+returns-in_ok-turn-in-Turn c = subst (λ (e : Entry). Closes c.args.self.now c.turn.new.self (by_entry e)) (sym c.in-Turn.is) (turn_closes_to c.args.self.now c.turn.new.self c.in-Turn.s _ c.in_ok-turn-in-Turn.ensures)
 
 pub returns-in-Say : goal.returns-in-Say
 returns-in-Say c = subst (λ (e : Entry). OnOk c.say.result (Closes c.args.self.now c.say.new.self (by_entry e))) (sym c.in-Say.is) c.say.ensures

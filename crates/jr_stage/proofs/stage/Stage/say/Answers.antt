@@ -28,7 +28,7 @@ overflow_add-said c = omega arith
 
 pub unreachable-requires : goal.unreachable-requires
 unreachable-requires c =
-    only_four (IsNearerOrCome c.turns.self c.go_on.new.self c.args.s None) c.turns.self c.go_on.new.self c.args.s None _
+    only_four (IsNearerOrCome c.turns.self c.go_on.new.self c.args.s None) c.turns.self c.go_on.new.self c.args.s _
     c.in_default.not-Stepped c.in_default.not-Said c.in_default.not-Waiting c.in_default.not-Ended c.in_ok-go_on.ensures
 
 pub returns-in-Waiting : goal.returns-in-Waiting

@@ -1,11 +1,11 @@
-use Rattle.jr_stage.specs.Nearing.{unread_at}
-use Rattle.jr_stage.specs.Stages.{HasOnlyRead}
+use Rattle.jr_stage.specs.Nearing.{left_at}
+use Rattle.jr_stage.proofs.Reading.{HasReadShort}
 use Rattle.jr_stage.proofs.stage.Stage.turn.Given as goal
 
 -- reading steps alone were made so far
-abbrev pub invariant-needs : goal.invariant-needs
-invariant-needs l = HasOnlyRead l.initial.self l.self l.s
+abbrev pub invariant-places : goal.invariant-places
+invariant-places l = HasReadShort l.initial.self l.self l.s l.until
 
--- how much is still to be known before the next command
-abbrev pub decreases-needs : goal.decreases-needs
-decreases-needs l = unread_at l.self l.s
+-- what the session has left
+abbrev pub decreases-places : goal.decreases-places
+decreases-places l = left_at l.self l.s

@@ -1,8 +1,7 @@
 use Rattle.std.proofs.Common.{◌∙◌, sym}
 use Rattle.jr_stage.specs.Stages.{IsEntryOver}
-use Rattle.jr_stage.proofs.Going.{task_begins, task_ends, task_sooner, task_steps, task_through}
+use Rattle.jr_stage.proofs.Going.{is_short, task_begins, task_come, task_ends, task_sooner, task_steps, task_through, to_as}
 use Rattle.jr_stage.proofs.Reaching.{as_many, seats_on}
-use Rattle.jr_stage.proofs.Taking.{come_as}
 use Rattle.jr_stage.proofs.stage.Stage.work_on.Goals as goal
 
 pub task-init : goal.task-init
@@ -20,8 +19,16 @@ turn-requires-clause-stage c = c.task.invariant.stage_is
 pub turn-requires-clause-there : goal.turn-requires-clause-there
 turn-requires-clause-there c = seats_on c.args.self.now c.task.self c.args.s c.requires.stage c.task.invariant.stage_is c.task.invariant.script c.requires.there
 
+pub turn-requires-clause-short : goal.turn-requires-clause-short
+turn-requires-clause-short c = is_short c.task.self c.args.s c.args.until (sym c.is_under_way.ensures ∙ c.task-test.true)
+
 pub returns : goal.returns
 returns c = task_through c.args.self.now c.task.self c.args.s c.args.until c.task.invariant (sym c.is_under_way.ensures ∙ c.task-test.false)
+
+pub returns-in-Read : goal.returns-in-Read
+returns-in-Read c =
+    task_come c.args.self.now c.task.self c.args.s c.args.until c.task.invariant (sym c.is_under_way.ensures ∙ c.task-test.true) c.turn.new.self
+    (to_as c.task.self c.turn.new.self c.args.s c.args.until _ _ c.in-Read.is c.in_ok-turn.ensures)
 
 pub returns-in_default : goal.returns-in_default
 returns-in_default c =
@@ -31,9 +38,9 @@ returns-in_default c =
 pub task-preserved : goal.task-preserved
 task-preserved c =
     task_steps c.args.self.now c.task.self c.args.s c.args.until c.task.invariant (sym c.is_under_way.ensures ∙ c.task-test.true) c.turn.new.self _
-    (come_as c.task.self c.turn.new.self c.args.s _ _ c.in-Stepped.is c.in_ok-turn.ensures)
+    (to_as c.task.self c.turn.new.self c.args.s c.args.until _ _ c.in-Stepped.is c.in_ok-turn.ensures)
 
 pub task-smaller : goal.task-smaller
 task-smaller c =
     task_sooner c.args.self.now c.task.self c.args.s c.args.until c.task.invariant (sym c.is_under_way.ensures ∙ c.task-test.true) c.turn.new.self _
-    (come_as c.task.self c.turn.new.self c.args.s _ _ c.in-Stepped.is c.in_ok-turn.ensures)
+    (to_as c.task.self c.turn.new.self c.args.s c.args.until _ _ c.in-Stepped.is c.in_ok-turn.ensures)

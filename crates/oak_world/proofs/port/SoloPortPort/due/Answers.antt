@@ -1,7 +1,6 @@
-use Rattle.std.proofs.Common.{ap, refl}
-use Rattle.oak_world.specs.Seen.{shown_work}
+use Rattle.std.proofs.Common.{refl}
 use Rattle.oak_world.specs.Worlds.{work_in}
-use Rattle.oak_world.proofs.Keeping.{still_waits}
+use Rattle.oak_world.proofs.Keeping.{shown_rest, still_waits}
 use Rattle.oak_world.proofs.Porting.{busy_shown}
 use Rattle.oak_world.proofs.port.SoloPortPort.due.Goals as goal
 
@@ -15,4 +14,4 @@ pub returns-clause-left : goal.returns-clause-left
 returns-clause-left g c = λ same. refl
 
 pub returns-clause-over : goal.returns-clause-over
-returns-clause-over g c = λ h. ap shown_work (c.due.ensures.over h)
+returns-clause-over g c = λ h. shown_rest (work_in c.args.self.now.world.now.actors c.args.self.now.actor) (c.due.ensures.over h)

@@ -1,8 +1,8 @@
-use Rattle.std.proofs.Common.{◌≡◌, ◌≢◌, ◌↔◌, true, Option, is_some, sym, subst, ◌∙◌, arith}
+use Rattle.std.proofs.Common.{◌≡◌, ◌↔◌, true, Option, is_some, sym, subst, ◌∙◌, arith}
 use Rattle.oak_machine.specs.declared.event.StepKind.{StepKind}
 use Rattle.core_world.specs.States.{memory_of}
-use Rattle.oak_step.specs.declared.work.Work.TheVariants as work
-use Rattle.oak_world.specs.Worlds.{live, state_of, work_in}
+use Rattle.oak_world.specs.Kept.{scene}
+use Rattle.oak_world.specs.Worlds.{IsAtRest, live, state_of, work_in}
 use Rattle.oak_world.proofs.Left.{over}
 use Rattle.oak_world.proofs.Keeping.{busy_due}
 use Rattle.oak_world.proofs.Seats.{actor_within, due_there, there_by, world_is}
@@ -22,11 +22,11 @@ returns-clause-due g c =
 
 pub returns-clause-busy : goal.returns-clause-busy
 returns-clause-busy g c =
-    subst (λ (o : Option StepKind). (is_some o ≡ true) ↔ (work_in c.args.self.now.actors c.args.actor ≢ work.Rest)) (sym (returns-clause-due g c))
-    (busy_due (g.L.Law.may_start c.args.self.now.law) c.args.self.now.table (live c.args.self.now.history) c.args.actor (work_in c.args.self.now.actors c.args.actor)
+    subst (λ (o : Option StepKind). (is_some o ≡ true) ↔ (IsAtRest (work_in c.args.self.now.actors c.args.actor) → ⊥)) (sym (returns-clause-due g c))
+    (busy_due (g.L.Law.may_start c.args.self.now.law) (scene c.args.self.now.table (world_is g.L.Law.may_start g.L.Law.may_say _ c.args.self.now c.self.view_is c.self.invariant.0.0).formers (live c.args.self.now.history)) c.args.actor (work_in c.args.self.now.actors c.args.actor)
     ((world_is g.L.Law.may_start g.L.Law.may_say _ c.args.self.now c.self.view_is c.self.invariant.0.0).may c.args.actor))
 
 pub returns-clause-over : goal.returns-clause-over
 returns-clause-over g c =
-    over (g.L.Law.may_start c.args.self.now.law) (live c.args.self.now.history) c.args.actor c.args.self.now.table (memory_of (state_of c.args.self.now) c.args.actor) (work_in c.args.self.now.actors c.args.actor)
+    over (g.L.Law.may_start c.args.self.now.law) (scene c.args.self.now.table (world_is g.L.Law.may_start g.L.Law.may_say _ c.args.self.now c.self.view_is c.self.invariant.0.0).formers (live c.args.self.now.history)) c.args.actor (memory_of (state_of c.args.self.now) c.args.actor) (work_in c.args.self.now.actors c.args.actor)
     ((world_is g.L.Law.may_start g.L.Law.may_say _ c.args.self.now c.self.view_is c.self.invariant.0.0).may c.args.actor)

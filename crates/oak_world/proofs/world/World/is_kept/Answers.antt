@@ -1,6 +1,7 @@
 use Rattle.core_world.proofs.Truths.{has_cause, no_clash_unseen}
 use Rattle.oak_world.specs.Worlds.{state_of, with_formers}
 use Rattle.oak_world.proofs.Clashing.{comes_or_wants}
+use Rattle.oak_world.proofs.Ends.{ends_may}
 use Rattle.oak_world.proofs.Seats.{asked_by, world_is}
 use Rattle.oak_world.proofs.world.World.is_kept.Goals as goal
 
@@ -24,3 +25,6 @@ returns-clause-through g c = λ r ended none.
 
 pub returns-clause-asked : goal.returns-clause-asked
 returns-clause-asked g c = asked_by g.L.Law.asks _ c.args.self.now c.self.view_is c.self.invariant.2
+
+pub returns-clause-told : goal.returns-clause-told
+returns-clause-told g c = ends_may (g.L.Law.may_start c.args.self.now.law) (g.L.Law.may_say c.args.self.now.law) c.args.self.now (world_is g.L.Law.may_start g.L.Law.may_say _ c.args.self.now c.self.view_is c.self.invariant.0.0)

@@ -1,0 +1,11 @@
+pub mod Ordered
+pub mod Since
+pub mod Beside
+pub mod Root
+pub mod Making
+pub mod Splits
+pub mod Numbered
+pub mod Collects
+pub mod Whole
+pub mod Stepping
+pub mod Beginning

@@ -1,7 +1,0 @@
-use Rattle.std.proofs.Common.{◌≡◌, map, take}
-use Rattle.serde_json.specs.View.{view}
-use Rattle.jcr_law.specs.Tasks.{skipped_data}
-use Rattle.jcr_past.proofs.shown.all_skipped_json.Given as goal
-
-abbrev pub invariant-loop-one : goal.invariant-loop-one
-invariant-loop-one l = map view l.items.items ≡ map skipped_data (take l.one-index l.skipped)

@@ -1,6 +1,0 @@
-use Rattle.std.proofs.Common.{refl}
-use Rattle.jcr_trans.proofs.Members.{put_at_bytes}
-use Rattle.jcr_past.proofs.shown.put_member.Goals as goal
-
-pub returns : goal.returns
-returns c = put_at_bytes _ _ _ _ _ _ c.in_ok-insert.ensures.entries c.in_ok-from_str.ensures.ok refl
