@@ -16,10 +16,7 @@ pub fn is_allowed(attached: bool, command: &Command) -> bool
 fn is_built(command: &Command) -> bool
     ensures { result ≡ is_built command.now }
 {
-    !matches!(
-        command,
-        Command::Split(_) | Command::Collect | Command::Stop(_) | Command::Recover(_)
-    )
+    !matches!(command, Command::Stop(_) | Command::Recover(_))
 }
 
 // Whether a session that is attached to a checkpoint, or that isn't, may not run the command.

@@ -5,8 +5,6 @@ use Rattle.jcr_trans.specs.declared.command.Command.TheVariants as command
 
 -- the command is built; each other one is refused with 12
 abbrev pub is_built : Command → Bool
-is_built (command.Split p) = false
-is_built command.Collect = false
 is_built (command.Stop k) = false
 is_built (command.Recover k) = false
 is_built _ = true

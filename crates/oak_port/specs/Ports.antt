@@ -178,8 +178,8 @@ SweepsOn h s r k own now = (k ≡ kind.Sweep)
     × (((own ≡ event.Went s kind.Sweep ∷ []) × (now ≡ Passing r))
     ⊎ ((m : ℕ) × IsSessionOn h s m × (own ≡ event.Sweep m r ∷ []) × (now ≡ Sweeping r)))
 
--- a split reads the document, a commit root or the previous document that it wrote, or it changes a
--- document; one that ends has the end that is told
+-- a split reads a commit root, or the previous document that it wrote, by a reading step; it reads
+-- its own document, or changes a document, by a step that counts
 abbrev pub SplitsOn : ℕ → StepKind → Past → Type 0
 SplitsOn s k own = ((k ≡ kind.Read) × (own ≡ []))
     ⊎ ((k ≡ kind.Split) × (own ≡ event.Went s kind.Split ∷ []))
@@ -400,8 +400,8 @@ LastsOn before now old new = (new.history ≡ old.history) → now ≡ before
 
 -- a task may start: a login first, the others of a session that has logged in and not left; an edit
 -- that the law lets start; a detaching where the session is attached, and others only where it
--- isn't; what changed since a vector where the session's cursor is there. No world splits,
--- collects, stops or recovers yet
+-- isn't; what changed since a vector where the session's cursor is there. No world stops or
+-- recovers yet
 abbrev pub MayBegin : Starts → History → ℕ → Task → Type 0
 MayBegin starts h s task.Login = IsFalse (has_login h.past s)
 MayBegin starts h s (task.Commit edit marks) =
@@ -413,8 +413,6 @@ MayBegin starts h s task.Refresh =
     IsTrue (has_login h.past s) × IsFalse (has_left h.past s) × IsFalse (is_attached h.past s)
 MayBegin starts h s task.Observe =
     IsTrue (has_login h.past s) × IsFalse (has_left h.past s) × IsFalse (is_attached h.past s)
-MayBegin starts h s (task.Split p) = ⊥
-MayBegin starts h s task.Collect = ⊥
 MayBegin starts h s (task.Attach i) =
     IsTrue (has_login h.past s) × IsFalse (has_left h.past s) × IsFalse (is_attached h.past s)
 MayBegin starts h s task.Detach =
