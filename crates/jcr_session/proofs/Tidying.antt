@@ -253,10 +253,10 @@ asked_by_task law s i t _ collect_of built is at e appends = by e (subst (λ (x 
     by (event.Collected x c) h = (command.Collect, at, built, tt)
     by x h = absurd h
 
--- neither is built
-begins_by : {attached : Bool} (law : JcrLaw) (p : Shown) (t : Task) (m : Command) → IsTidyCommand m → is_built m ≡ true → IsTidyTask m t → IsIn law p attached → MayBegin (starts_of law) p.history p.session t
-begins_by law p t _ (split_of q) built is inside = absurd (false≢true built)
-begins_by law p t _ collect_of built is inside = absurd (false≢true built)
+-- a session that has logged in and not left may begin either
+begins_by : {attached : Bool} (law : JcrLaw) (p : Shown) (t : Task) (m : Command) → IsTidyCommand m → IsTidyTask m t → IsIn law p attached → MayBegin (starts_of law) p.history p.session t
+begins_by law p t _ (split_of q) is inside = subst (λ (x : Task). MayBegin (starts_of law) p.history p.session x) (sym is) (inside.login, inside.stays)
+begins_by law p t _ collect_of is inside = subst (λ (x : Task). MayBegin (starts_of law) p.history p.session x) (sym is) (inside.login, inside.stays)
 
 works_by : (t : Task) (m : Command) → IsTidyCommand m → IsTidyTask m t → IsTidyWork m (Starting t)
 works_by t _ (split_of p) is = subst (λ (x : Task). IsTidyWork (command.Split p) (Starting x)) (sym is) refl
@@ -290,7 +290,7 @@ module _ (law : JcrLaw) (old : Shown) (run : SessionRun) (t : Task) (may : MayTi
       ∙ (ap (λ (s : ℕ). command_at law s run.index) may.asked.session ∙ (may.asked.commands run.index ∙ may.asked.next))
 
   pub tidy_begins : MayBegin (starts_of law) old.history old.session t
-  tidy_begins = begins_by law old t may.command kind_is built may.task_is may.asked.inside
+  tidy_begins = begins_by law old t may.command kind_is may.task_is may.asked.inside
 
   pub tidy_asked : IsAskedOf (asks_of law) old.history old.session t
   tidy_asked x appends = asked_by_task law old.session (next_index old.history.past old.session) t may.command kind_is built may.task_is next_old x appends

@@ -173,8 +173,8 @@ module _ {L : Type 0} (law : Ghosts L) (old : PassKnown L) (got : WorldOf L) (g 
       begins (task.Commit edit marks) m = (login_same ∙ m.0, left_same ∙ m.1, attached_same ∙ m.2, law.starts_last got.law before more s edit marks beside m.3)
       begins (task.Checkpoint i) m = (login_same ∙ m.0, left_same ∙ m.1, attached_same ∙ m.2)
       begins task.Refresh m = (login_same ∙ m.0, left_same ∙ m.1, attached_same ∙ m.2)
-      begins (task.Split p) m = absurd m
-      begins task.Collect m = absurd m
+      begins (task.Split p) m = (login_same ∙ m.0, left_same ∙ m.1)
+      begins task.Collect m = (login_same ∙ m.0, left_same ∙ m.1)
       begins (task.Attach i) m = (login_same ∙ m.0, left_same ∙ m.1, attached_same ∙ m.2)
       begins task.Detach m = (login_same ∙ m.0, left_same ∙ m.1, attached_same ∙ m.2)
       begins task.Observe m = (login_same ∙ m.0, left_same ∙ m.1, attached_same ∙ m.2)

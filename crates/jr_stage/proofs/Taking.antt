@@ -168,11 +168,6 @@ read_out d n m s a t old w v x run now name world session law left looked =
     let same : d ≡ m = sym name ∙ sym (ap (λ (b : Beside). b.name) looked.beside.beside) in
     subst (λ (y : WorldOf JcrLaw). (g : GName) × MakesReading g s old y run now) (sym (left same)) (d, read_through d m n s t a old w v run now world name session law looked)
 
--- what holds anyway holds where there is no error
-pub on_ok : {A E : Type 0} (r : Result A E) (P : Type 0) → P → OnOk r P
-on_ok (Ok x) P p = p
-on_ok (Err e) P p = tt
-
 -- ---- of a stage
 
 module _ (stage : Stage) (is : IsStage stage) where

@@ -7,9 +7,7 @@ use Rattle.oak_world.specs.Left.{left_in}
 use Rattle.oak_world.specs.Worlds.{live}
 use Rattle.jcr_law.specs.State.{Call, call_of}
 use Rattle.jcr_run.specs.Nearing.{stages_left, turns_left, unread_of}
-use Rattle.jcr_run.specs.Standing.{due_for, is_committing, is_saving, is_working, may_read}
-use Rattle.jcr_run.specs.declared.next.Due.{Due}
-use Rattle.jcr_run.specs.declared.next.Due.TheVariants as due
+use Rattle.jcr_run.specs.Standing.{is_committing, is_saving, is_working}
 use Rattle.jcr_run.specs.declared.run.Phase.{Phase}
 use Rattle.jcr_run.specs.declared.run.SessionRun.{SessionRun}
 use Rattle.jcr_run.specs.declared.turn.Turn.{Turn}
@@ -125,17 +123,6 @@ TurnsNearer old new s _ = ⊤
 abbrev pub SavesOn : (old new : Stage) → ℕ → Turn → Type 0
 SavesOn old new s (turn.Stepped k) = IsTrue (saves_at old s) → IsTrue (saves_at new s)
 SavesOn old new s _ = ⊤
-
--- ---- before a split
-
--- a split is what is to be done
-abbrev pub is_split : Due → Bool
-is_split due.Split = true
-is_split _ = false
-
--- the session is before a split, for which it may have to read
-abbrev pub splits_next : SessionRun → Bool
-splits_next run = may_read run && is_split (due_for run)
 
 -- ---- who is waited for
 

@@ -13,7 +13,6 @@ ghost use Rattle.oak_world.specs.Seen.{shown_at};
 ghost use Rattle.oak_world.specs.Worlds.{start_world};
 ghost use Rattle.jcr_run.specs.Standing.{IsNew, Stands};
 ghost use Rattle.jr_stage.specs.Awaited.{AreInTurn, IsAlone, IsNextToReply, IsStill, LeavesOtherSessions};
-ghost use Rattle.jr_stage.specs.Nearing.{is_split, splits_next};
 ghost use Rattle.jr_stage.specs.Places.{flying_sessions, is_over};
 ghost use Rattle.jr_stage.specs.Parts.{by_entry, to_end, to_reply};
 ghost use Rattle.jr_script.specs.declared.script.Entry.TheVariants as entry;
@@ -23,7 +22,7 @@ ghost use Rattle.jr_stage.specs.Seats.{AreNew, IsNewSeat};
 use crate::flight::{Flight, is_read};
 use core_obeys::the_product_obeys;
 use jcr_law::JcrLaw;
-use jcr_run::{Due, SessionRun, Turn, read};
+use jcr_run::{SessionRun, Turn, read};
 use jcr_trans::{Command, SessionScript};
 use jr_path::{DeepCopy, List};
 use jr_rev::Revision;
@@ -216,8 +215,7 @@ impl Stage {
         self.read_before(s)
     }
 
-    // A reading step of a session before its next command, where one is due: where the session has
-    // all that a split asks for, the first step of that.
+    // A reading step of a session before its next command, where one is due.
     fn read_before(&mut self, s: u32) -> Result<(), AllocError>
         requires stage { IsStage self.old }
         requires there { s < length self.old.seats.items }
@@ -225,14 +223,8 @@ impl Stage {
     {
         self.world.journal();
         let seat = &mut self.seats[s as usize];
-        let read = read_one(&mut self.world, &mut seat.run, s)?;
-        if read {
-            return Ok(());
-        }
-        if !splits_next(&self.seats[s as usize].run) {
-            return Ok(());
-        }
-        self.read_inside(s)
+        read_one(&mut self.world, &mut seat.run, s)?;
+        Ok(())
     }
 
     // Turns of a session to its next reply. The session's commit is in flight, and none of another
@@ -390,30 +382,14 @@ pub fn session_of(
     SessionRun::new(alloc, s, 0, commands, types.copy()?)
 }
 
-// Whether a session is before a split.
-fn splits_next(run: &SessionRun) -> bool
-    ensures { result ≡ splits_next run.now }
-{
-    if !run.may_read() {
-        return false;
-    }
-    is_split(run.due())
-}
-
-// Whether a split is what is to be done.
-fn is_split(due: Due) -> bool
-    ensures { result ≡ is_split due }
-{
-    matches!(due, Due::Split)
-}
-
-// A reading step of a session in its world, where one is due, and whether it was made.
-fn read_one(world: &mut World<JcrLaw>, run: &mut SessionRun, s: u32) -> Result<bool, AllocError>
+// A reading step of a session in its world, where one is due.
+fn read_one(world: &mut World<JcrLaw>, run: &mut SessionRun, s: u32) -> Result<(), AllocError>
     requires there { IsTrue (is_some (slice_get world.old.history.sessions s)) }
     requires stands { (name : GName) → Stands world.old.law (shown_at name world.old s) run.old }
     ensures { OnOk result
         ((name : GName) × MakesReading name s world.old world.new run.old run.new) }
 {
     let mut port = SoloPort::new(world, s);
-    read(run, &mut port)
+    read(run, &mut port)?;
+    Ok(())
 }

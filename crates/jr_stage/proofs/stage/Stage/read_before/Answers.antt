@@ -10,14 +10,8 @@ read_one-requires-clause-there c = session_there c.args.self.now c.requires.stag
 pub read_one-requires-clause-stands : goal.read_one-requires-clause-stands
 read_one-requires-clause-stands c = (c.requires.stage.each c.args.s c.index_mut-seat.result.now (slice_get_read _ _ _ _ refl c.requires.there c.index_mut-seat.ensures.value)).stands
 
-pub returns-then-read : goal.returns-then-read
-returns-then-read c =
-    read_closes c.in_ok-read.ensures.0 c.args.s c.args.self.now _ c.index_mut-seat.result.now (record { run = c.read_one.new.run; flight = c.index_mut-seat.result.now.flight }) c.requires.stage
+pub returns : goal.returns
+returns c =
+    read_closes c.in_ok-read_one.ensures.0 c.args.s c.args.self.now _ c.index_mut-seat.result.now (record { run = c.read_one.new.run; flight = c.index_mut-seat.result.now.flight }) c.requires.stage
     (slice_get_read _ _ _ _ refl c.requires.there c.index_mut-seat.ensures.value) refl refl refl refl
-    (leaves_read c.in_ok-read.ensures.0 c.args.s c.args.self.now.world c.read_one.new.world c.index_mut-seat.result.now.run c.read_one.new.run ((c.requires.stage.each c.args.s c.index_mut-seat.result.now (slice_get_read _ _ _ _ refl c.requires.there c.index_mut-seat.ensures.value)).stands c.in_ok-read.ensures.0) c.in_ok-read.ensures.1)
-
-pub returns-then-not-splits_next : goal.returns-then-not-splits_next
-returns-then-not-splits_next c =
-    read_closes c.in_ok-read.ensures.0 c.args.s c.args.self.now _ c.index_mut-seat.result.now (record { run = c.read_one.new.run; flight = c.index_mut-seat.result.now.flight }) c.requires.stage
-    (slice_get_read _ _ _ _ refl c.requires.there c.index_mut-seat.ensures.value) refl refl refl refl
-    (leaves_read c.in_ok-read.ensures.0 c.args.s c.args.self.now.world c.read_one.new.world c.index_mut-seat.result.now.run c.read_one.new.run ((c.requires.stage.each c.args.s c.index_mut-seat.result.now (slice_get_read _ _ _ _ refl c.requires.there c.index_mut-seat.ensures.value)).stands c.in_ok-read.ensures.0) c.in_ok-read.ensures.1)
+    (leaves_read c.in_ok-read_one.ensures.0 c.args.s c.args.self.now.world c.read_one.new.world c.index_mut-seat.result.now.run c.read_one.new.run ((c.requires.stage.each c.args.s c.index_mut-seat.result.now (slice_get_read _ _ _ _ refl c.requires.there c.index_mut-seat.ensures.value)).stands c.in_ok-read_one.ensures.0) c.in_ok-read_one.ensures.1)
