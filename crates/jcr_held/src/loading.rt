@@ -16,10 +16,10 @@ ghost use Rattle.jcr_held.specs.References.{are_asked};
 ghost use Rattle.jcr_held.specs.Unread.{IsWanted, unread};
 
 use crate::Held;
-use crate::committing::commits;
 use crate::held_part::HeldPart;
 use crate::looking::{leave_needs, load_left};
 use crate::references::{References, ask};
+use jcr_call::commits;
 use jcr_trans::Command;
 use jcr_view::{each_round_learns, is_viewed, rebases_count};
 use jr_part::Need;

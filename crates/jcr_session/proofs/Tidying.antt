@@ -52,6 +52,7 @@ use Rattle.jcr_steps.specs.declared.tidying.Tidied.TheVariants as tidied
 use Rattle.jcr_steps.specs.declared.tidying.TidyCame.{TidyCame}
 use Rattle.jcr_steps.specs.declared.tidying.TidyCame.TheVariants as came
 use Rattle.jcr_steps.specs.Tidied.{IsTidyAnswer, tidy_told}
+use Rattle.jcr_run.specs.Came.{going_turn, last_turn, phase_told, split_turn, turn_told}
 use Rattle.jcr_run.specs.declared.next.Due.{Due}
 use Rattle.jcr_run.specs.declared.next.Due.TheVariants as due
 use Rattle.jcr_run.specs.declared.run.Phase.{Phase}
@@ -64,7 +65,7 @@ use Rattle.jcr_run.specs.Nearing.{BeginsNearer, EndsSooner, IsReply, ReadsOn, St
 use Rattle.jcr_run.specs.Standing.{AreInStageOrder, HasAwaited, HasCounted, HasReadOn, HasTurned, IsBeside, IsBetweenCommands, IsEndFor, IsFresh, IsIn}
 use Rattle.jcr_run.specs.Standing.{IsInTidying, IsOnCommand, IsOneStep, IsTidyTold, IsTidyWork, Stands, StandsAt, due_by, due_for, due_to, is_allowed}
 use Rattle.jcr_run.specs.Standing.{is_between, is_committing, is_revision_written, is_tidied, is_tidy, is_tidying, stage_at, stage_of}
-use Rattle.jcr_session.specs.Tidying.{IsSplitNext, IsTaskNext, IsTidyTask, MayTidy, going_turn, last_turn, phase_told, split_turn, tidied_text, turn_told}
+use Rattle.jcr_session.specs.Tidying.{IsSplitNext, IsTaskNext, IsTidyTask, MayTidy, tidied_text}
 use Rattle.jcr_run.proofs.Calling.{turned_idle}
 use Rattle.jcr_run.proofs.Committing.{own as same_number}
 use Rattle.jcr_run.proofs.Cursors.{accepts_by, cursor_settled}

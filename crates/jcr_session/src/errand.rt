@@ -23,8 +23,7 @@ ghost use Rattle.jcr_steps.specs.declared.errand.Told.TheVariants as told;
 ghost use Rattle.jcr_session.specs.declared.errand.Start.TheVariants as start;
 ghost use Rattle.jcr_run.specs.declared.run.Phase.TheVariants as phase;
 
-use jcr_call::{cause_text, events_reply};
-use jcr_held::NextCheckpoint;
+use jcr_call::{NextCheckpoint, cause_text, events_reply};
 use jcr_law::JcrLaw;
 use jcr_observe::Filter;
 use jcr_run::{Phase, SessionRun, Turn};
