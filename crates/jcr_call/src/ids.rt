@@ -36,8 +36,8 @@ fn next_count(who: &Who) -> u32
     who.ids.wrapping_add(1)
 }
 
-/// How many identifiers a command has used that is no command of the view (JSR 283, 3.8 Referenceable
-/// Identifiers): by whether it was accepted, and whether its commit drew one.
+/// How many identifiers a command has used that is no command of the view, by whether it was
+/// accepted, and whether its commit drew one (JSR 283, 3.8 Referenceable Identifiers).
 pub fn used(command: &Command, ok: bool, drew: bool) -> u32
     ensures { result ≡ used ok drew command.now }
 {

@@ -26,8 +26,8 @@ abbrev pub last_turn : (reads : Bool) → Tidied → Turn
 last_turn reads (tidied.Split e) = split_turn reads
 last_turn reads (tidied.Collected c) = turn.Stepped kind.Collect
 
--- the turn of a step of a split or a collection, for which a reading step is due or another, by what
--- it came to
+-- the turn of a step of a split or a collection, for which a reading step is due or another, by
+-- what it came to
 abbrev pub turn_told : (reads : Bool) → TidyCame → Turn
 turn_told reads (came.Going k) = going_turn k
 turn_told reads (came.Ended t) = last_turn reads t

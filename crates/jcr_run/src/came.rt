@@ -8,8 +8,8 @@ use crate::{Phase, SessionRun, Turn};
 use jcr_steps::{Tidied, TidyCame};
 use oak_machine::StepKind;
 
-/// A session goes on behind a step of a split or a collection that wasn't refused memory, by what it
-/// came to; the turn tells whether a reading step was due.
+/// A session goes on behind a step of a split or a collection that wasn't refused memory, by what
+/// it came to; the turn tells whether a reading step was due.
 pub fn come_on(run: &mut SessionRun, came: TidyCame, reads: bool) -> Turn
     requires made { ¬ (came ≡ comes.Refused) }
     ensures turn { result ≡ turn_told reads came }

@@ -119,8 +119,8 @@ pub(crate) fn tidy_on<P: Port<L = JcrLaw>>(run: &mut SessionRun, port: &mut P) -
     tidy(run, port)
 }
 
-// Makes a step of a split or a collection. A split ends by a reading step or by a counted one, as it
-// is due.
+// Makes a step of a split or a collection. A split ends by a reading step or by a counted one, as
+// it is due.
 fn tidy<P: Port<L = JcrLaw>>(run: &mut SessionRun, port: &mut P) -> Turn
     requires stands { Stands (P.law port.old) (P.shown port.old)
         (record run.old { phase = phase.Tidying }) }
@@ -140,8 +140,8 @@ fn tidy<P: Port<L = JcrLaw>>(run: &mut SessionRun, port: &mut P) -> Turn
     tidy_once(run, port, reads)
 }
 
-// Makes a step of a split or a collection, for which a reading step is due, or another. Where memory
-// is refused, the task has ended, and the reply tells so.
+// Makes a step of a split or a collection, for which a reading step is due, or another. Where
+// memory is refused, the task has ended, and the reply tells so.
 fn tidy_once<P: Port<L = JcrLaw>>(run: &mut SessionRun, port: &mut P, reads: bool) -> Turn
     requires stands { Stands (P.law port.old) (P.shown port.old)
         (record run.old { phase = phase.Tidying }) }
