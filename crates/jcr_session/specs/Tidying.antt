@@ -44,7 +44,7 @@ IsTaskNext run t = (m : Command) → slice_get run.commands run.index ≡ Some m
 
 -- the task is that of the next command, for which nothing was drawn yet and neither the base nor
 -- the cursor has moved, and want of memory has a place as its reply
-pub record MayTidy (law : JcrLaw) (p : Shown) (run : SessionRun) (t : Task) : Type 0 where
+pub record MayBeginTidying (law : JcrLaw) (p : Shown) (run : SessionRun) (t : Task) : Type 0 where
   pub command : Command
   pub call : Call
   pub asked : IsAsked law p run command call

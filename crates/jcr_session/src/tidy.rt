@@ -10,7 +10,7 @@ ghost use Rattle.jcr_run.specs.Standing.{HasCounted, HasTurned, IsGranted, IsPre
 ghost use Rattle.jcr_run.specs.Standing.{due_for, is_tidied, is_tidy, is_tidying};
 ghost use Rattle.jcr_run.specs.declared.next.Due.TheVariants as due;
 ghost use Rattle.jcr_run.specs.declared.run.Phase.TheVariants as phase;
-ghost use Rattle.jcr_session.specs.Tidying.{IsSplitNext, IsTaskNext, MayTidy, tidied_text};
+ghost use Rattle.jcr_session.specs.Tidying.{IsSplitNext, IsTaskNext, MayBeginTidying, tidied_text};
 
 use jcr_call::{collected_reply, split_reply};
 use jcr_held::NextSplit;
@@ -88,7 +88,7 @@ fn keep_place<P: Port<L = JcrLaw>>(run: &mut SessionRun, port: &mut P, task: Tas
 
 // Begins the task, and makes its first step.
 fn begin<P: Port<L = JcrLaw>>(run: &mut SessionRun, port: &mut P, task: Task) -> Turn
-    requires tidies { MayTidy (P.law port.old) (P.shown port.old) run.old task }
+    requires tidies { MayBeginTidying (P.law port.old) (P.shown port.old) run.old task }
     ensures law { P.law port.new ≡ P.law port.old }
     ensures turned { HasTurned (P.law port.old) (P.shown port.old) (P.shown port.new)
         run.old run.new result }
