@@ -8,7 +8,7 @@ use Rattle.jr_path.specs.declared.path.DocId.TheVariants as id
 use Rattle.jr_path.specs.declared.path.Path.{Path}
 use Rattle.oak_doc.specs.declared.asks.Ask.{Ask}
 use Rattle.oak_doc.specs.declared.asks.Ask.TheVariants as ask
-use Rattle.oak_doc.specs.declared.asks.Collected.{Collected as Reclaimed}
+use Rattle.oak_doc.specs.declared.asks.Collected.{Collected}
 use Rattle.oak_doc.specs.declared.asks.RemoveOut.TheVariants as removal
 use Rattle.oak_doc.specs.declared.asks.Reply.{Reply}
 use Rattle.oak_doc.specs.declared.asks.Reply.TheVariants as reply
@@ -26,7 +26,7 @@ use Rattle.oak_gc.specs.Stages as collect_stages
 use Rattle.oak_gc.specs.declared.collector.Collector.{Collector}
 use Rattle.oak_gc.specs.declared.reading.Step.{Step as CollectStep}
 use Rattle.oak_gc.specs.declared.reading.Step.TheVariants as collect_step
-use Rattle.oak_gc.specs.declared.stage.Stage.{Stage as Collected}
+use Rattle.oak_gc.specs.declared.stage.Stage.{Stage as Collects}
 use Rattle.oak_gc.specs.declared.stage.Stage.TheVariants as collected
 use Rattle.oak_machine.specs.declared.event.Event.{Event}
 use Rattle.oak_machine.specs.declared.event.Event.TheVariants as event
@@ -260,7 +260,7 @@ pub tidying_refused : (h : History) (s : ℕ) (x : Tidying) → Tells h s (shown
 tidying_refused h s (tidying.Split x) = (refl, refl)
 tidying_refused h s (tidying.Collect x) = by (collect_stages.stage_of x)
   where
-    by : (st : Collected) → Tells h s (shown_collect st) answers.Memory [] Idle
+    by : (st : Collects) → Tells h s (shown_collect st) answers.Memory [] Idle
     by collected.Bound = (refl, refl)
     by _ = (refl, refl)
 
@@ -332,7 +332,7 @@ module _ (h : History) (s : ℕ) (p : AllParts) where
   collect_goes x collect_step.Done = (inr (refl, refl), refl)
 
   -- what goes over documents may end
-  last_step : (x : Collector) (c : Reclaimed) (told : Event) → told ≡ event.Collected s c → shown_collect (collect_stages.stage_of x) ≡ Collecting → kind_tidied (tidying.Collect x) ≡ kind.Collect → tidy_events s (tidying.Collect x) (tidying.Collect (collect_on x)) ≡ event.Went s kind.Collect ∷ [] → Ends (tidying.Collect x) (ends.Collected c) told
+  last_step : (x : Collector) (c : Collected) (told : Event) → told ≡ event.Collected s c → shown_collect (collect_stages.stage_of x) ≡ Collecting → kind_tidied (tidying.Collect x) ≡ kind.Collect → tidy_events s (tidying.Collect x) (tidying.Collect (collect_on x)) ≡ event.Went s kind.Collect ∷ [] → Ends (tidying.Collect x) (ends.Collected c) told
   last_step x c told is shown collects adds = record {
     tells = subst (λ (v : Shows). Tells h s v (answers.Ready (ends.Collected c)) (tidy_events s (tidying.Collect x) (tidying.Collect (collect_on x))) (Telling told)) (sym shown) (adds, ap Telling is);
     of_step = subst (λ (v : Shows). AreOfStep h s v (answers.Ready (ends.Collected c)) (tidy_events s (tidying.Collect x) (tidying.Collect (collect_on x)))) (sym shown)
