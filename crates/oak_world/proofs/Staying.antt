@@ -25,6 +25,7 @@ use Rattle.oak_step.specs.declared.work.Work.{Work}
 use Rattle.oak_step.specs.declared.work.Work.TheVariants as work
 use Rattle.oak_world.specs.Kept.{May, scene}
 use Rattle.oak_world.specs.Looks.{IsLookingOn}
+use Rattle.oak_world.proofs.Ends.{tell_lasts}
 use Rattle.oak_world.proofs.Lasting.{upkeep_lasts}
 use Rattle.oak_world.proofs.Others.{attached_left}
 use Rattle.oak_world.specs.Steps.{IsPresent}
@@ -99,5 +100,5 @@ module _ (starts : Starts) (says : Says) (last : StartsLast starts says) (h : St
   }
   may_last (work.Upkeep u) drawn same looks may = (come_left (live h) q own others may.0, upkeep_lasts starts says h nodes q own now others u may.1)
   may_last (work.Move r) drawn same looks may = (come_left (live h) q own others may.0, ended_lasts r own h.past may.1, may.2)
-  may_last (work.Tidy x) drawn same looks may = absurd may
-  may_last (work.Told e) drawn same looks may = absurd may
+  may_last (work.Tidy x) drawn same looks may = (come_left (live h) q own others may.0, may.1)
+  may_last (work.Told e) drawn same looks may = (come_left (live h) q own others may.0, tell_lasts (live h) q own others e may.1)
