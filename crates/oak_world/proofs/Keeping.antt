@@ -35,8 +35,10 @@ use Rattle.core_keep.specs.Formers.{Formers}
 use Rattle.core_nodes.specs.Nodes.{cursor_owner}
 use Rattle.core_nodes.proofs.Pasts.{ended_was_drawn}
 use Rattle.core_nodes.proofs.Waits.{has_ended}
+use Rattle.core_tidy.specs.Steps.{IsTidyStep, after_tidied, told_of}
 use Rattle.core_tidy.specs.Tidying.{AreTidying, reader_of}
 use Rattle.core_tidy.proofs.Beginning.{begins_collection, begins_split, told_tidy}
+use Rattle.core_tidy.proofs.Stepping.{tidying_steps}
 use Rattle.core_tidy.proofs.Whole.{other_session}
 use Rattle.core_world.specs.Kept.{IsKept}
 use Rattle.core_world.specs.States.{State, actor_pin, memory_of, reader_pin, with_session}
@@ -67,7 +69,8 @@ use Rattle.oak_gc.specs.declared.stage.Stage.{Stage as Collects}
 use Rattle.oak_gc.specs.declared.stage.Stage.TheVariants as collected
 use Rattle.oak_tidy.specs.declared.tidying.Tidying.{Tidying}
 use Rattle.oak_tidy.specs.declared.tidying.Tidying.TheVariants as tidying
-use Rattle.oak_tidy.specs.Tidyings.{CanTidy}
+use Rattle.oak_tidy.specs.Replies.{table_after}
+use Rattle.oak_tidy.specs.Tidyings.{CanTidy, tidying_ask}
 use Rattle.oak_tidy.proofs.Reading.{collections_begin, splits_begin}
 use Rattle.jr_path.specs.declared.path.Path.{Path}
 use Rattle.core_watch.specs.Standing.{path_read}
@@ -76,7 +79,7 @@ use Rattle.oak_step.specs.declared.upkeep.Upkeep.TheVariants as upkeep
 use Rattle.oak_world.proofs.Ahead.{still_due}
 use Rattle.oak_world.proofs.Changing.{Changes, changes_once, unchanged}
 use Rattle.oak_world.proofs.Ends.{end_attached, end_next, end_others, end_unstopped, ends_may, rest_readers, rest_running, rest_tidies, tell_follows}
-use Rattle.oak_world.proofs.Lookers.{AreCopies, looking_lasts, once_lasts}
+use Rattle.oak_world.proofs.Lookers.{AreCopies, looking_lasts, once_lasts, running_lasts}
 use Rattle.oak_world.proofs.Looking.{once_revision}
 use Rattle.oak_world.specs.Ends.{MayTell}
 use Rattle.oak_world.specs.Kept.{IsWorld, May, MayKeepUp, MayReadOn, MaySweepOn, Scene, scene}
@@ -87,7 +90,7 @@ use Rattle.oak_step.specs.Works.{Begins, CanBegin, kind_due, kind_of_stage}
 use Rattle.oak_world.specs.Acting.{is_tidying}
 use Rattle.oak_world.specs.Steps.{IsPresent, MakesState, StepsIn, attached_after}
 use Rattle.oak_world.specs.Worlds.{ActorState, IsAtRest, Story, WorldOf, actor_in, live, node_in, observing_of, once_looked, reading_of, reply_events, running_as, running_of, said_in, state_of, state_with, tidying_of, told_first, with_formers, with_reply, with_work, work_in}
-use Rattle.oak_world.proofs.States.{SameReaders, actor_other, actor_set, readers_same, readers_set, same_readers, session_same, session_set, with_readers}
+use Rattle.oak_world.proofs.States.{LeavesLooks, SameReaders, actor_other, actor_set, readers_same, readers_set, same_readers, session_same, session_set, with_readers}
 use Rattle.oak_saves.proofs.Stages.{done_stage}
 use Rattle.oak_world.proofs.Others.{attached_left}
 use Rattle.oak_world.proofs.Pinning.{actor_there}
@@ -97,7 +100,7 @@ use Rattle.oak_world.proofs.Staying.{may_last}
 use Rattle.oak_world.proofs.StepsOf.{IsPlainStepOf, IsStepOf, flipped, holds_still, none_stopped, plain_step}
 use Rattle.oak_world.proofs.Questions.{reads_as_due, splits_as_due}
 use Rattle.oak_world.proofs.Telling.{makes_told}
-use Rattle.oak_world.proofs.TidiesOf.{tidies_step}
+use Rattle.oak_world.proofs.TidiesOf.{tidies_step, tidy_changes}
 use Rattle.oak_world.proofs.Walking.{any_step}
 
 -- ---- the seats of the others
@@ -441,6 +444,22 @@ module _ (starts : Starts) (says : Says) (proper : StartsProper starts) (writes 
   can_by (work.Upkeep u) busy plain at may places kept short = can_keep_up u may.0 may.1
   can_by (work.Move r) busy plain at may places kept short = record { ended = moved_ended r may; pinned = come_pinned may.0; place = kept }
 
+  -- ---- a split or a collection
+
+  -- it may do what it does
+  tidying_may : (x : Tidying) → does ≡ work.Tidy x → May starts seen s (work.Tidy x)
+  tidying_may x at = subst (λ (v : Work). May starts seen s v) at (is.may s)
+
+  -- over the documents after its step the committers stand as they stood
+  pub tidied_looks : (x : Tidying) → does ≡ work.Tidy x → LeavesLooks w s seat (table_after w.table (tidying_ask x))
+  tidied_looks x at q =
+      running_lasts starts says state is.kept (told_of (after_tidied state s x) stepped.formers) (tidy_changes starts says proper state is.kept tidies is.tidying s x stepped) stepped.kept.sessions.readers.told.copies q (work_in w.actors q) refl (λ c at. looks_of q c at)
+    where
+      stepped : IsTidyStep starts says state tidies s x
+      stepped = tidying_steps starts says proper state is.kept tidies is.tidying is.table s x (ap tidying_of at) (tidying_may x at).1
+
+  -- ---- a task that begins
+
   -- the session may be told to do the task
   pub can_begin : (t : Task) → MayBegin starts (live w.history) s t → CanBegin (actor_pin (state_of w) s) t
   can_begin (task.Load p) may = actor_there starts says proper state is.kept s there is.unstopped may.0 may.1
@@ -483,15 +502,12 @@ module _ (starts : Starts) (says : Says) (proper : StartsProper starts) (writes 
     -- of one that does
     tidily : (x : Tidying) → does ≡ work.Tidy x → Keeps
     tidily x at =
-        let t = tidies_step starts says proper state is.kept tidies is.tidying s x (ap tidying_of at) is.table may.1 may.0 (ap reading_of at) is.unstopped is.once (with_formers (state_of u) is.formers) m.does o (subst (λ (v : Work). MakesState s state v (with_formers (state_of u) is.formers) m.does o) at made) in
+        let t = tidies_step starts says proper state is.kept tidies is.tidying is.table s x (ap tidying_of at) (tidying_may x at).1 (with_formers (state_of u) is.formers) m.does o (subst (λ (v : Work). MakesState s state v (with_formers (state_of u) is.formers) m.does o) at made) in
         record {
           formers = t.formers;
           step = subst (λ (v : Work). IsStepOf starts says s state v (with_formers (state_of u) t.formers) m.does o) (sym at) t.step;
           tidying = t.tidying;
         }
-      where
-        may : May starts seen s (work.Tidy x)
-        may = subst (λ (v : Work). May starts seen s v) at (is.may s)
 
     pub steps : Keeps
     steps = by does refl
