@@ -366,14 +366,14 @@ went_newest : (past : Past) (s : ℕ) (k : StepKind) → reverse (reverse past +
 went_newest past s kind.Read = reverse-append (reverse past) [] ∙ reverse-reverse past
 went_newest past s k = newest past (event.Went s k)
 
+abbrev bound_of : Tidying → Event
+bound_of y = event.Bound (bound_told y).base (bound_told y).sweep
+
 tidy_newest : (past : Past) (s : ℕ) (x y : Tidying) → reverse (reverse past ++ tidy_events s x y) ≡ tidy_events s x y ++ past
 tidy_newest past s x y = by (takes_bound x (tidying_ask x))
   where
-    bound : Event
-    bound = event.Bound (bound_told y).base (bound_told y).sweep
-
-    by : (b : Bool) → reverse (reverse past ++ option_map_or (λ e. e ∷ []) (cond b (Some bound) None) (went s (kind_tidied x))) ≡ option_map_or (λ e. e ∷ []) (cond b (Some bound) None) (went s (kind_tidied x)) ++ past
-    by true = newest past bound
+    by : (b : Bool) → reverse (reverse past ++ option_map_or (λ e. e ∷ []) (cond b (Some (bound_of y)) None) (went s (kind_tidied x))) ≡ option_map_or (λ e. e ∷ []) (cond b (Some (bound_of y)) None) (went s (kind_tidied x)) ++ past
+    by true = newest past (bound_of y)
     by false = went_newest past s (kind_tidied x)
 
 -- what has ended reads nothing
