@@ -29,13 +29,14 @@ use Rattle.core_tidy.proofs.Ordered.{undo_order, update_order}
 use Rattle.core_tidy.proofs.Whole.{others_tidy}
 use Rattle.core_world.specs.Kept.{IsKept}
 use Rattle.core_world.specs.Numbers.{last_number}
-use Rattle.core_world.specs.States.{State, listed_at, nodes_in, with_session}
+use Rattle.core_world.specs.States.{State, listed_at, node_of, nodes_in, with_session}
 use Rattle.core_world.specs.Steps.{after_update, with_result}
 use Rattle.oak_step.specs.Parts.{EndsSo}
 use Rattle.oak_step.specs.declared.upkeep.Upkeep.{Upkeep}
 use Rattle.oak_step.specs.declared.upkeep.Upkeep.TheVariants as upkeep
 use Rattle.oak_step.specs.declared.work.Work.{Work}
 use Rattle.oak_step.specs.declared.work.Work.TheVariants as work
+use Rattle.oak_sweep.specs.Sweeping as sweeping
 use Rattle.oak_sweep.specs.declared.sweeper.Sweeper.{Sweeper}
 use Rattle.oak_tidy.specs.declared.tidying.Tidying.{Tidying}
 use Rattle.oak_world.specs.Acting.{is_tidying}
@@ -95,7 +96,7 @@ module _ (s : ℕ) (w u : State) (x : Work) where
   upkeep_quiet (upkeep.Noted n) o h = begin_quiet n o h
   upkeep_quiet (upkeep.Publish b) o h = write_quiet b o h
   upkeep_quiet (upkeep.Read b) o h = read_quiet b o h
-  upkeep_quiet upkeep.Sweep o h = sweep_quiet _ o h.1
+  upkeep_quiet upkeep.Sweep o h = sweep_quiet (sweeping.begun h.0 (node_of w s)) o h.1
   upkeep_quiet (upkeep.Sweeping y) o h = sweep_quiet y o h
   upkeep_quiet (upkeep.Checkpoint i) (answers.Ready (ends.Set None)) h = quiet _ h.3 refl
   upkeep_quiet (upkeep.Checkpoint i) answers.Memory h = quiet _ h.1 refl
