@@ -533,7 +533,7 @@ module _ (starts : Starts) (says : Says) (proper : StartsProper starts) (writes 
     does_now = ap (λ (a : ActorState). a.work) (set_is w s seat u.actors _ m.actors)
 
     tidies_now : (λ q. tidying_of (work_in u.actors q)) ≡ with_session tidies s (tidying_of m.does)
-    tidies_now = ap (λ (actors : List ActorState). λ q. tidying_of (work_in actors q)) m.actors ∙ session_set (λ q v. tidying_of v) w.actors s _ seat
+    tidies_now = ap (λ (actors : List ActorState). λ (q : ℕ). tidying_of (work_in actors q)) m.actors ∙ session_set (λ q v. tidying_of v) w.actors s _ seat
 
     may_by : (q : ℕ) (b : Bool) → (q == s) ≡ b → May starts (scene u.table steps.formers (live u.history)) q (work_in u.actors q)
     may_by q true same = subst (λ (n : ℕ). May starts (scene u.table steps.formers (live u.history)) n (work_in u.actors n)) (sym (same_number q s same))
@@ -724,7 +724,7 @@ module _ (starts : Starts) (says : Says) (proper : StartsProper starts) (writes 
     first_leaves f leaves _ may = refl
 
     told_next : next_index told s ≡ next_index w.history.past s
-    told_next = first_leaves (λ past. next_index past s) (end_next s w.history.past s) does may_be_told
+    told_next = first_leaves (λ (past : Past). next_index past s) (end_next s w.history.past s) does may_be_told
 
     -- the state is kept once that is told, and all that tidies goes on
     first_keeps : (v : Work) → ((e : Event) → v ≡ work.Told e → MayTell (live w.history) s e) → tidies s ≡ tidying_of v → IsKept starts says (with_past (told_first v ++ w.history.past)) × AreTidying (with_past (told_first v ++ w.history.past)) tidies
@@ -744,7 +744,7 @@ module _ (starts : Starts) (says : Says) (proper : StartsProper starts) (writes 
     one_said past q apart = ap (λ b. b || false) (flipped q s apart)
 
     first_others : (past : Past) (q : ℕ) → (q == s) ≡ false → (v : Work) → ((e : Event) → v ≡ work.Told e → MayTell (live w.history) s e) → list_any (is_event_of past q) (told_first v) ≡ false
-    first_others past q apart (work.Told e) may = ap (λ b. b || false) (end_others past s q apart e (may e refl).own)
+    first_others past q apart (work.Told e) may = ap (λ b. b || false) (end_others s past q apart e (may e refl).own)
     first_others past q apart _ may = refl
 
     said_others : (q : ℕ) → (q == s) ≡ false → AreOthers q replied w.history.past
@@ -760,10 +760,10 @@ module _ (starts : Starts) (says : Says) (proper : StartsProper starts) (writes 
 
     -- attached it stays as it was
     replied_attached : (q : ℕ) → is_attached w.history.past q ≡ is_attached (replied ++ w.history.past) q
-    replied_attached q = sym (first_leaves (λ past. is_attached past q) (end_attached s w.history.past q) does may_be_told)
+    replied_attached q = sym (first_leaves (λ (past : Past). is_attached past q) (end_attached s w.history.past q) does may_be_told)
 
     replied_unstopped : (k : ℕ) → is_stopped (replied ++ w.history.past) k ≡ false
-    replied_unstopped k = first_leaves (λ past. is_stopped past k) (end_unstopped s w.history.past k) does may_be_told ∙ is.unstopped k
+    replied_unstopped k = first_leaves (λ (past : Past). is_stopped past k) (end_unstopped s w.history.past k) does may_be_told ∙ is.unstopped k
 
     pub said_keep : IsWorld starts says (said_in w s i text)
     said_keep = record {
