@@ -1,6 +1,6 @@
 -- A step of a split or a collection as a step of its session, after which all that tidies goes on.
 use mathlib.Core.Bool.{false≢true}
-use Rattle.std.proofs.Common.{◌≡◌, inl, inr, ℕ, Bool, true, false, cond, Option, Some, None, [], ◌∷◌, ◌++◌, is_some, refl, sym, ap, subst, ◌∙◌}
+use Rattle.std.proofs.Common.{◌≡◌, inl, inr, ℕ, Bool, true, false, cond, Option, Some, None, [], is_some, refl, sym, ap, subst, ◌∙◌}
 use Rattle.std.specs.Prelude.{◌≢◌, ◌==◌}
 use Rattle.oak_doc.specs.declared.asks.Ask.TheVariants as ask
 use Rattle.oak_machine.specs.declared.event.Event.{Event}
@@ -26,7 +26,6 @@ use Rattle.core_tidy.proofs.Beginning.{ends_tidying}
 use Rattle.core_tidy.proofs.Since.{more}
 use Rattle.core_tidy.proofs.Stepping.{tidying_steps}
 use Rattle.core_tidy.proofs.Whole.{events_others, events_stay}
-use Rattle.core_world.specs.Collecting.{after_copied, after_pruned, after_removed, after_split, after_taken_back}
 use Rattle.core_world.specs.Held.{after_bound}
 use Rattle.core_world.specs.Kept.{IsKept}
 use Rattle.core_world.specs.States.{State, history_in, with_session}
