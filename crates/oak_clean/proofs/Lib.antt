@@ -1,0 +1,5 @@
+pub mod Entries
+pub mod Pruned
+pub mod Tables
+pub mod Nodes
+pub mod Whole
