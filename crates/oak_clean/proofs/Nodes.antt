@@ -1,6 +1,6 @@
 -- One node's document is collected: what is left of it, and what is counted.
-use Rattle.std.proofs.Common.{◌≡◌, ◌⊎◌, inl, inr, ℕ, Bool, true, false, cond, ◌&&◌, ◌||◌, List, [], ◌∷◌, ◌++◌, Option, None, Some, length, map, is_some, refl, sym, ap, ◌∙◌, subst, arith}
-use Rattle.std.specs.Prelude.{◌+◌, ◌^◌, ◌≤◌, ◌-◌, ◌==◌, min, not, is_none, Contains, Result, Ok, Err}
+use Rattle.std.proofs.Common.{◌≡◌, ◌⊎◌, inl, inr, ℕ, Bool, true, false, cond, ◌&&◌, List, [], ◌∷◌, ◌++◌, Option, None, Some, length, map, is_some, refl, sym, ap, ◌∙◌, subst, arith}
+use Rattle.std.specs.Prelude.{◌≤◌, ◌==◌, not, Contains, Result, Ok, Err}
 use Rattle.std.specs.List.{AllByRecursion, filter}
 use Rattle.std.specs.List.Sorted.{IsStrictlySortedBy}
 use Rattle.std.specs.Map.{keys_of}
@@ -21,16 +21,16 @@ use Rattle.oak_doc.specs.declared.update.Cond.TheVariants.{Unchanged}
 use Rattle.oak_doc.specs.declared.update.Kept.TheVariants as kept
 use Rattle.oak_doc.specs.declared.update.OpFault.{OpFault}
 use Rattle.oak_doc.specs.declared.update.OpFault.TheVariants as fault
-use Rattle.oak_doc.specs.Updates.{after_changes, holds, is_met, update_refusal, updated}
+use Rattle.oak_doc.specs.Updates.{after_changes, updated}
 use Rattle.oak_gc.specs.Collecting.{Previous, found_in, more_documents, more_entries, more_skips, plus}
-use Rattle.oak_gc.specs.Garbage.{garbage_in, garbage_listed, has_garbage, is_garbage_document, is_garbage_listed, is_garbage_previous}
+use Rattle.oak_gc.specs.Garbage.{garbage_in, has_garbage, is_garbage_document, is_garbage_previous}
 use Rattle.oak_gc.specs.Resting.{Emptied, garbage_op, previous_listed, removal_counted, with_collected, with_removed_previous, with_update, without_document, without_garbage, without_previous}
 use Rattle.oak_read.proofs.Walking.{all_of, own_id}
 use Rattle.oak_read.specs.Meaning.{path_of}
-use Rattle.oak_store.specs.Tables.{Table, after_removal, found, next_number, removal_of, with_document}
+use Rattle.oak_store.specs.Tables.{Table, after_removal, found, next_number, with_document}
 use Rattle.oak_clean.proofs.Entries.{all_filter}
-use Rattle.oak_clean.proofs.Pruned.{cleaned, none_left, same_garbage}
-use Rattle.oak_clean.proofs.Tables.{IsBeside, IsCollecting, IsSortedTable, all_without, each_listed, found_put, found_removed, last, listed_there, one_put, one_removed, one_skipped, other_id, removal_own, removed_at}
+use Rattle.oak_clean.proofs.Pruned.{none_left, same_garbage}
+use Rattle.oak_clean.proofs.Tables.{IsBeside, IsCollecting, all_without, each_listed, found_put, found_removed, last, listed_there, one_put, one_removed, one_skipped, other_id, removal_own, removed_at}
 use Rattle.oak_clean.specs.Clean.{entries_gone, has_last_number}
 
 -- ---- what is counted

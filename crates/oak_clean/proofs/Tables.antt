@@ -1,6 +1,6 @@
 -- A store while documents are removed, put and skipped, against the store as it was before.
-use Rattle.std.proofs.Common.{◌≡◌, ◌⊎◌, inl, inr, ℕ, suc, Bool, true, false, cond, ◌&&◌, List, [], ◌∷◌, ◌++◌, Option, None, Some, length, map, fold, refl, sym, ap, ◌∙◌, subst, arith}
-use Rattle.std.specs.Prelude.{◌+◌, ◌-◌, ◌^◌, ◌≤◌, ◌==◌, min, not, reverse, Contains}
+use Rattle.std.proofs.Common.{◌≡◌, ◌⊎◌, inl, inr, ℕ, suc, Bool, true, false, cond, ◌&&◌, List, [], ◌∷◌, Option, None, Some, length, fold, refl, sym, ap, ◌∙◌, subst, arith}
+use Rattle.std.specs.Prelude.{◌+◌, ◌-◌, ◌^◌, ◌≤◌, min, not, reverse, Contains}
 use Rattle.std.specs.Option.{option_map_or}
 use Rattle.std.specs.List.{AllByRecursion}
 use Rattle.std.specs.List.Sorted.{IsStrictlySortedBy}
@@ -10,7 +10,7 @@ use Rattle.std.specs.FinMap.{nat_cmp-IsAntisymmetric}
 use Rattle.std.specs.Ordering.{eq_by_cmp, is_eq, match_ordering, nat_cmp}
 use Rattle.std.specs.declared.cmp.Ordering.{Ordering}
 use Rattle.std.specs.declared.cmp.Ordering.TheVariants.{Less, Equal, Greater}
-use Rattle.std.proofs.lemmas.Bool.{and_parts, false≢true}
+use Rattle.std.proofs.lemmas.Bool.{false≢true}
 use Rattle.std.proofs.lemmas.Cmp.{nat_cmp_total}
 use Rattle.std.proofs.lemmas.Grind.{reverse_onto}
 use Rattle.std.proofs.lemmas.List.Elements.{Contains-append_left}
@@ -29,10 +29,10 @@ use Rattle.oak_doc.specs.declared.document.Document.{Document}
 use Rattle.oak_gc.proofs.Ordered.{lookup_removed, sorted_put, sorted_removed}
 use Rattle.oak_gc.specs.Collecting.{Previous, more_documents, more_entries, more_skips}
 use Rattle.oak_gc.specs.Resting.{Emptied, previous_listed, removal_counted, without, without_previous}
-use Rattle.oak_read.proofs.Walking.{all_both, own_id, same_id}
+use Rattle.oak_read.proofs.Walking.{all_both, same_id}
 use Rattle.oak_read.specs.Meaning.{Documents}
 use Rattle.oak_store.specs.Tables.{Table, after_removal, found, is_removable, removal_of, with_document}
-use Rattle.oak_clean.specs.Clean.{counted, has_last_number}
+use Rattle.oak_clean.specs.Clean.{has_last_number}
 
 -- ---- lookups
 
