@@ -3,3 +3,4 @@ pub mod Pruned
 pub mod Tables
 pub mod Nodes
 pub mod Whole
+pub mod Rows
