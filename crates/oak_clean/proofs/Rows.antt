@@ -1,5 +1,5 @@
 -- Two wrong statements: a collection leaves garbage where its bound sweeps what its base doesn't see, and where a document has the last number.
-use Rattle.std.proofs.Common.{◌≡◌, ℕ, true, false, List, [], ◌∷◌, None, Some, refl, sym, ◌∙◌}
+use Rattle.std.proofs.Common.{◌≡◌, ℕ, true, false, [], ◌∷◌, None, Some, refl, sym}
 use Rattle.std.specs.Prelude.{◌^◌, ◌-◌}
 use Rattle.std.proofs.lemmas.Bool.{false≢true}
 use Rattle.jr_path.specs.declared.path.DocId.TheVariants as id
