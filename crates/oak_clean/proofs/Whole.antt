@@ -20,6 +20,9 @@ use Rattle.jr_rev.specs.declared.vector.Pin.{Pin}
 use Rattle.jr_tree.proofs.Entries.{rising}
 use Rattle.oak_doc.specs.declared.document.Document.{Document}
 use Rattle.oak_gc.proofs.Ordered.{each_found}
+use Rattle.oak_gc.proofs.Resting.{collects_by_the_least}
+use Rattle.oak_gc.specs.Bounding.{those_that_tell}
+use Rattle.oak_gc.specs.Bounds.{bound_of}
 use Rattle.oak_gc.specs.Collecting.{nothing_collected, plus}
 use Rattle.oak_gc.specs.Garbage.{has_garbage}
 use Rattle.oak_gc.specs.Resting.{Emptied, collected_by, previous_listed, with_collected}
@@ -30,7 +33,7 @@ use Rattle.oak_store.specs.Tables.{Table, found}
 use Rattle.oak_clean.proofs.Entries.{all_two}
 use Rattle.oak_clean.proofs.Nodes.{IsDone, node_done, plus_none}
 use Rattle.oak_clean.proofs.Tables.{IsCollecting, last}
-use Rattle.oak_clean.specs.Clean.{AreNamesInOrder, IsClean, IsCounted, IsSkipped, SeesSwept, SkipsWhatStays, after_collection, entries_gone, has_last_number}
+use Rattle.oak_clean.specs.Clean.{AreNamesInOrder, CollectorsEndClean, IsClean, IsCounted, IsSkipped, SeesSwept, SkipsWhatStays, after_collection, entries_gone, has_last_number}
 
 abbrev Entries : Type 0
 Entries = List (DocId × Document)
@@ -212,3 +215,9 @@ module _ (bound : Pin) (t : Table) (table : IsTable t.documents) where
 
       none_before : (n : ℕ) → plus 0 n ≡ min n last
       none_before n = omega arith
+
+pub collectors_end : CollectorsEndClean
+collectors_end told t a root settings is_root is_settings swept table names =
+    let bound : Pin = bound_of root (those_that_tell told) settings in
+    let ends = collects_by_the_least told t a root settings table is_root is_settings in
+    (ends.0, (ends.2, subst (IsClean bound) (sym ends.1) (leaves_clean bound t table swept names)))

@@ -1,6 +1,7 @@
 -- What a collection leaves of a store, and what it counts, where nobody else writes.
-use Rattle.std.specs.Prelude.{◌≡◌, ℕ, ◌-◌, ◌^◌, Bool, cond, not, ◌&&◌, ◌==◌, min, All, Contains, length, sum_by, Some, is_some, IsTrue, IsFalse}
+use Rattle.std.specs.Prelude.{◌≡◌, ℕ, ◌-◌, ◌^◌, Bool, cond, not, ◌&&◌, ◌==◌, min, All, Contains, List, [], length, sum_by, Option, Some, is_some, IsTrue, IsFalse}
 use Rattle.std.specs.FinMap.{is_sorted}
+use Rattle.std.specs.declared.alloc.Global.{Global}
 use Rattle.jr_path.specs.Names.{name_cmp}
 use Rattle.jr_path.specs.declared.path.DocId.{DocId}
 use Rattle.jr_path.specs.declared.path.DocId.TheVariants as id
@@ -8,10 +9,14 @@ use Rattle.jr_path.specs.declared.path.Path.{Path}
 use Rattle.jr_rev.specs.declared.revision.Revision.{Revision}
 use Rattle.jr_rev.specs.declared.vector.Pin.{Pin}
 use Rattle.jr_rev.specs.Vectors.{sees}
+use Rattle.oak_doc.specs.declared.asks.Ask.TheVariants as ask
 use Rattle.oak_doc.specs.declared.document.Document.{Document}
-use Rattle.oak_gc.specs.Collecting.{nothing_collected}
+use Rattle.oak_gc.specs.Bounding.{those_that_tell}
+use Rattle.oak_gc.specs.Bounds.{Told, bound_of}
+use Rattle.oak_gc.specs.Collecting.{begun, due, nothing_collected}
 use Rattle.oak_gc.specs.Garbage.{garbage_in, has_garbage}
-use Rattle.oak_gc.specs.Resting.{Emptied, collected_by}
+use Rattle.oak_gc.specs.Resting.{Emptied, after_asks, collected_by}
+use Rattle.oak_read.specs.Reading.{IsTable}
 use Rattle.oak_store.specs.Tables.{Table, found}
 
 -- a store after a collection over all its documents, in which nobody else wrote, and what was
@@ -44,6 +49,17 @@ SkipsWhatStays bound new = (p : Path) (d : Document) → found new.store (id.Nod
     → IsTrue (has_garbage bound.base bound.sweep (found new.store) d)
     → Contains new.collected.skipped (id.Node p, d.mod_count, d.mod_count)
 
+-- a collector that a store answers alone, from its first ask on, ends, and leaves no garbage of the
+-- bound that it took
+abbrev pub CollectorsEndClean : Type 0
+CollectorsEndClean = (told : List (Option Told)) (t : Table) (a : Global) (root settings : Document)
+    → found t (id.Node []) ≡ Some root → found t id.Settings ≡ Some settings
+    → SeesSwept (bound_of root (those_that_tell told) settings) → IsTable t.documents
+    → AreNamesInOrder t → (n : ℕ)
+    × (let w = after_asks told n (record { store = t; collector = begun a (length told) }) in
+    (due w.collector ≡ ask.Done)
+    × IsClean (bound_of root (those_that_tell told) settings) w.store)
+
 -- ---- what is counted
 
 -- so many, or the greatest number
@@ -75,5 +91,6 @@ pub record IsSkipped (old new : Table) (skip : DocId × ℕ × ℕ) : Type 0 whe
 pub record IsCounted (bound : Pin) (old : Table) (new : Emptied) : Type 0 where
   pub documents : new.collected.documents
       ≡ counted (length old.documents - length new.store.documents)
-  pub entries : new.collected.entries ≡ counted (sum_by (entries_gone bound new.store) old.documents)
+  pub entries : new.collected.entries
+      ≡ counted (sum_by (entries_gone bound new.store) old.documents)
   pub skipped : All (IsSkipped old new.store) new.collected.skipped
