@@ -62,7 +62,7 @@ CollectorsEndClean = (told : List (Option Told)) (t : Table) (a : Global) (root 
 
 -- ---- what is counted
 
--- so many, or the greatest number
+-- so many, at most the greatest number
 abbrev pub counted : ℕ → ℕ
 counted n = min n (2 ^ 64 - 1)
 

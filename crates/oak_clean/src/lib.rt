@@ -22,8 +22,8 @@ pub fn collectors_end_clean()
     ensures { CollectorsEndClean }
 {}
 
-/// It counts the documents that are gone, and the garbage entries that went out of those that
-/// stay; and each document that it skipped has the last number, and stays as it was.
+/// A collection counts the documents that are gone, and the garbage entries that went out of those
+/// that stay; and each document that it skipped has the last number, and stays as it was.
 pub fn collections_count_what_goes()
     ensures { (bound : Pin) (t : Table) → IsTable t.documents
         → IsCounted bound t (after_collection bound t) }
