@@ -1,5 +1,5 @@
 -- What the calls of a world owe to it, by the seat that they read and set.
-use Rattle.std.proofs.Common.{◌≡◌, ℕ, ◌+◌, ◌^◌, ◌<◌, ◌≤◌, true, cond, Option, Some, None, Result, Ok, Err, List, ◌++◌, length, is_some, sym, ap, subst, arith, refl}
+use Rattle.std.proofs.Common.{◌≡◌, ℕ, ◌+◌, ◌^◌, ◌<◌, ◌≤◌, true, cond, Option, Some, None, Result, Ok, Err, List, ◌++◌, length, is_some, sym, ap, subst, arith}
 use Rattle.std.proofs.Math.ListN.{get_or}
 use Rattle.std.specs.Prelude.{OnErr, OnOk, reverse, slice_get, slice_set}
 use Rattle.std.specs.Borrow.{GName}

@@ -43,7 +43,7 @@ use Rattle.core_tidy.proofs.Whole.{other_session}
 use Rattle.core_world.specs.Kept.{IsKept}
 use Rattle.core_world.specs.States.{State, actor_pin, memory_of, reader_pin, with_session}
 use Rattle.core_world.specs.Steps.{with_observer, with_reader}
-use Rattle.core_world.proofs.Flights.{other_number, same_number}
+use Rattle.core_world.proofs.Flights.{same_number}
 use Rattle.core_world.proofs.Lives.{its_node, on_node}
 use Rattle.core_world.proofs.Rising.{said_rises}
 use Rattle.core_world.proofs.Truths.{due_drawn, flies_there, pin_there, time_known}
