@@ -168,15 +168,18 @@ module _ (s : ℕ) (ms : List NodeState) (a : Global) (t0 : Table) (root setting
 
   module _ (es : Past) (none : filter is_bound es ≡ []) where
     hears_root : Onward t0 (begun a (length (told ms))) es
-    hears_root = inr (inl (record {
-      front = [];
-      rest = told ms;
-      all = refl;
-      base = root_pair root;
-      to_come = refl;
-      at = ap (λ (o : Option Document). record (begun a (length (told ms))) { bound = option_map_or root_pair o no_pair; step = behind_node (begun a (length (told ms))) 0 }) root_is;
-      same = refl;
-    }, none))
+    hears_root = inr (inl (
+      record {
+        front = [];
+        rest = told ms;
+        all = refl;
+        base = root_pair root;
+        to_come = refl;
+        at = ap (λ (o : Option Document). record (begun a (length (told ms))) { bound = option_map_or root_pair o no_pair; step = behind_node (begun a (length (told ms))) 0 }) root_is;
+        same = refl;
+      },
+      none,
+    ))
 
     module _ (base : Pin) (front : List (Option Told)) where
       -- it asks the next cluster node, or the settings
@@ -192,8 +195,10 @@ module _ (s : ℕ) (ms : List NodeState) (a : Global) (t0 : Table) (root setting
           ap (λ (o : Option Document). fold lesser_pair base (option_map_or kept_pairs o [])) settings_is
           ∙ (ap (λ (b : Pin). fold lesser_pair b (kept_pairs settings)) to_come
           ∙ sym (fold-append lesser_pair (root_pair root) (pairs_of (told ms)) (kept_pairs settings))) in
-          inr (inr (record { bound = taken; bounded = tt },
-          ap (λ (b : Pin). event.Bound b.base b.sweep ∷ filter is_bound es) taken ∙ ap (λ (fs : Past). event.Bound bound.base bound.sweep ∷ fs) none))
+          inr (inr (
+            record { bound = taken; bounded = tt },
+            ap (λ (b : Pin). event.Bound b.base b.sweep ∷ filter is_bound es) taken ∙ ap (λ (fs : Past). event.Bound bound.base bound.sweep ∷ fs) none,
+          ))
 
       hears_node : (n : Option Told) (ns : List (Option Told)) → told ms ≡ front ++ n ∷ ns → nat_lt (length front) (length (told ms)) ≡ true
           → fold lesser_pair base (pairs_of (n ∷ ns)) ≡ fold lesser_pair (root_pair root) (pairs_of (told ms)) → Onward t0 (asking (step.Node (length front + 1))) es
@@ -206,17 +211,20 @@ module _ (s : ℕ) (ms : List NodeState) (a : Global) (t0 : Table) (root setting
           node_told ms (length front + 1) (low, high)
           ∙ (ap (λ (k : ℕ). node_reply (option_flatten (slice_get (told ms) k))) back
           ∙ ap (λ (o : Option (Option Told)). node_reply (option_flatten o)) (ap (λ (xs : List (Option Told)). slice_get xs (length front)) all ∙ told_here front n ns)) in
-          inr (inl (record {
-            front = front ++ n ∷ [];
-            rest = ns;
-            all = all ∙ sym (append_assoc front (n ∷ []) ns);
-            base = fold lesser_pair base (pairs_of (n ∷ []));
-            to_come = pairs_more a (length (told ms)) n ns base ∙ to_come;
-            at = ap (fed (asking (step.Node (length front + 1)))) answered
-                ∙ (subst (λ (b : Bool). fed (behind b) (node_reply n) ≡ at_node a (length (told ms)) (fold lesser_pair base (pairs_of (n ∷ []))) (length front + 1)) more (one_node a (length (told ms)) base n (length front) more)
-                ∙ ap (at_node a (length (told ms)) (fold lesser_pair base (pairs_of (n ∷ [])))) (sym (one_longer front n)));
-            same = refl;
-          }, none))
+          inr (inl (
+            record {
+              front = front ++ n ∷ [];
+              rest = ns;
+              all = all ∙ sym (append_assoc front (n ∷ []) ns);
+              base = fold lesser_pair base (pairs_of (n ∷ []));
+              to_come = pairs_more a (length (told ms)) n ns base ∙ to_come;
+              at = ap (fed (asking (step.Node (length front + 1)))) answered
+                  ∙ (subst (λ (b : Bool). fed (behind b) (node_reply n) ≡ at_node a (length (told ms)) (fold lesser_pair base (pairs_of (n ∷ []))) (length front + 1)) more (one_node a (length (told ms)) base n (length front) more)
+                  ∙ ap (at_node a (length (told ms)) (fold lesser_pair base (pairs_of (n ∷ [])))) (sym (one_longer front n)));
+              same = refl;
+            },
+            none,
+          ))
 
       hears : (rest : List (Option Told)) → told ms ≡ front ++ rest → fold lesser_pair base (pairs_of rest) ≡ fold lesser_pair (root_pair root) (pairs_of (told ms))
           → Onward t0 (at_node a (length (told ms)) base (length front)) es

@@ -57,7 +57,7 @@ module _ {L : Type 0} (s : ℕ) (ms : List NodeState) (Is : Tidying → Table �
           by (Some a) is m = slice_get_within w.actors s a is
 
       does_then : work_in u.actors s ≡ steps.does
-      does_then = ap (λ (as : List ActorState). work_in as s) steps.actors ∙ ap (λ (a : ActorState). a.work) (actor_set w.actors s _ there)
+      does_then = ap (λ (all : List ActorState). work_in all s) steps.actors ∙ ap (λ (a : ActorState). a.work) (actor_set w.actors s _ there)
 
       -- what is asked is done, with its events
       module _ (x : Tidying) (is : Is x w.table stands.events) (documents : u.table ≡ table_after w.table (tidying_ask x)) (memories : u.memories ≡ w.memories)
@@ -127,7 +127,7 @@ module _ {L : Type 0} (s : ℕ) (ms : List NodeState) (Is : Tidying → Table �
     })
 
     others : (q : ℕ) → (q == s) ≡ false → (a : ActorState) → u.actors ≡ slice_set w.actors q a → work_in u.actors s ≡ work_in w.actors s
-    others q apart a is = ap (λ (as : List ActorState). work_in as s) is ∙ ap (λ (a : ActorState). a.work) (actor_other w.actors q a s (other_way q s apart))
+    others q apart a is = ap (λ (all : List ActorState). work_in all s) is ∙ ap (λ (a : ActorState). a.work) (actor_other w.actors q a s (other_way q s apart))
 
     other_step : (q : ℕ) → (q == s) ≡ false → (o : StepOut) → StepsIn w q u o → u.history.past ≡ w.history.past → Stands u (work_in u.actors s)
     other_step q apart o steps quiet =

@@ -4,8 +4,8 @@ use Rattle.oak_port.specs.declared.task.StepOut.{StepOut}
 use Rattle.oak_world.specs.Steps.{StepsIn}
 use Rattle.oak_world.specs.Worlds.{ActorState, WorldOf}
 
--- session q goes on while s alone adds events: it makes a step, which adds none where q isn't s; or,
--- where it isn't s, no more than what it does, or what is kept for its reply, is another
+-- session q goes on while s alone adds events: it makes a step, which adds none where q isn't s;
+-- or, where it isn't s, no more than what it does, or what is kept for its reply, is another
 abbrev pub GoesQuietly : {L : Type 0} → ℕ → ℕ → WorldOf L → WorldOf L → Type 0
 GoesQuietly s q old new =
     ((o : StepOut) × StepsIn old q new o
