@@ -30,7 +30,7 @@ use Rattle.oak_node.specs.Memory.{NodeState}
 use Rattle.oak_store.specs.Tables.{Table, found}
 use Rattle.oak_tidy.specs.declared.tidying.Tidying.{Tidying}
 use Rattle.oak_tidy.specs.declared.tidying.Tidying.TheVariants as tidying
-use Rattle.oak_tidy.specs.Replies.{all_parts, table_after, told_by_memories, told_to}
+use Rattle.oak_tidy.specs.Replies.{all_parts, node_tells, table_after, told_by_memories, told_to}
 use Rattle.oak_tidy.specs.Tidyings.{tidy_events}
 use Rattle.oak_alone.proofs.Asked.{node_told, told}
 
@@ -203,7 +203,7 @@ module _ (s : ℕ) (ms : List NodeState) (a : Global) (t0 : Table) (root setting
       hears_node : (n : Option Told) (ns : List (Option Told)) → told ms ≡ front ++ n ∷ ns → nat_lt (length front) (length (told ms)) ≡ true
           → fold lesser_pair base (pairs_of (n ∷ ns)) ≡ fold lesser_pair (root_pair root) (pairs_of (told ms)) → Onward t0 (asking (step.Node (length front + 1))) es
       hears_node n ns all more to_come =
-          let many : length ms ≡ length front + suc (length ns) = sym (length-map ms _) ∙ (ap length all ∙ length-append front (n ∷ ns)) in
+          let many : length ms ≡ length front + suc (length ns) = sym (length-map ms node_tells) ∙ (ap length all ∙ length-append front (n ∷ ns)) in
           let low : 1 ≤ length front + 1 = omega arith in
           let high : length front + 1 ≤ length ms = omega (arith, many) in
           let back : length front + 1 - 1 ≡ length front = omega arith in

@@ -22,7 +22,7 @@ use Rattle.oak_read.specs.Reading.{IsTable}
 use Rattle.oak_store.specs.Tables.{Table, found}
 use Rattle.oak_tidy.specs.declared.tidying.Tidying.{Tidying}
 use Rattle.oak_tidy.specs.declared.tidying.Tidying.TheVariants as tidying
-use Rattle.oak_tidy.specs.Replies.{all_parts, table_after, told_to}
+use Rattle.oak_tidy.specs.Replies.{all_parts, node_tells, table_after, told_to}
 use Rattle.oak_tidy.specs.Tidyings.{CanTidy, TidiesTo, tidying_ask}
 use Rattle.oak_tidy.proofs.Reading.{collections_begin}
 use Rattle.oak_tidy.proofs.Staying.{goes_can}
@@ -76,7 +76,7 @@ module _ (s : ℕ) (ms : List NodeState) (a : Global) (t0 : Table) (root setting
   -- it begins
   pub collection_begins : IsTable t0.documents → Collects (tidying.Collect (begun a (length ms))) t0 []
   collection_begins is =
-      let many : length (told ms) ≡ length ms = length-map ms _ in
+      let many : length (told ms) ≡ length ms = length-map ms node_tells in
       record {
         can = collections_begin (length ms) a;
         ends = subst (λ (n : ℕ). EndsIn ms t0 (begun a n) out) many (collects_by_the_least (told ms) t0 a root settings is root_is settings_is);
