@@ -36,10 +36,10 @@ module _ (s : ℕ) (ms : List NodeState) (a : Global) (t0 : Table) (root setting
   out = collected_by (bound s ms a t0 root settings root_is settings_is) (record { store = t0; collected = nothing_collected }) t0.documents
 
   -- a collection goes on
-  record IsAt (c : Collector) (t : Table) (es : Past) : Type 0 where
-    can : CanTidy (length ms) (tidying.Collect c)
-    ends : EndsIn ms t c out
-    stands : Stands s ms a t0 root settings root_is settings_is t c (filter is_bound es)
+  pub record IsAt (c : Collector) (t : Table) (es : Past) : Type 0 where
+    pub can : CanTidy (length ms) (tidying.Collect c)
+    pub ends : EndsIn ms t c out
+    pub stands : Stands s ms a t0 root settings root_is settings_is t c (filter is_bound es)
 
   abbrev pub Collects : Tidying → Table → Past → Type 0
   Collects (tidying.Collect c) t es = IsAt c t es
@@ -59,16 +59,16 @@ module _ (s : ℕ) (ms : List NodeState) (a : Global) (t0 : Table) (root setting
   }
   goes (tidying.Split x) t es is busy = absurd is
 
-  ends_so : (x : Tidying) (t : Table) (es : Past) → Collects x t es → (e : TaskEnd) (told : Event) → TidiesTo s (next_of ms t x) e told → HasEnded told (table_after t (tidying_ask x)) (events_with s ms t x es)
-  ends_so (tidying.Collect c) t es is (ends.Collected k) told h =
+  ends_so : (x : Tidying) (t : Table) (es : Past) → Collects x t es → (e : TaskEnd) (tells : Event) → TidiesTo s (next_of ms t x) e tells → HasEnded tells (table_after t (tidying_ask x)) (events_with s ms t x es)
+  ends_so (tidying.Collect c) t es is (ends.Collected k) tells h =
       let so = has_ended ms (table_after t (due c)) _ out h.0 (goes_on ms t c out is.can.busy is.can.asks.0 is.ends) in
       record {
         documents = so.0;
         counted = h.2 ∙ ap (λ (k : Collected). event.Collected s k) (h.1 ∙ so.1);
         bounds = one_bound s ms a t0 root settings root_is settings_is (table_after t (due c)) _ _ (stands_on s ms a t0 root settings root_is settings_is t c es is.stands) h.0;
       }
-  ends_so (tidying.Collect c) t es is _ told h = absurd h
-  ends_so (tidying.Split x) t es is e told h = absurd is
+  ends_so (tidying.Collect c) t es is _ tells h = absurd h
+  ends_so (tidying.Split x) t es is e tells h = absurd is
 
   pub collects_alone : IsKeptAlone s ms Collects HasEnded
   collects_alone = record { goes = goes; ends = ends_so }

@@ -30,22 +30,22 @@ use Rattle.oak_alone.proofs.Still.{makes_still}
 other_way : (q s : ℕ) → (q == s) ≡ false → (s == q) ≡ false
 other_way q s h = grind (arith, nat_tests)
 
-module _ {L : Type 0} (s : ℕ) (ms : List NodeState) (Is : Tidying → Table → Past → Type 0) (Ended : Event → Table → Past → Type 0) (keeps : IsKeptAlone s ms Is Ended) (before : Past) where
+module _ (s : ℕ) (ms : List NodeState) (Is : Tidying → Table → Past → Type 0) (Ended : Event → Table → Past → Type 0) (keeps : IsKeptAlone s ms Is Ended) (before : Past) where
   -- what is said of the session's work: it tidies, or what it tidied has ended, or memory was refused
-  abbrev Does : Work → Table → Past → Type 0
+  abbrev pub Does : Work → Table → Past → Type 0
   Does (work.Tidy x) t es = Is x t es
   Does (work.Told e) t es = Ended e t es
   Does work.Rest t es = Unit {0}
   Does _ t es = ⊥
 
-  -- the memories are these, and of the events since so much is said
-  pub record Stands (w : WorldOf L) (does : Work) : Type 0 where
+  -- the memories are these, and of the documents and the events since so much is said
+  pub record Stands {L : Type 0} (w : WorldOf L) (v : Work) : Type 0 where
     pub memories : w.memories ≡ ms
     pub events : Past
     pub added : w.history.past ≡ events ++ before
-    pub does : Does does w.table events
+    pub does : Does v w.table events
 
-  module _ (w u : WorldOf L) (stands : Stands w (work_in w.actors s)) where
+  module _ {L : Type 0} (w u : WorldOf L) (stands : Stands w (work_in w.actors s)) where
     -- ---- the session's own step
 
     module _ (o : StepOut) (steps : StepsIn w s u o) where
@@ -144,12 +144,12 @@ module _ {L : Type 0} (s : ℕ) (ms : List NodeState) (Is : Tidying → Table �
         stays (ap (λ (x : WorldOf L). x.table) h.2) (ap (λ (x : WorldOf L). x.memories) h.2) (ap (λ (x : WorldOf L). x.history.past) h.2)
         (others q h.0 h.1 (ap (λ (x : WorldOf L). x.actors) h.2))
 
-  all_calls : (qs : List ℕ) (w u : WorldOf L) → Stands w (work_in w.actors s) → Quietly s w qs u → Stands u (work_in u.actors s)
-  all_calls [] w u stands is = subst (λ (x : WorldOf L). Stands x (work_in x.actors s)) (sym is) stands
+  all_calls : {L : Type 0} (qs : List ℕ) (w u : WorldOf L) → Stands w (work_in w.actors s) → Quietly s w qs u → Stands u (work_in u.actors s)
+  all_calls [] w u stands is = subst (λ (x : WorldOf _). Stands x (work_in x.actors s)) (sym is) stands
   all_calls (q ∷ qs) w u stands h = all_calls qs h.0 u (one_call w h.0 stands q h.1) h.2
 
   -- what is told has ended so
-  pub quietly_ends : (w u : WorldOf L) (x : Tidying) (qs : List ℕ) (told : Event) → w.memories ≡ ms → w.history.past ≡ before → work_in w.actors s ≡ work.Tidy x → Is x w.table []
+  pub quietly_ends : {L : Type 0} (w u : WorldOf L) (x : Tidying) (qs : List ℕ) (told : Event) → w.memories ≡ ms → w.history.past ≡ before → work_in w.actors s ≡ work.Tidy x → Is x w.table []
       → Quietly s w qs u → work_in u.actors s ≡ work.Told told → Stands u (work.Told told)
   quietly_ends w u x qs told memories past begins is calls ends =
       subst (Stands u) ends

@@ -50,7 +50,7 @@ use Rattle.oak_alone.proofs.Steps.{IsKeptAlone, events_with, next_of}
 
 module _ (rest : List (DocId × Document)) (out : SplitEnd) where
   -- a splitter ends so over them
-  abbrev EndsSo : Splitter → Type 0
+  abbrev pub EndsSo : Splitter → Type 0
   EndsSo x = SplitEndsIn rest x out
 
   is_ended : (n : ℕ) (x : Splitter) (o : SplitEnd) → (splitter_after rest n (split_ended x o)).step ≡ step.Done out → o ≡ out
@@ -93,11 +93,11 @@ put_beside t x n q p (Ok d) is = put_is t x d (next_number t) (id.Node p) ∙ ap
 put_beside t x n q p (Err e) is = refl
 
 module _ (s : ℕ) (ms : List NodeState) (t0 : Table) (table : IsTable t0.documents) (p : Path) (out : SplitEnd) where
-  abbrev Ends : Splitter → Type 0
+  abbrev pub Ends : Splitter → Type 0
   Ends x = EndsSo t0.documents out x
 
   -- what a splitter that stands at a step has read, and what there is then
-  abbrev IsAtStep : Step → Table → Splitter → Type 0
+  abbrev pub IsAtStep : Step → Table → Splitter → Type 0
   IsAtStep step.Read t x = (t ≡ t0) × Ends x
   IsAtStep step.Root t x = (t ≡ t0) × Ends x × (x.reading.document.id ≡ id.Node p)
   IsAtStep (step.Previous e n) t x = (t ≡ t0) × Ends x × (x.reading.document.id ≡ id.Node p)
@@ -106,9 +106,9 @@ module _ (s : ℕ) (ms : List NodeState) (t0 : Table) (table : IsTable t0.docume
   IsAtStep (step.Remove k f o) t x = o ≡ out
   IsAtStep (step.Done o) t x = o ≡ out
 
-  record IsAt (x : Splitter) (t : Table) : Type 0 where
-    path : x.path ≡ p
-    at : IsAtStep x.step t x
+  pub record IsAt (x : Splitter) (t : Table) : Type 0 where
+    pub path : x.path ≡ p
+    pub at : IsAtStep x.step t x
 
   -- it knows what moves
   moves : (x : Splitter) → x.path ≡ p → x.reading.document.id ≡ id.Node p → (o : Option PrevEntry)

@@ -33,8 +33,8 @@ use Rattle.oak_sync.specs.declared.back_read.BackRead.{BackRead}
 use Rattle.oak_sync.specs.declared.back_write.BackWrite.{BackWrite}
 use Rattle.oak_tidy.specs.declared.tidying.Tidying.{Tidying}
 use Rattle.oak_tidy.specs.declared.tidying.Tidying.TheVariants as tidying
-use Rattle.oak_tidy.specs.Replies.{table_after}
-use Rattle.oak_tidy.specs.Tidyings.{tidy_events, tidying_ask}
+use Rattle.oak_tidy.specs.Replies.{all_parts, table_after}
+use Rattle.oak_tidy.specs.Tidyings.{tidied_on, tidy_events, tidying_ask}
 use Rattle.core_world.specs.States.{State, memory_of, node_of}
 use Rattle.core_world.specs.Steps.{moved_head}
 use Rattle.oak_world.specs.Steps.{BeginsBackWrite, MakesBackRead, MakesBackWrite, MakesCommit, MakesState, MakesSweep, MakesTidying, MakesUpdate, MakesUpkeep, PassesTo}
@@ -48,12 +48,10 @@ not_longer n h = omega (arith, h)
 -- none were added
 none_added : (es past : Past) → es ++ past ≡ past → es ≡ []
 none_added [] past is = refl
-none_added (e ∷ es) past is =
-    let more : suc (length es + length past) ≡ length past = sym (length-append (e ∷ es) past) ∙ ap length is in
-    absurd (by more)
+none_added (e ∷ es) past is = absurd (by (sym (length-append (e ∷ es) past) ∙ ap length is))
   where
-    by : suc (length es + length past) ≡ length past → ⊥
-    by h = omega (arith, h)
+    by : length (e ∷ es) + length past ≡ length past → ⊥
+    by h = let one : length (e ∷ es) ≡ suc (length es) = refl in omega (arith, h, one)
 
 -- what tidies changes no document in a step without an event
 module _ (s : ℕ) (y : Tidying) (t : Table) where
@@ -187,8 +185,8 @@ module _ (s : ℕ) (w u : State) (quiet : u.past ≡ w.past) where
 
   tidy_still : (x : Tidying) (v : Work) (o : StepOut) → MakesTidying s w x u v o → AreSame
   tidy_still x v answers.Memory h = still _ h.0 refl refl
-  tidy_still x v (answers.Went z) h = looks x _ (ap (λ (t : State). t.table) h.0) (ap (λ (t : State). t.memories) h.0) (ap (λ (t : State). t.past) h.0)
-  tidy_still x v (answers.Ready e) h = looks x _ (ap (λ (t : State). t.table) h.0) (ap (λ (t : State). t.memories) h.0) (ap (λ (t : State). t.past) h.0)
+  tidy_still x v (answers.Went z) h = looks x (tidied_on (all_parts w.table w.memories []) x) (ap (λ (t : State). t.table) h.0) (ap (λ (t : State). t.memories) h.0) (ap (λ (t : State). t.past) h.0)
+  tidy_still x v (answers.Ready e) h = looks x (tidied_on (all_parts w.table w.memories []) x) (ap (λ (t : State). t.table) h.0) (ap (λ (t : State). t.memories) h.0) (ap (λ (t : State). t.past) h.0)
   tidy_still x v _ h = absurd h.3
 
   -- a step of a session, whatever it does
