@@ -25,7 +25,7 @@ use Rattle.oak_gc.specs.declared.reading.Step.TheVariants as step
 use Rattle.oak_gc.proofs.Bounding.{at_node, fold-append, more_to_ask, none_to_ask, one_node, pairs_more, pairs_of}
 use Rattle.oak_machine.specs.declared.event.Event.TheVariants as event
 use Rattle.oak_machine.specs.History.{Past}
-use Rattle.oak_machine.specs.Runs.{IsNode, is_bound}
+use Rattle.oak_machine.specs.Runs.{is_bound}
 use Rattle.oak_node.specs.Memory.{NodeState}
 use Rattle.oak_store.specs.Tables.{Table, found}
 use Rattle.oak_tidy.specs.declared.tidying.Tidying.{Tidying}

@@ -28,7 +28,7 @@ use Rattle.oak_port.specs.declared.task.TaskEnd.TheVariants as ends
 use Rattle.oak_prev.proofs.Resting.{named_found, splits_what_moves}
 use Rattle.oak_prev.specs.Resting.{SplitEndsIn, split_end, splitter_after, splitter_answer, update_reply}
 use Rattle.oak_prev.specs.Splits.{listed_as, main_write, moved_count, previous_write}
-use Rattle.oak_prev.specs.Splitting.{begun, due, fed, fed_commit_root, fed_read, known, on_next_root, split_ended, statuses_known}
+use Rattle.oak_prev.specs.Splitting.{begun, due, fed, fed_read, known, on_next_root, split_ended}
 use Rattle.oak_prev.specs.Wanted.{roots_wanted}
 use Rattle.oak_prev.specs.declared.splitter.Splitter.{Splitter}
 use Rattle.oak_prev.specs.declared.splitter.Step.{Step}

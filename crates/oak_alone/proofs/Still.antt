@@ -1,5 +1,5 @@
 -- A step that adds no event changes neither documents nor memories.
-use Rattle.std.proofs.Common.{◌≡◌, inl, inr, ℕ, suc, ◌+◌, Bool, true, false, cond, List, [], ◌∷◌, ◌++◌, length, Some, None, refl, sym, ap, ◌∙◌, arith}
+use Rattle.std.proofs.Common.{◌≡◌, inl, inr, ℕ, suc, ◌+◌, Bool, true, false, cond, [], ◌∷◌, ◌++◌, length, Some, None, refl, sym, ap, ◌∙◌, arith}
 use Rattle.std.proofs.lemmas.List.{length-append}
 use Rattle.oak_commit.specs.Committing.{Committing}
 use Rattle.oak_commit.specs.declared.outcome.CommitEnd.TheVariants as end
@@ -11,8 +11,6 @@ use Rattle.oak_machine.specs.declared.event.Event.TheVariants as event
 use Rattle.oak_machine.specs.declared.event.StepKind.{StepKind}
 use Rattle.oak_machine.specs.declared.event.StepKind.TheVariants as kind
 use Rattle.oak_machine.specs.History.{Past}
-use Rattle.oak_node.specs.Heads.{finished}
-use Rattle.oak_node.specs.Memory.{own_entry}
 use Rattle.oak_node.specs.declared.pending.Pending.{Pending}
 use Rattle.oak_port.specs.declared.task.StepOut.{StepOut}
 use Rattle.oak_port.specs.declared.task.StepOut.TheVariants as answers
@@ -36,7 +34,6 @@ use Rattle.oak_tidy.specs.declared.tidying.Tidying.TheVariants as tidying
 use Rattle.oak_tidy.specs.Replies.{all_parts, table_after}
 use Rattle.oak_tidy.specs.Tidyings.{tidied_on, tidy_events, tidying_ask}
 use Rattle.core_world.specs.States.{State, memory_of, node_of}
-use Rattle.core_world.specs.Steps.{moved_head}
 use Rattle.oak_world.specs.Steps.{BeginsBackWrite, MakesBackRead, MakesBackWrite, MakesCommit, MakesState, MakesSweep, MakesTidying, MakesUpdate, MakesUpkeep, PassesTo}
 
 -- ---- events

@@ -1,13 +1,12 @@
 -- A split and a collection in a world in which nobody else adds an event.
-use Rattle.std.proofs.Common.{◌≡◌, ℕ, List, [], length, refl, sym, subst}
-use Rattle.std.specs.declared.alloc.Global.{Global}
+use Rattle.std.proofs.Common.{ℕ, [], refl, subst}
 use Rattle.oak_gc.specs.Collecting as collecting
 use Rattle.oak_machine.specs.Laws.{Says, Starts}
 use Rattle.oak_prev.specs.Resting.{split_end}
 use Rattle.oak_prev.specs.Splitting as splitting
 use Rattle.oak_read.specs.Meaning.{documents_in}
 use Rattle.oak_tidy.specs.declared.tidying.Tidying.TheVariants as tidying
-use Rattle.oak_alone.proofs.Collected.{Collects, collection_begins, collects_alone as collects_on, HasEnded}
+use Rattle.oak_alone.proofs.Collected.{Collects, collection_begins, collects_alone as collects_on}
 use Rattle.oak_alone.proofs.Quiet.{quietly_ends}
 use Rattle.oak_alone.proofs.Split.{Splits, split_begins, splits_alone as splits_on}
 use Rattle.oak_alone.specs.Alone.{CollectsAlone, SplitsAlone, least_held}
