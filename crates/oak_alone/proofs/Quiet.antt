@@ -1,8 +1,11 @@
 -- What tidies in a world in which nobody else adds an event steps as it does alone.
+use mathlib.Core.Bool.{false≢true}
 use Rattle.std.proofs.Common.{◌≡◌, ◌≢◌, inl, inr, ℕ, ◌<◌, Bool, true, false, List, [], ◌∷◌, ◌++◌, length, Option, Some, None, refl, sym, ap, ◌∙◌, subst, arith, append_assoc}
 use Rattle.std.specs.Prelude.{◌==◌, slice_get, slice_set}
+use Rattle.std.specs.List.{AllByRecursion}
 use Rattle.std.specs.Option.{unwrap_or}
 use Rattle.std.proofs.lemmas.Bool.Decides.{nat_tests}
+use Rattle.std.proofs.lemmas.List.Elements.{recursion_from_All}
 use Rattle.std.proofs.lemmas.Option.{slice_get_within}
 use Rattle.oak_doc.specs.declared.asks.Ask.TheVariants as ask
 use Rattle.oak_machine.specs.declared.event.Event.{Event}
@@ -14,16 +17,16 @@ use Rattle.oak_port.specs.declared.task.TaskEnd.{TaskEnd}
 use Rattle.oak_step.specs.declared.work.Work.{Work}
 use Rattle.oak_step.specs.declared.work.Work.TheVariants as work
 use Rattle.oak_store.specs.Tables.{Table}
-use Rattle.core_world.proofs.Flights.{same_number}
+use Rattle.core_world.proofs.Flights.{number_itself, same_number}
 use Rattle.core_world.specs.States.{State}
 use Rattle.oak_tidy.specs.declared.tidying.Tidied.{Tidied}
 use Rattle.oak_tidy.specs.declared.tidying.Tidying.{Tidying}
 use Rattle.oak_tidy.specs.Replies.{table_after}
 use Rattle.oak_tidy.specs.Tidyings.{GoesOrEnds, TidiesTo, kind_tidied, tidy_events, tidying_ask}
 use Rattle.oak_world.proofs.States.{actor_other, actor_set}
-use Rattle.oak_world.specs.Steps.{MakesState, MakesTidying, StepsIn, work_left}
+use Rattle.oak_world.specs.Steps.{MakesState, MakesTidying, Plays, StepsIn, Turns, work_left}
 use Rattle.oak_world.specs.Worlds.{ActorState, WorldOf, idle, state_of, work_in}
-use Rattle.oak_alone.specs.Quiet.{GoesQuietly, Quietly}
+use Rattle.oak_alone.specs.Quiet.{GoesQuietly, OwnTurnsAreQuiet, Quietly}
 use Rattle.oak_alone.proofs.Steps.{IsKeptAlone, events_with, next_of}
 use Rattle.oak_alone.proofs.Still.{makes_still}
 
@@ -154,3 +157,19 @@ module _ (s : ℕ) (ms : List NodeState) (Is : Tidying → Table → Past → Ty
   quietly_ends w u x qs told memories past begins is calls ends =
       subst (Stands u) ends
       (all_calls qs w u (record { memories = memories; events = []; added = past; does = subst (λ (v : Work). Does v w.table []) (sym begins) is }) calls)
+
+-- ---- a session alone
+
+own_turns : {L : Type 0} (s : ℕ) (schedule : List ℕ) → AllByRecursion (λ q. q ≡ s) schedule → (old new : WorldOf L) → Plays old schedule new → (qs : List ℕ) × Quietly s old qs new
+own_turns s [] all old new is = ([], is)
+own_turns s (q ∷ rest) all old new h = by h.1 (own_turns s rest all.1 h.0 new h.2)
+  where
+    own : (q == s) ≡ false → h.0.history.past ≡ old.history.past
+    own apart = absurd (false≢true (sym apart ∙ (ap (λ (n : ℕ). n == s) all.0 ∙ number_itself s)))
+
+    by : Turns old q h.0 → (qs : List ℕ) × Quietly s h.0 qs new → (qs : List ℕ) × Quietly s old qs new
+    by (inl t) r = let calls : Quietly s old (q ∷ r.0) new = (h.0, inl (t.0, t.1, own), r.1) in (q ∷ r.0, calls)
+    by (inr t) r = subst (λ (w : WorldOf _). (qs : List ℕ) × Quietly s w qs new) t.0 r
+
+pub own_turns_are_quiet : (L : Type 0) → OwnTurnsAreQuiet L
+own_turns_are_quiet L s old new schedule all h = own_turns s schedule (recursion_from_All _ schedule all) old new h

@@ -1,7 +1,7 @@
 -- Calls on a world in which none but one session adds events.
-use Rattle.std.specs.Prelude.{◌≡◌, ◌⊎◌, ◌==◌, ℕ, List, [], ◌∷◌, slice_set, IsFalse}
+use Rattle.std.specs.Prelude.{◌≡◌, ◌⊎◌, ◌==◌, ℕ, List, [], ◌∷◌, All, slice_set, IsFalse}
 use Rattle.oak_port.specs.declared.task.StepOut.{StepOut}
-use Rattle.oak_world.specs.Steps.{StepsIn}
+use Rattle.oak_world.specs.Steps.{Plays, StepsIn}
 use Rattle.oak_world.specs.Worlds.{ActorState, WorldOf}
 
 -- session q goes on while s alone adds events: it makes a step, which adds none where q isn't s;
@@ -18,3 +18,9 @@ abbrev pub Quietly : {L : Type 0} → ℕ → WorldOf L → List ℕ → WorldOf
 Quietly s old [] new = new ≡ old
 Quietly {L} s old (q ∷ qs) new = (next : WorldOf L) × GoesQuietly s q old next
     × Quietly s next qs new
+
+-- where one session alone takes its turns, nobody else adds an event
+abbrev pub OwnTurnsAreQuiet : Type 0 → Type 0
+OwnTurnsAreQuiet L = (s : ℕ) (old new : WorldOf L) (schedule : List ℕ)
+    → All (λ q. q ≡ s) schedule → Plays old schedule new
+    → (qs : List ℕ) × Quietly s old qs new

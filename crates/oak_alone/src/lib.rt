@@ -2,6 +2,7 @@
 #![tactic(auto)]
 
 ghost use Rattle.oak_alone.specs.Alone.{CollectsAlone, SplitsAlone};
+ghost use Rattle.oak_alone.specs.Quiet.{OwnTurnsAreQuiet};
 
 use oak_machine::Law;
 
@@ -14,4 +15,9 @@ pub fn splits_alone<L: Law>(law: &L)
 /// that bound makes of them at rest, while nobody else adds an event.
 pub fn collections_alone<L: Law>(law: &L)
     ensures { CollectsAlone (L.may_start law.now) (L.may_say law.now) L }
+{}
+
+/// Where one session alone takes its turns, nobody else adds an event.
+pub fn own_turns_are_quiet<L: Law>(law: &L)
+    ensures { OwnTurnsAreQuiet L }
 {}
