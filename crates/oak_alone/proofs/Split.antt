@@ -1,5 +1,5 @@
 -- A split that steps alone ends as over documents at rest: what it writes stands under an id that it doesn't ask for before it knows its end.
-use Rattle.std.proofs.Common.{◌≡◌, ◌≢◌, ℕ, zero, suc, Bool, true, false, cond, List, [], ◌∷◌, Option, Some, None, Result, Ok, Err, refl, sym, ap, ◌∙◌, subst}
+use Rattle.std.proofs.Common.{◌≡◌, ◌≢◌, inl, inr, ℕ, zero, suc, Bool, true, false, cond, List, [], ◌∷◌, Option, Some, None, Result, Ok, Err, refl, sym, ap, ◌∙◌, subst}
 use Rattle.std.specs.Option.{option_map_or}
 use Rattle.std.specs.Ordering.{eq_by_cmp}
 use Rattle.std.specs.declared.alloc.Global.{Global}
@@ -26,24 +26,28 @@ use Rattle.oak_node.specs.Memory.{NodeState}
 use Rattle.oak_port.specs.declared.task.TaskEnd.{TaskEnd}
 use Rattle.oak_port.specs.declared.task.TaskEnd.TheVariants as ends
 use Rattle.oak_prev.proofs.Resting.{named_found, splits_what_moves}
+use Rattle.oak_prev.specs.Moving.{documents_known}
 use Rattle.oak_prev.specs.Resting.{SplitEndsIn, split_end, splitter_after, splitter_answer, update_reply}
 use Rattle.oak_prev.specs.Splits.{listed_as, main_write, moved_count, previous_write}
 use Rattle.oak_prev.specs.Splitting.{begun, due, fed, fed_read, known, on_next_root, split_ended}
 use Rattle.oak_prev.specs.Wanted.{roots_wanted}
+use Rattle.oak_prev.specs.declared.reading.Reading.{Reading}
 use Rattle.oak_prev.specs.declared.splitter.Splitter.{Splitter}
 use Rattle.oak_prev.specs.declared.splitter.Step.{Step}
 use Rattle.oak_prev.specs.declared.splitter.Step.TheVariants as step
+use Rattle.oak_read.proofs.Walking.{Within, within_noted}
 use Rattle.oak_read.specs.Meaning.{documents_in, path_of}
 use Rattle.oak_read.specs.Reading.{IsTable, with_known}
 use Rattle.oak_read.specs.Wanted.{Ids}
 use Rattle.oak_store.specs.Tables.{Table, found, next_number}
-use Rattle.core_world.proofs.Tables.{put_is}
-use Rattle.core_world.specs.Steps.{with_result}
+use Rattle.core_world.proofs.Tables.{one_id, put_is}
+use Rattle.core_world.specs.Steps.{after_update, with_result}
 use Rattle.oak_acts.specs.Acts.{replied}
 use Rattle.oak_tidy.specs.declared.tidying.Tidying.{Tidying}
 use Rattle.oak_tidy.specs.declared.tidying.Tidying.TheVariants as tidying
 use Rattle.oak_tidy.specs.Replies.{all_parts, table_after, told_to}
 use Rattle.oak_tidy.specs.Tidyings.{TidiesTo, tidying_ask}
+use Rattle.oak_alone.specs.Alone.{HasMoved, IsSkipped, SplitsTo}
 use Rattle.oak_alone.proofs.Steps.{IsKeptAlone, events_with, next_of}
 
 -- ---- over documents at rest
@@ -92,118 +96,177 @@ put_beside : (t : Table) (x : DocId) (n : ℕ) (q p : Path) (r : Result Document
 put_beside t x n q p (Ok d) is = put_is t x d (next_number t) (id.Node p) ∙ ap (λ (i : DocId). cond (eq_by_cmp id_cmp (id.Node p) i) (Some d) (documents_in t.documents (id.Node p))) is
 put_beside t x n q p (Err e) is = refl
 
-module _ (s : ℕ) (ms : List NodeState) (t0 : Table) (table : IsTable t0.documents) (p : Path) (out : SplitEnd) where
+-- what a splitter has read: the node's document, and commit roots
+pub record HasRead (t0 : Table) (p : Path) (r : Reading) : Type 0 where
+  pub there : found t0 (id.Node p) ≡ Some r.document
+  pub own : r.document.id ≡ id.Node p
+  pub roots : Within t0.documents r.roots
+
+-- what it knows it has of the documents
+read_among : (t0 : Table) (p : Path) (r : Reading) → HasRead t0 p r → (i : DocId) (x : Document) → documents_known r.document r.roots i ≡ Some x → documents_in t0.documents i ≡ Some x
+read_among t0 p r read i x = by (eq_by_cmp id_cmp i r.document.id) refl
+  where
+    by : (b : Bool) → eq_by_cmp id_cmp i r.document.id ≡ b → cond b (Some r.document) (documents_in r.roots i) ≡ Some x → documents_in t0.documents i ≡ Some x
+    by true same h = ap (documents_in t0.documents) (one_id i r.document.id same ∙ read.own) ∙ (read.there ∙ h)
+    by false other h = read.roots i x h
+
+-- it moves so many entries to a previous document, which e is to list
+pub record Moves (pin : Pin) (r : Reading) (e : PrevEntry) (n : ℕ) : Type 0 where
+  pub listed : listed_as (documents_known r.document r.roots) pin r.document ≡ Some e
+  pub counted : n ≡ moved_count (documents_known r.document r.roots) pin r.document
+
+module _ (s : ℕ) (ms : List NodeState) (t0 : Table) (table : IsTable t0.documents) (pin : Pin) (p : Path) (out : SplitEnd) where
   abbrev pub Ends : Splitter → Type 0
   Ends x = EndsSo t0.documents out x
 
   -- what a splitter that stands at a step has read, and what there is then
   abbrev pub IsAtStep : Step → Table → Splitter → Type 0
   IsAtStep step.Read t x = (t ≡ t0) × Ends x
-  IsAtStep step.Root t x = (t ≡ t0) × Ends x × (x.reading.document.id ≡ id.Node p)
-  IsAtStep (step.Previous e n) t x = (t ≡ t0) × Ends x × (x.reading.document.id ≡ id.Node p)
-  IsAtStep (step.Main e n) t x = (found t (id.Node p) ≡ found t0 (id.Node p)) × Ends x × (x.reading.document.id ≡ id.Node p)
-  IsAtStep (step.Find k o) t x = o ≡ out
-  IsAtStep (step.Remove k f o) t x = o ≡ out
-  IsAtStep (step.Done o) t x = o ≡ out
+  IsAtStep step.Root t x = (t ≡ t0) × Ends x × HasRead t0 p x.reading
+  IsAtStep (step.Previous e n) t x = (t ≡ t0) × Ends x × HasRead t0 p x.reading × Moves x.pin x.reading e n
+  IsAtStep (step.Main e n) t x =
+      (t ≡ after_update t0 (previous_write (known x) x.pin x.reading.document)) × (found t (id.Node p) ≡ found t0 (id.Node p)) × Ends x × HasRead t0 p x.reading × Moves x.pin x.reading e n
+  IsAtStep (step.Find k o) t x = (o ≡ out) × IsSkipped o
+  IsAtStep (step.Remove k f o) t x = (o ≡ out) × IsSkipped o
+  IsAtStep (step.Done o) t x = (o ≡ out) × SplitsTo pin p t0 t o
 
   pub record IsAt (x : Splitter) (t : Table) : Type 0 where
     pub path : x.path ≡ p
+    pub at_pin : x.pin ≡ pin
     pub at : IsAtStep x.step t x
 
-  -- it knows what moves
-  moves : (x : Splitter) → x.path ≡ p → x.reading.document.id ≡ id.Node p → (o : Option PrevEntry)
-      → Ends (option_map_or (λ e. record x { step = step.Previous e (moved_count (known x) x.pin x.reading.document) }) o (split_ended x (end.Split 0)))
-      → IsAt (option_map_or (λ e. record x { step = step.Previous e (moved_count (known x) x.pin x.reading.document) }) o (split_ended x (end.Split 0))) t0
-  moves x path own None h = record { path = path; at = ended t0.documents out x (end.Split 0) h }
-  moves x path own (Some e) h = record { path = path; at = (refl, h, own) }
+  module _ (x : Splitter) (path : x.path ≡ p) (at_pin : x.pin ≡ pin) where
+    -- nothing moves
+    ends_still : Ends (split_ended x (end.Split 0)) → IsAt (split_ended x (end.Split 0)) t0
+    ends_still h = record { path = path; at_pin = at_pin; at = (ended t0.documents out x (end.Split 0) h, inl (refl, refl)) }
+
+    -- it knows what moves
+    moves : HasRead t0 p x.reading → (o : Option PrevEntry) → listed_as (known x) x.pin x.reading.document ≡ o
+        → Ends (option_map_or (λ e. record x { step = step.Previous e (moved_count (known x) x.pin x.reading.document) }) o (split_ended x (end.Split 0)))
+        → IsAt (option_map_or (λ e. record x { step = step.Previous e (moved_count (known x) x.pin x.reading.document) }) o (split_ended x (end.Split 0))) t0
+    moves read None is h = ends_still h
+    moves read (Some e) is h = record { path = path; at_pin = at_pin; at = (refl, h, read, record { listed = is; counted = refl }) }
 
   -- it has still to ask for commit roots, or knows what moves
-  on_next : (x : Splitter) → x.path ≡ p → x.reading.document.id ≡ id.Node p → Ends (on_next_root x) → IsAt (on_next_root x) t0
-  on_next x path own = by x.left
+  on_next : (x : Splitter) → x.path ≡ p → x.pin ≡ pin → HasRead t0 p x.reading → Ends (on_next_root x) → IsAt (on_next_root x) t0
+  on_next x path at_pin read = by x.left
     where
       by : (left : Ids) → Ends (on_next_root (record x { left = left })) → IsAt (on_next_root (record x { left = left })) t0
-      by [] h = moves (record x { left = [] }) path own (listed_as (known x) x.pin x.reading.document) h
-      by (i ∷ is) h = record { path = path; at = (refl, h, own) }
+      by [] h = moves (record x { left = [] }) path at_pin read (listed_as (known x) x.pin x.reading.document) refl h
+      by (i ∷ is) h = record { path = path; at_pin = at_pin; at = (refl, h, read) }
 
-  module _ (x : Splitter) (path : x.path ≡ p) where
-    abbrev at : Step → Splitter
-    at st = record x { step = st }
+  nothing_known : Within t0.documents []
+  nothing_known x d h = cc
 
-    read_on : Ends (at step.Read) → IsAt (fed (at step.Read) (reply.Found (found t0 (id.Node x.path)))) t0
-    read_on h = by (found t0 (id.Node x.path)) refl (one_more t0.documents out (at step.Read) apart h)
+  module _ (x : Splitter) (path : x.path ≡ p) (at_pin : x.pin ≡ pin) where
+    read_on : Ends (record x { step = step.Read }) → IsAt (fed (record x { step = step.Read }) (reply.Found (found t0 (id.Node x.path)))) t0
+    read_on h = by (found t0 (id.Node x.path)) refl (one_more t0.documents out (record x { step = step.Read }) apart h)
       where
         apart : (o : SplitEnd) → step.Read ≡ step.Done o → ⊥
         apart o e = cc
 
-        by : (o : Option Document) → found t0 (id.Node x.path) ≡ o → Ends (option_map_or (fed_read (at step.Read)) o (split_ended (at step.Read) (end.Split 0)))
-            → IsAt (option_map_or (fed_read (at step.Read)) o (split_ended (at step.Read) (end.Split 0))) t0
-        by None there h = record { path = path; at = ended t0.documents out (at step.Read) (end.Split 0) h }
+        by : (o : Option Document) → found t0 (id.Node x.path) ≡ o → Ends (option_map_or (fed_read (record x { step = step.Read })) o (split_ended (record x { step = step.Read }) (end.Split 0)))
+            → IsAt (option_map_or (fed_read (record x { step = step.Read })) o (split_ended (record x { step = step.Read }) (end.Split 0))) t0
+        by None there h = ends_still x path at_pin h
         by (Some d) there h =
-            let own : d.id ≡ id.Node p = named_found t0.documents (recursion_from_All _ t0.documents table.named) (id.Node x.path) d there ∙ ap (λ (q : Path). id.Node q) path in
-            on_next (record x { reading = record { document = d; roots = [] }; left = roots_wanted x.pin d; step = step.Read }) path own h
+            let node : id.Node x.path ≡ id.Node p = ap (λ (q : Path). id.Node q) path in
+            let own : d.id ≡ id.Node p = named_found t0.documents (recursion_from_All _ t0.documents table.named) (id.Node x.path) d there ∙ node in
+            on_next (record x { reading = record { document = d; roots = [] }; left = roots_wanted x.pin d; step = step.Read }) path at_pin
+            (record { there = sym (ap (found t0) node) ∙ there; own = own; roots = nothing_known }) h
 
-    module _ (own : x.reading.document.id ≡ id.Node p) where
-      root_on : Ends (at step.Root) → IsAt (fed (at step.Root) (reply.Found (found t0 x.asked))) t0
-      root_on h = on_next (record x { reading = record x.reading { roots = with_known x.reading.roots x.asked (found t0 x.asked) }; step = step.Root }) path own (one_more t0.documents out (at step.Root) apart h)
+    module _ (read : HasRead t0 p x.reading) where
+      root_on : Ends (record x { step = step.Root }) → IsAt (fed (record x { step = step.Root }) (reply.Found (found t0 x.asked))) t0
+      root_on h =
+          on_next (record x { reading = record x.reading { roots = with_known x.reading.roots x.asked (found t0 x.asked) }; step = step.Root }) path at_pin
+          (record { there = read.there; own = read.own; roots = within_noted t0.documents x.reading.roots read.roots x.asked })
+          (one_more t0.documents out (record x { step = step.Root }) apart h)
         where
           apart : (o : SplitEnd) → step.Root ≡ step.Done o → ⊥
           apart o e = cc
 
-      module _ (e : PrevEntry) (n : ℕ) where
+      module _ (e : PrevEntry) (n : ℕ) (moved : Moves x.pin x.reading e n) where
         abbrev writes : UpdateOp
         writes = previous_write (known x) x.pin x.reading.document
 
-        previous_on : Ends (at (step.Previous e n)) → (o : Option Document) → found t0 writes.id ≡ o
-            → IsAt (fed (at (step.Previous e n)) (replied o (updated o writes (next_number t0)))) (with_result t0 writes.id (updated o writes (next_number t0)))
-        previous_on h o there = by o (subst (λ (o : Option Document). Ends (fed (at (step.Previous e n)) (update_reply o (updated o writes 0)))) there (one_more t0.documents out (at (step.Previous e n)) apart h))
+        previous_on : Ends (record x { step = step.Previous e n }) → (o : Option Document) → found t0 writes.id ≡ o
+            → IsAt (fed (record x { step = step.Previous e n }) (replied o (updated o writes (next_number t0)))) (with_result t0 writes.id (updated o writes (next_number t0)))
+        previous_on h o there = by o there (subst (λ (o : Option Document). Ends (fed (record x { step = step.Previous e n }) (update_reply o (updated o writes 0)))) there (one_more t0.documents out (record x { step = step.Previous e n }) apart h))
           where
             apart : (o : SplitEnd) → step.Previous e n ≡ step.Done o → ⊥
             apart o e = cc
 
-            by : (o : Option Document) → Ends (fed (at (step.Previous e n)) (update_reply o (updated o writes 0)))
-                → IsAt (fed (at (step.Previous e n)) (replied o (updated o writes (next_number t0)))) (with_result t0 writes.id (updated o writes (next_number t0)))
-            by None h = record { path = path; at = (put_beside t0 writes.id x.reading.document.mod_count (path_of x.reading.document.id) p (Ok (after_changes None writes (next_number t0))) refl, h, own) }
-            by (Some d) h = record { path = path; at = ended t0.documents out (at (step.Previous e n)) (end.Split 0) h }
+            by : (o : Option Document) → found t0 writes.id ≡ o → Ends (fed (record x { step = step.Previous e n }) (update_reply o (updated o writes 0)))
+                → IsAt (fed (record x { step = step.Previous e n }) (replied o (updated o writes (next_number t0)))) (with_result t0 writes.id (updated o writes (next_number t0)))
+            by None there h = record {
+              path = path;
+              at_pin = at_pin;
+              at = (
+                sym (ap (λ (o : Option Document). with_result t0 writes.id (updated o writes (next_number t0))) there),
+                put_beside t0 writes.id x.reading.document.mod_count (path_of x.reading.document.id) p (Ok (after_changes None writes (next_number t0))) refl,
+                h,
+                read,
+                moved,
+              );
+            }
+            by (Some d) there h = ends_still (record x { step = step.Previous e n }) path at_pin h
 
         abbrev lists : UpdateOp
         lists = main_write (known x) x.pin x.reading.document e
 
-        main_on : (t : Table) → found t (id.Node p) ≡ found t0 (id.Node p) → Ends (at (step.Main e n))
-            → IsAt (fed (at (step.Main e n)) (replied (found t lists.id) (updated (found t lists.id) lists (next_number t)))) (with_result t lists.id (updated (found t lists.id) lists (next_number t)))
-        main_on t same h =
-            let alike : found t x.reading.document.id ≡ found t0 x.reading.document.id = ap (found t) own ∙ (same ∙ sym (ap (found t0) own)) in
-            subst (λ (o : Option Document). IsAt (fed (at (step.Main e n)) (replied o (updated o lists (next_number t)))) (with_result t lists.id (updated o lists (next_number t)))) (sym alike)
-            (by (with_result t lists.id (updated (found t0 lists.id) lists (next_number t))) (found t0 lists.id) (one_more t0.documents out (at (step.Main e n)) apart h))
+        main_on : (t : Table) → t ≡ after_update t0 writes → found t (id.Node p) ≡ found t0 (id.Node p) → Ends (record x { step = step.Main e n })
+            → IsAt (fed (record x { step = step.Main e n }) (replied (found t lists.id) (updated (found t lists.id) lists (next_number t)))) (after_update t lists)
+        main_on t copied same h =
+            let then : found t0 lists.id ≡ Some x.reading.document = ap (found t0) read.own ∙ read.there in
+            let now : found t lists.id ≡ Some x.reading.document = ap (found t) read.own ∙ (same ∙ read.there) in
+            subst (λ (o : Option Document). IsAt (fed (record x { step = step.Main e n }) (replied o (updated o lists (next_number t)))) (after_update t lists)) (sym now)
+            (met (is_met (Some x.reading.document) (Some (Unchanged x.reading.document.mod_count)))
+            (subst (λ (o : Option Document). Ends (fed (record x { step = step.Main e n }) (update_reply o (updated o lists 0)))) then (one_more t0.documents out (record x { step = step.Main e n }) apart h)))
           where
             apart : (o : SplitEnd) → step.Main e n ≡ step.Done o → ⊥
             apart o e = cc
 
-            met : (u : Table) (c : Document) (b : Bool)
-                → Ends (fed (at (step.Main e n)) (update_reply (Some c) (cond b (Ok (after_changes (Some c) lists 0)) (Err (update_refusal (Some c) (Some (Unchanged x.reading.document.mod_count)))))))
-                → IsAt (fed (at (step.Main e n)) (replied (Some c) (cond b (Ok (after_changes (Some c) lists (next_number t))) (Err (update_refusal (Some c) (Some (Unchanged x.reading.document.mod_count))))))) u
-            met u c true h = record { path = path; at = ended t0.documents out (at (step.Main e n)) (end.Split n) h }
-            met u c false h = record { path = path; at = takes_back t0.documents out (at (step.Main e n)) e.number (end.Skipped e.number c.mod_count) h }
+            has_moved : HasMoved x.pin p t0 (after_update t lists) (end.Split n)
+            has_moved = record {
+              read = known x;
+              among = read_among t0 p x.reading read;
+              document = x.reading.document;
+              there = read.there;
+              entry = e;
+              listed = moved.listed;
+              counted = ap (λ (k : ℕ). end.Split k) moved.counted;
+              documents = ap (λ (u : Table). after_update u lists) copied;
+            }
 
-            by : (u : Table) (o : Option Document) → Ends (fed (at (step.Main e n)) (update_reply o (updated o lists 0))) → IsAt (fed (at (step.Main e n)) (replied o (updated o lists (next_number t)))) u
-            by u None h = record { path = path; at = takes_back t0.documents out (at (step.Main e n)) e.number (end.Split 0) h }
-            by u (Some c) h = met u c (is_met (Some c) (Some (Unchanged x.reading.document.mod_count))) h
+            met : (b : Bool)
+                → Ends (fed (record x { step = step.Main e n }) (update_reply (Some x.reading.document) (cond b (Ok (after_changes (Some x.reading.document) lists 0)) (Err (update_refusal (Some x.reading.document) (Some (Unchanged x.reading.document.mod_count)))))))
+                → IsAt (fed (record x { step = step.Main e n }) (replied (Some x.reading.document) (cond b (Ok (after_changes (Some x.reading.document) lists (next_number t))) (Err (update_refusal (Some x.reading.document) (Some (Unchanged x.reading.document.mod_count))))))) (after_update t lists)
+            met true h = record {
+              path = path;
+              at_pin = at_pin;
+              at = (ended t0.documents out (record x { step = step.Main e n }) (end.Split n) h, inr (inl (subst (λ (q : Pin). HasMoved q p t0 (after_update t lists) (end.Split n)) at_pin has_moved)));
+            }
+            met false h = record {
+              path = path;
+              at_pin = at_pin;
+              at = (takes_back t0.documents out (record x { step = step.Main e n }) e.number (end.Skipped e.number x.reading.document.mod_count) h, (e.number, x.reading.document.mod_count, refl));
+            }
 
-  goes_by : (x : Splitter) (st : Step) (t : Table) → x.path ≡ p → IsAtStep st t (record x { step = st })
+  goes_by : (x : Splitter) (st : Step) (t : Table) → x.path ≡ p → x.pin ≡ pin → IsAtStep st t (record x { step = st })
       → IsAt (fed (record x { step = st }) (told_to (all_parts t ms []) (due (record x { step = st })))) (table_after t (due (record x { step = st })))
-  goes_by x step.Read t path at = subst (λ (t : Table). IsAt (fed (record x { step = step.Read }) (reply.Found (found t (id.Node x.path)))) t) (sym at.0) (read_on x path at.1)
-  goes_by x step.Root t path at = subst (λ (t : Table). IsAt (fed (record x { step = step.Root }) (reply.Found (found t x.asked))) t) (sym at.0) (root_on x path at.2 at.1)
-  goes_by x (step.Previous e n) t path at =
+  goes_by x step.Read t path at_pin at = subst (λ (t : Table). IsAt (fed (record x { step = step.Read }) (reply.Found (found t (id.Node x.path)))) t) (sym at.0) (read_on x path at_pin at.1)
+  goes_by x step.Root t path at_pin at = subst (λ (t : Table). IsAt (fed (record x { step = step.Root }) (reply.Found (found t x.asked))) t) (sym at.0) (root_on x path at_pin at.2 at.1)
+  goes_by x (step.Previous e n) t path at_pin at =
       let op = previous_write (known x) x.pin x.reading.document in
       subst (λ (t : Table). IsAt (fed (record x { step = step.Previous e n }) (replied (found t op.id) (updated (found t op.id) op (next_number t)))) (with_result t op.id (updated (found t op.id) op (next_number t)))) (sym at.0)
-      (previous_on x path at.2 e n at.1 (found t0 op.id) refl)
-  goes_by x (step.Main e n) t path at = main_on x path at.2 e n t at.0 at.1
-  goes_by x (step.Find k o) t path at = by (found t (id.Prev k x.path))
+      (previous_on x path at_pin at.2 e n at.3 at.1 (found t0 op.id) refl)
+  goes_by x (step.Main e n) t path at_pin at = main_on x path at_pin at.3 e n at.4 t at.0 at.1 at.2
+  goes_by x (step.Find k o) t path at_pin at = by (found t (id.Prev k x.path))
     where
       by : (d : Option Document) → IsAt (option_map_or (λ d. record x { step = step.Remove k d.mod_count o }) d (split_ended x o)) t
-      by None = record { path = path; at = at }
-      by (Some d) = record { path = path; at = at }
-  goes_by x (step.Remove k f o) t path at = record { path = path; at = at }
-  goes_by x (step.Done o) t path at = record { path = path; at = at }
+      by None = record { path = path; at_pin = at_pin; at = (at.0, inr (inr at.1)) }
+      by (Some d) = record { path = path; at_pin = at_pin; at = at }
+  goes_by x (step.Remove k f o) t path at_pin at = record { path = path; at_pin = at_pin; at = (at.0, inr (inr at.1)) }
+  goes_by x (step.Done o) t path at_pin at = record { path = path; at_pin = at_pin; at = at }
 
   abbrev pub Splits : Tidying → Table → Past → Type 0
   Splits (tidying.Split x) t es = IsAt x t
@@ -211,19 +274,21 @@ module _ (s : ℕ) (ms : List NodeState) (t0 : Table) (table : IsTable t0.docume
 
   -- it has ended, and tells this
   abbrev pub HasEnded : Event → Table → Past → Type 0
-  HasEnded told t es = told ≡ event.Split s p out
+  HasEnded told t es = (told ≡ event.Split s p out) × SplitsTo pin p t0 t out
 
   goes : (x : Tidying) (t : Table) (es : Past) → Splits x t es → tidying_ask (next_of ms t x) ≢ ask.Done → Splits (next_of ms t x) (table_after t (tidying_ask x)) (events_with s ms t x es)
-  goes (tidying.Split x) t es is busy = goes_by x x.step t is.path is.at
+  goes (tidying.Split x) t es is busy = goes_by x x.step t is.path is.at_pin is.at
   goes (tidying.Collect c) t es is busy = absurd is
 
   ends_so : (x : Tidying) (t : Table) (es : Past) → Splits x t es → (e : TaskEnd) (told : Event) → TidiesTo s (next_of ms t x) e told → HasEnded told (table_after t (tidying_ask x)) (events_with s ms t x es)
   ends_so (tidying.Split x) t es is (ends.Split k) told h =
       let y : Splitter = fed x (told_to (all_parts t ms []) (due x)) in
       let u : Table = table_after t (due x) in
-      let then : IsAt y u = goes_by x x.step t is.path is.at in
-      let same : k ≡ out = subst (λ (st : Step). IsAtStep st u y) h.0 then.at in
-      h.1 ∙ (ap (λ (q : Path). event.Split s q k) then.path ∙ ap (λ (o : SplitEnd). event.Split s p o) same)
+      let then : IsAt y u = goes_by x x.step t is.path is.at_pin is.at in
+      let so : (k ≡ out) × SplitsTo pin p t0 u k = subst (λ (st : Step). IsAtStep st u y) h.0 then.at in (
+        h.1 ∙ (ap (λ (q : Path). event.Split s q k) then.path ∙ ap (λ (o : SplitEnd). event.Split s p o) so.0),
+        subst (λ (o : SplitEnd). SplitsTo pin p t0 u o) so.0 so.1,
+      )
   ends_so (tidying.Split x) t es is _ told h = absurd h
   ends_so (tidying.Collect c) t es is e told h = absurd is
 
@@ -232,5 +297,5 @@ module _ (s : ℕ) (ms : List NodeState) (t0 : Table) (table : IsTable t0.docume
 
 -- it begins
 pub split_begins : (s : ℕ) (ms : List NodeState) (t0 : Table) (table : IsTable t0.documents) (a : Global) (pin : Pin) (p : Path)
-    → Splits s ms t0 table p (split_end (documents_in t0.documents) pin p) (tidying.Split (begun a pin p)) t0 []
-split_begins s ms t0 table a pin p = record { path = refl; at = (refl, splits_what_moves t0.documents a pin p table) }
+    → Splits s ms t0 table pin p (split_end (documents_in t0.documents) pin p) (tidying.Split (begun a pin p)) t0 []
+split_begins s ms t0 table a pin p = record { path = refl; at_pin = refl; at = (refl, splits_what_moves t0.documents a pin p table) }

@@ -15,8 +15,9 @@ module _ (starts : Starts) (says : Says) (L : Type 0) where
   pub splits_alone : SplitsAlone starts says L
   splits_alone s old new qs a pin p told is begins calls ends =
       let out = split_end (documents_in old.table.documents) pin p in
-      (quietly_ends s old.memories (Splits s old.memories old.table is.table p out) _ (splits_on s old.memories old.table is.table p out) old.history.past old new (tidying.Split (splitting.begun a pin p)) qs told refl refl begins
-      (split_begins s old.memories old.table is.table a pin p) calls ends).does
+      let stands = quietly_ends s old.memories (Splits s old.memories old.table is.table pin p out) _ (splits_on s old.memories old.table is.table pin p out) old.history.past old new (tidying.Split (splitting.begun a pin p)) qs told refl refl begins
+      (split_begins s old.memories old.table is.table a pin p) calls ends in
+      record { counted = stands.does.0; documents = stands.does.1; memories = stands.memories }
 
   pub collects_alone : CollectsAlone starts says L
   collects_alone s old new qs a told is begins calls ends =

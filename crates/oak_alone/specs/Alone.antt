@@ -1,11 +1,15 @@
 -- What a split and a collection come to in a world in which nobody else adds an event meanwhile.
-use Rattle.std.specs.Prelude.{◌≡◌, ◌++◌, ◌∷◌, ℕ, List, [], Some, map}
+use Rattle.std.specs.Prelude.{◌≡◌, ◌⊎◌, ◌++◌, ◌∷◌, ℕ, List, [], Some, map}
 use Rattle.std.specs.List.{filter}
 use Rattle.std.specs.declared.alloc.Global.{Global}
+use Rattle.jr_path.specs.declared.path.DocId.{DocId}
 use Rattle.jr_path.specs.declared.path.DocId.TheVariants as id
 use Rattle.jr_path.specs.declared.path.Path.{Path}
 use Rattle.jr_rev.specs.declared.vector.Pin.{Pin}
+use Rattle.oak_doc.specs.declared.asks.SplitEnd.{SplitEnd}
+use Rattle.oak_doc.specs.declared.asks.SplitEnd.TheVariants as end
 use Rattle.oak_doc.specs.declared.document.Document.{Document}
+use Rattle.oak_doc.specs.declared.document.PrevEntry.{PrevEntry}
 use Rattle.oak_gc.specs.Bounding.{those_that_tell}
 use Rattle.oak_gc.specs.Bounds.{bound_of}
 use Rattle.oak_gc.specs.Collecting as collecting
@@ -17,10 +21,12 @@ use Rattle.oak_machine.specs.Laws.{Says, Starts}
 use Rattle.oak_machine.specs.Runs.{is_bound}
 use Rattle.oak_node.specs.Memory.{NodeState}
 use Rattle.oak_prev.specs.Resting.{split_end}
+use Rattle.oak_prev.specs.Splits.{listed_as, main_write, moved_count, previous_write}
 use Rattle.oak_prev.specs.Splitting as splitting
-use Rattle.oak_read.specs.Meaning.{documents_in}
+use Rattle.oak_read.specs.Meaning.{Documents, documents_in}
 use Rattle.oak_step.specs.declared.work.Work.TheVariants as work
 use Rattle.oak_store.specs.Tables.{Table}
+use Rattle.core_world.specs.Steps.{after_update}
 use Rattle.oak_tidy.specs.declared.tidying.Tidying.TheVariants as tidying
 use Rattle.oak_tidy.specs.Replies.{node_tells}
 use Rattle.oak_world.specs.Kept.{IsWorld}
@@ -62,10 +68,44 @@ CollectsAlone starts says L = (s : ℕ) (old new : WorldOf L) (qs : List ℕ) (a
     ≡ work.Tidy (tidying.Collect (collecting.begun a old.history.clusters))
     → Quietly s old qs new → work_in new.actors s ≡ work.Told told → HasCollected s old new told
 
--- a split of a session while which nobody else adds an event ends as over documents at rest
+-- a split has moved what is old: by documents as they stood when it began, it wrote the previous
+-- document that the entry lists, and took what moved from the node's document, which lists it
+pub record HasMoved (pin : Pin) (p : Path) (old new : Table) (o : SplitEnd) : Type 0 where
+  pub read : Documents
+  pub among : (i : DocId) (x : Document) → read i ≡ Some x → documents_in old.documents i ≡ Some x
+  pub document : Document
+  pub there : documents_in old.documents (id.Node p) ≡ Some document
+  pub entry : PrevEntry
+  pub listed : listed_as read pin document ≡ Some entry
+  pub counted : o ≡ end.Split (moved_count read pin document)
+  pub documents : new
+      ≡ after_update (after_update old (previous_write read pin document))
+      (main_write read pin document entry)
+
+-- the document was skipped
+abbrev pub IsSkipped : SplitEnd → Type 0
+IsSkipped o = (read : ℕ) × (found : ℕ) × (o ≡ end.Skipped read found)
+
+-- what a split that ends so makes of documents: nothing, where nothing moves; or what is old has
+-- moved; or the document was skipped
+abbrev pub SplitsTo : Pin → Path → Table → Table → SplitEnd → Type 0
+SplitsTo pin p old new o =
+    ((o ≡ end.Split 0) × (new ≡ old)) ⊎ HasMoved pin p old new o ⊎ IsSkipped o
+
+-- a split of session s that began at one world has ended in the other, and tells this: how many
+-- entries move by the documents that there were; the documents are what that makes of them, and
+-- memories stay
+pub record HasSplit {L : Type 0} (s : ℕ) (pin : Pin) (p : Path) (old new : WorldOf L)
+    (told : Event) : Type 0 where
+  pub counted : told ≡ event.Split s p (split_end (documents_in old.table.documents) pin p)
+  pub documents :
+      SplitsTo pin p old.table new.table (split_end (documents_in old.table.documents) pin p)
+  pub memories : new.memories ≡ old.memories
+
+-- a split of a session while which nobody else adds an event ends so
 abbrev pub SplitsAlone : Starts → Says → Type 0 → Type 0
 SplitsAlone starts says L = (s : ℕ) (old new : WorldOf L) (qs : List ℕ) (a : Global) (pin : Pin)
     (p : Path) (told : Event) → IsWorld starts says old
     → work_in old.actors s ≡ work.Tidy (tidying.Split (splitting.begun a pin p))
     → Quietly s old qs new → work_in new.actors s ≡ work.Told told
-    → told ≡ event.Split s p (split_end (documents_in old.table.documents) pin p)
+    → HasSplit s pin p old new told
