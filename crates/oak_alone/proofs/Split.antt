@@ -1,5 +1,7 @@
 -- A split that steps alone ends as over documents at rest: what it writes stands under an id that it doesn't ask for before it knows its end.
 use Rattle.std.proofs.Common.{◌≡◌, ◌≢◌, inl, inr, ℕ, zero, suc, Bool, true, false, cond, List, [], ◌∷◌, Option, Some, None, Result, Ok, Err, refl, sym, ap, ◌∙◌, subst}
+use Rattle.std.specs.BTreeMap.{is_at}
+use Rattle.std.specs.Map.{remove_entry}
 use Rattle.std.specs.Option.{option_map_or}
 use Rattle.std.specs.Ordering.{eq_by_cmp}
 use Rattle.std.specs.declared.alloc.Global.{Global}
@@ -10,6 +12,8 @@ use Rattle.jr_path.specs.declared.path.DocId.TheVariants as id
 use Rattle.jr_path.specs.declared.path.Path.{Path}
 use Rattle.jr_rev.specs.declared.vector.Pin.{Pin}
 use Rattle.oak_doc.specs.declared.asks.Ask.TheVariants as ask
+use Rattle.oak_doc.specs.declared.asks.RemoveOut.{RemoveOut}
+use Rattle.oak_doc.specs.declared.asks.RemoveOut.TheVariants as removal
 use Rattle.oak_doc.specs.declared.asks.Reply.TheVariants as reply
 use Rattle.oak_doc.specs.declared.asks.SplitEnd.{SplitEnd}
 use Rattle.oak_doc.specs.declared.asks.SplitEnd.TheVariants as end
@@ -39,15 +43,16 @@ use Rattle.oak_read.proofs.Walking.{Within, within_noted}
 use Rattle.oak_read.specs.Meaning.{documents_in, path_of}
 use Rattle.oak_read.specs.Reading.{IsTable, with_known}
 use Rattle.oak_read.specs.Wanted.{Ids}
-use Rattle.oak_store.specs.Tables.{Table, found, next_number}
+use Rattle.oak_store.specs.Tables.{Table, after_removal, found, next_number, removal_of}
 use Rattle.core_world.proofs.Tables.{one_id, put_is}
+use Rattle.core_world.specs.States.{nodes_in}
 use Rattle.core_world.specs.Steps.{after_update, with_result}
 use Rattle.oak_acts.specs.Acts.{replied}
 use Rattle.oak_tidy.specs.declared.tidying.Tidying.{Tidying}
 use Rattle.oak_tidy.specs.declared.tidying.Tidying.TheVariants as tidying
 use Rattle.oak_tidy.specs.Replies.{all_parts, table_after, told_to}
 use Rattle.oak_tidy.specs.Tidyings.{TidiesTo, tidying_ask}
-use Rattle.oak_alone.specs.Alone.{HasMoved, IsSkipped, SplitsTo}
+use Rattle.oak_alone.specs.Alone.{HasMoved, HasSkipped, SplitsTo}
 use Rattle.oak_alone.proofs.Steps.{IsKeptAlone, events_with, next_of}
 
 -- ---- over documents at rest
@@ -96,6 +101,21 @@ put_beside : (t : Table) (x : DocId) (n : ℕ) (q p : Path) (r : Result Document
 put_beside t x n q p (Ok d) is = put_is t x d (next_number t) (id.Node p) ∙ ap (λ (i : DocId). cond (eq_by_cmp id_cmp (id.Node p) i) (Some d) (documents_in t.documents (id.Node p))) is
 put_beside t x n q p (Err e) is = refl
 
+-- a previous document is taken away: each node's document stays
+removed_beside : (k : ℕ) (p q : Path) (es : List (DocId × Document)) → documents_in (remove_entry (is_at (id_cmp (id.Prev k p))) es) (id.Node q) ≡ documents_in es (id.Node q)
+removed_beside k p q [] = refl
+removed_beside k p q (e ∷ es) = by (eq_by_cmp id_cmp (id.Prev k p) e.0) refl (removed_beside k p q es)
+  where
+    by : (b : Bool) → eq_by_cmp id_cmp (id.Prev k p) e.0 ≡ b → documents_in (remove_entry (is_at (id_cmp (id.Prev k p))) es) (id.Node q) ≡ documents_in es (id.Node q)
+        → documents_in (cond b es (e ∷ remove_entry (is_at (id_cmp (id.Prev k p))) es)) (id.Node q) ≡ documents_in (e ∷ es) (id.Node q)
+    by true same rest = sym (ap (λ (i : DocId). cond (eq_by_cmp id_cmp (id.Node q) i) (Some e.1) (documents_in es (id.Node q))) (sym (one_id (id.Prev k p) e.0 same)))
+    by false other rest = ap (λ (o : Option Document). cond (eq_by_cmp id_cmp (id.Node q) e.0) (Some e.1) o) rest
+
+gone_beside : (t : Table) (k : ℕ) (p q : Path) (r : RemoveOut) → nodes_in (after_removal t (id.Prev k p) r) q ≡ nodes_in t q
+gone_beside t k p q removal.Removed = removed_beside k p q t.documents
+gone_beside t k p q (removal.Changed n) = refl
+gone_beside t k p q removal.Absent = refl
+
 -- what a splitter has read: the node's document, and commit roots
 pub record HasRead (t0 : Table) (p : Path) (r : Reading) : Type 0 where
   pub there : found t0 (id.Node p) ≡ Some r.document
@@ -125,9 +145,9 @@ module _ (s : ℕ) (ms : List NodeState) (t0 : Table) (table : IsTable t0.docume
   IsAtStep step.Root t x = (t ≡ t0) × Ends x × HasRead t0 p x.reading
   IsAtStep (step.Previous e n) t x = (t ≡ t0) × Ends x × HasRead t0 p x.reading × Moves x.pin x.reading e n
   IsAtStep (step.Main e n) t x =
-      (t ≡ after_update t0 (previous_write (known x) x.pin x.reading.document)) × (found t (id.Node p) ≡ found t0 (id.Node p)) × Ends x × HasRead t0 p x.reading × Moves x.pin x.reading e n
-  IsAtStep (step.Find k o) t x = (o ≡ out) × IsSkipped o
-  IsAtStep (step.Remove k f o) t x = (o ≡ out) × IsSkipped o
+      (t ≡ after_update t0 (previous_write (known x) x.pin x.reading.document)) × ((q : Path) → nodes_in t q ≡ nodes_in t0 q) × Ends x × HasRead t0 p x.reading × Moves x.pin x.reading e n
+  IsAtStep (step.Find k o) t x = (o ≡ out) × HasSkipped t0 t o
+  IsAtStep (step.Remove k f o) t x = (o ≡ out) × HasSkipped t0 t o
   IsAtStep (step.Done o) t x = (o ≡ out) × SplitsTo pin p t0 t o
 
   pub record IsAt (x : Splitter) (t : Table) : Type 0 where
@@ -202,7 +222,7 @@ module _ (s : ℕ) (ms : List NodeState) (t0 : Table) (table : IsTable t0.docume
               at_pin = at_pin;
               at = (
                 sym (ap (λ (o : Option Document). with_result t0 writes.id (updated o writes (next_number t0))) there),
-                put_beside t0 writes.id x.reading.document.mod_count (path_of x.reading.document.id) p (Ok (after_changes None writes (next_number t0))) refl,
+                λ q. put_beside t0 writes.id x.reading.document.mod_count (path_of x.reading.document.id) q (Ok (after_changes None writes (next_number t0))) refl,
                 h,
                 read,
                 moved,
@@ -213,13 +233,13 @@ module _ (s : ℕ) (ms : List NodeState) (t0 : Table) (table : IsTable t0.docume
         abbrev lists : UpdateOp
         lists = main_write (known x) x.pin x.reading.document e
 
-        main_on : (t : Table) → t ≡ after_update t0 writes → found t (id.Node p) ≡ found t0 (id.Node p) → Ends (record x { step = step.Main e n })
+        main_on : (t : Table) → t ≡ after_update t0 writes → ((q : Path) → nodes_in t q ≡ nodes_in t0 q) → Ends (record x { step = step.Main e n })
             → IsAt (fed (record x { step = step.Main e n }) (replied (found t lists.id) (updated (found t lists.id) lists (next_number t)))) (after_update t lists)
         main_on t copied same h =
             let then : found t0 lists.id ≡ Some x.reading.document = ap (found t0) read.own ∙ read.there in
-            let now : found t lists.id ≡ Some x.reading.document = ap (found t) read.own ∙ (same ∙ read.there) in
+            let now : found t lists.id ≡ Some x.reading.document = ap (found t) read.own ∙ (same p ∙ read.there) in
             subst (λ (o : Option Document). IsAt (fed (record x { step = step.Main e n }) (replied o (updated o lists (next_number t)))) (after_update t lists)) (sym now)
-            (met (is_met (Some x.reading.document) (Some (Unchanged x.reading.document.mod_count)))
+            (met (is_met (Some x.reading.document) (Some (Unchanged x.reading.document.mod_count))) (ap (λ (o : Option Document). with_result t lists.id (updated o lists (next_number t))) now)
             (subst (λ (o : Option Document). Ends (fed (record x { step = step.Main e n }) (update_reply o (updated o lists 0)))) then (one_more t0.documents out (record x { step = step.Main e n }) apart h)))
           where
             apart : (o : SplitEnd) → step.Main e n ≡ step.Done o → ⊥
@@ -238,17 +258,18 @@ module _ (s : ℕ) (ms : List NodeState) (t0 : Table) (table : IsTable t0.docume
             }
 
             met : (b : Bool)
+                → after_update t lists ≡ with_result t lists.id (cond b (Ok (after_changes (Some x.reading.document) lists (next_number t))) (Err (update_refusal (Some x.reading.document) (Some (Unchanged x.reading.document.mod_count)))))
                 → Ends (fed (record x { step = step.Main e n }) (update_reply (Some x.reading.document) (cond b (Ok (after_changes (Some x.reading.document) lists 0)) (Err (update_refusal (Some x.reading.document) (Some (Unchanged x.reading.document.mod_count)))))))
                 → IsAt (fed (record x { step = step.Main e n }) (replied (Some x.reading.document) (cond b (Ok (after_changes (Some x.reading.document) lists (next_number t))) (Err (update_refusal (Some x.reading.document) (Some (Unchanged x.reading.document.mod_count))))))) (after_update t lists)
-            met true h = record {
+            met true left h = record {
               path = path;
               at_pin = at_pin;
               at = (ended t0.documents out (record x { step = step.Main e n }) (end.Split n) h, inr (inl (subst (λ (q : Pin). HasMoved q p t0 (after_update t lists) (end.Split n)) at_pin has_moved)));
             }
-            met false h = record {
+            met false left h = record {
               path = path;
               at_pin = at_pin;
-              at = (takes_back t0.documents out (record x { step = step.Main e n }) e.number (end.Skipped e.number x.reading.document.mod_count) h, (e.number, x.reading.document.mod_count, refl));
+              at = (takes_back t0.documents out (record x { step = step.Main e n }) e.number (end.Skipped e.number x.reading.document.mod_count) h, (e.number, x.reading.document.mod_count, refl, λ q. ap (λ (u : Table). nodes_in u q) left ∙ same q));
             }
 
   goes_by : (x : Splitter) (st : Step) (t : Table) → x.path ≡ p → x.pin ≡ pin → IsAtStep st t (record x { step = st })
@@ -265,7 +286,13 @@ module _ (s : ℕ) (ms : List NodeState) (t0 : Table) (table : IsTable t0.docume
       by : (d : Option Document) → IsAt (option_map_or (λ d. record x { step = step.Remove k d.mod_count o }) d (split_ended x o)) t
       by None = record { path = path; at_pin = at_pin; at = (at.0, inr (inr at.1)) }
       by (Some d) = record { path = path; at_pin = at_pin; at = at }
-  goes_by x (step.Remove k f o) t path at_pin at = record { path = path; at_pin = at_pin; at = (at.0, inr (inr at.1)) }
+  goes_by x (step.Remove k f o) t path at_pin at =
+      let gone = gone_beside t k x.path in
+      record {
+        path = path;
+        at_pin = at_pin;
+        at = (at.0, inr (inr (at.1.0, at.1.1, at.1.2, λ q. gone q (removal_of t (id.Prev k x.path) f) ∙ at.1.3 q)));
+      }
   goes_by x (step.Done o) t path at_pin at = record { path = path; at_pin = at_pin; at = at }
 
   abbrev pub Splits : Tidying → Table → Past → Type 0

@@ -26,6 +26,7 @@ use Rattle.oak_prev.specs.Splitting as splitting
 use Rattle.oak_read.specs.Meaning.{Documents, documents_in}
 use Rattle.oak_step.specs.declared.work.Work.TheVariants as work
 use Rattle.oak_store.specs.Tables.{Table}
+use Rattle.core_world.specs.States.{nodes_in}
 use Rattle.core_world.specs.Steps.{after_update}
 use Rattle.oak_tidy.specs.declared.tidying.Tidying.TheVariants as tidying
 use Rattle.oak_tidy.specs.Replies.{node_tells}
@@ -82,15 +83,16 @@ pub record HasMoved (pin : Pin) (p : Path) (old new : Table) (o : SplitEnd) : Ty
       ≡ after_update (after_update old (previous_write read pin document))
       (main_write read pin document entry)
 
--- the document was skipped
-abbrev pub IsSkipped : SplitEnd → Type 0
-IsSkipped o = (read : ℕ) × (found : ℕ) × (o ≡ end.Skipped read found)
+-- the document was skipped: each node's document is as it was
+abbrev pub HasSkipped : Table → Table → SplitEnd → Type 0
+HasSkipped old new o = (read : ℕ) × (found : ℕ) × (o ≡ end.Skipped read found)
+    × ((q : Path) → nodes_in new q ≡ nodes_in old q)
 
 -- what a split that ends so makes of documents: nothing, where nothing moves; or what is old has
 -- moved; or the document was skipped
 abbrev pub SplitsTo : Pin → Path → Table → Table → SplitEnd → Type 0
 SplitsTo pin p old new o =
-    ((o ≡ end.Split 0) × (new ≡ old)) ⊎ HasMoved pin p old new o ⊎ IsSkipped o
+    ((o ≡ end.Split 0) × (new ≡ old)) ⊎ HasMoved pin p old new o ⊎ HasSkipped old new o
 
 -- a split of session s that began at one world has ended in the other, and tells this: how many
 -- entries move by the documents that there were; the documents are what that makes of them, and
