@@ -1,3 +1,4 @@
+pub mod Checkpoints
 pub mod Comings
 pub mod Dues
 pub mod Footings

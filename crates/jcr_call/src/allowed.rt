@@ -1,6 +1,7 @@
-// Which commands are built, and which of them a session may run.
+// Which commands are built, which of them a session may run, and which commit.
 ghost use Rattle.std.specs.Prelude.{◌≡◌, cond};
 ghost use Rattle.jcr_law.specs.Built.{Allowed, Unsupported, asked, is_built, is_forbidden};
+ghost use Rattle.jcr_law.specs.Makes.{commits};
 
 use jcr_trans::Command;
 
@@ -42,4 +43,22 @@ fn is_forbidden(attached: bool, command: &Command) -> bool
         Command::Detach => !attached,
         _ => false,
     }
+}
+
+/// Whether the command commits: `save`, and the commands of locks and versions that write (JSR 283,
+/// 10.11 Saving; 15 Versioning; 17 Locking).
+pub fn commits(command: &Command) -> bool
+    ensures { result ≡ commits command.now }
+{
+    matches!(
+        command,
+        Command::Save
+            | Command::Lock(_, _)
+            | Command::Unlock(_)
+            | Command::Checkin(_)
+            | Command::Checkout(_)
+            | Command::Label(_, _, _, _)
+            | Command::Unlabel(_, _)
+            | Command::Restore(_, _)
+    )
 }

@@ -3,6 +3,7 @@
 #![tactic(auto)]
 
 mod allowed;
+mod checkpoints;
 mod coming;
 mod due;
 mod footing;
@@ -15,11 +16,12 @@ mod tidied;
 mod tokens;
 mod versions;
 
-pub use allowed::is_allowed;
+pub use allowed::{commits, is_allowed};
+pub use checkpoints::{NextCheckpoint, next_checkpoint};
 pub use coming::{Accepted, Coming, come};
 pub use due::{Due, edit_due};
 pub use footing::Footing;
-pub use ids::next_id;
+pub use ids::{next_id, used};
 pub use proper::is_proper;
 pub use queries::{pairs_of, query_reply, sets_of, unknown_selector};
 pub use replies::{cause_text, events_reply, version_reply};

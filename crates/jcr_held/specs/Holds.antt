@@ -52,5 +52,5 @@ pub record IsReady (x : Held) (m : Command) : Type 0 where
   pub known : All (LacksNothing x.part) (asks_for x m)
 
 -- before a command that commits it was asked whether a reference of the tree at the base dangles
-abbrev pub HasAsked : Held → Command → Type 0
-HasAsked x m = IsTrue (commits m) → IsTrue (are_asked x.references)
+abbrev pub HasAskedOfReferences : Held → Command → Type 0
+HasAskedOfReferences x m = IsTrue (commits m) → IsTrue (are_asked x.references)

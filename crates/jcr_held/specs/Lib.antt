@@ -1,7 +1,6 @@
 pub mod Accepts
 pub mod Alike
 pub mod Begins
-pub mod Checkpoints
 pub mod Comes
 pub mod Follows
 pub mod Holds

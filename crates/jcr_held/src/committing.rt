@@ -99,21 +99,3 @@ impl Held {
         query_reply(self.alloc, &self.types, self.part.whole(), text, vars)
     }
 }
-
-/// Whether the command commits: `save`, and the commands of locks and versions that write (JSR 283,
-/// 10.11 Saving; 15 Versioning; 17 Locking).
-pub fn commits(command: &Command) -> bool
-    ensures { result ≡ commits command.now }
-{
-    matches!(
-        command,
-        Command::Save
-            | Command::Lock(_, _)
-            | Command::Unlock(_)
-            | Command::Checkin(_)
-            | Command::Checkout(_)
-            | Command::Label(_, _, _, _)
-            | Command::Unlabel(_, _)
-            | Command::Restore(_, _)
-    )
-}

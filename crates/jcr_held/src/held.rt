@@ -1,5 +1,5 @@
 // What a session holds between its commands.
-ghost use Rattle.std.specs.Prelude.{◌≡◌, IsFalse, IsTrue, None, OnErr, OnOk, Some, false, option_map, true};
+ghost use Rattle.std.specs.Prelude.{◌≡◌, IfOk, IsFalse, IsTrue, None, OnErr, OnOk, Some, false, option_map, true};
 ghost use Rattle.std.specs.Option.{unwrap_or};
 ghost use Rattle.std.specs.FinMap.{is_sorted};
 ghost use Rattle.jr_path.specs.Names.{name_cmp};
@@ -9,7 +9,8 @@ ghost use Rattle.jr_part.specs.Parts.{LacksNothing, nothing_known, with_children
 ghost use Rattle.jr_part.specs.declared.need.Need.TheVariants as need;
 ghost use Rattle.jcr_ref.specs.References.{ReferencesOk};
 ghost use Rattle.jcr_view.specs.Outcomes.{is_viewed};
-ghost use Rattle.jcr_law.specs.State.{Call, used};
+ghost use Rattle.jcr_call.specs.Checkpoints.{IsNextOf};
+ghost use Rattle.jcr_law.specs.State.{Call};
 ghost use Rattle.jcr_law.specs.Calls.{call_after, call_moved};
 ghost use Rattle.jcr_law.specs.declared.state.Cursor.{Cursor as Standing};
 ghost use Rattle.jcr_held.specs.Alike.{AreAlike, moved_to, with_drawn};
@@ -21,6 +22,7 @@ ghost use Rattle.jcr_held.specs.declared.references.References.TheVariants as re
 use crate::held_part::HeldPart;
 use crate::looking::Place;
 use crate::references::References;
+use jcr_call::{NextCheckpoint, next_checkpoint, used};
 use jcr_law::Cursor;
 use jcr_ref::MAX_IDS;
 use jcr_trans::Command;
@@ -254,6 +256,13 @@ impl Held {
         self.count(used(command, false, drew));
     }
 
+    /// What a `checkpoint` of the session begins with.
+    pub fn next_checkpoint(&self) -> Result<NextCheckpoint, AllocError>
+        ensures { IfOk result (IsNextOf self.now.who) }
+    {
+        next_checkpoint(self.alloc, &self.who)
+    }
+
     // A command is done, which drew so many identifiers beside those of the view.
     pub(crate) fn count(&mut self, drawn: u32)
         ensures { AreAlike (with_drawn self.old drawn) self.new }
@@ -268,16 +277,4 @@ fn drops_pending(command: &Command) -> bool
     ensures { result ≡ drops_pending command.now }
 {
     matches!(command, Command::Save | Command::Refresh(false))
-}
-
-// How many identifiers a command has used that is no command of the view.
-pub(crate) fn used(command: &Command, ok: bool, drew: bool) -> u32
-    ensures { result ≡ used ok drew command.now }
-{
-    match command {
-        Command::Lock(_, _) => u32::from(drew),
-        Command::Checkin(_) => u32::from(drew),
-        Command::Checkpoint => u32::from(ok),
-        _ => 0,
-    }
 }

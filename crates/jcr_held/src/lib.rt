@@ -3,7 +3,6 @@
 //! has drawn (JSR 283, 10.11 Saving; 12 Observation; 17.5 Lock Token).
 #![tactic(auto)]
 
-mod checkpoints;
 mod committing;
 mod held;
 mod held_part;
@@ -15,8 +14,6 @@ mod references;
 mod seeing;
 mod splits;
 
-pub use checkpoints::NextCheckpoint;
-pub use committing::commits;
 pub use held::Held;
 pub use laws::replies_without_commit_keep_tokens;
 pub use splits::NextSplit;

@@ -10,16 +10,16 @@ ghost use Rattle.jcr_view.specs.Outcomes.{is_viewed};
 ghost use Rattle.jcr_view.specs.Rounds.{is_of_one_node};
 ghost use Rattle.jcr_law.specs.State.{Call};
 ghost use Rattle.jcr_held.specs.Alike.{AreAlike, Readies};
-ghost use Rattle.jcr_held.specs.Holds.{HasAsked, Holds, IsReady, asks_for};
+ghost use Rattle.jcr_held.specs.Holds.{HasAskedOfReferences, Holds, IsReady, asks_for};
 ghost use Rattle.jcr_held.specs.Looking.{IsLackingOf, places_for};
 ghost use Rattle.jcr_held.specs.References.{are_asked};
 ghost use Rattle.jcr_held.specs.Unread.{IsWanted, unread};
 
 use crate::Held;
-use crate::committing::commits;
 use crate::held_part::HeldPart;
 use crate::looking::{leave_needs, load_left};
 use crate::references::{References, ask};
+use jcr_call::commits;
 use jcr_trans::Command;
 use jcr_view::{each_round_learns, is_viewed, rebases_count};
 use jr_part::Need;
@@ -36,7 +36,7 @@ impl Held {
     /// known (3.8.2 Referential Integrity).
     pub fn next_load(&mut self, command: &Command) -> Result<Option<Need>, AllocError>
         ensures ready { IfOk result (λ load. load ≡ None → IsReady self.new command.now) }
-        ensures asked { IfOk result (λ load. load ≡ None → HasAsked self.new command.now) }
+        ensures asked { IfOk result (λ load. load ≡ None → HasAskedOfReferences self.new command.now) }
         ensures one { IfOk result (λ load. IfSome load (λ n. IsTrue (is_of_one_node n))) }
         ensures holds { (c : Call) → Holds c self.old → Holds c self.new }
         ensures others { Readies self.old self.new }
@@ -69,7 +69,7 @@ impl Held {
     // What to read next where nothing is left to be looked at.
     fn load_anew(&mut self, command: &Command) -> Result<Option<Need>, AllocError>
         ensures ready { IfOk result (λ load. load ≡ None → IsReady self.new command.now) }
-        ensures asked { IfOk result (λ load. load ≡ None → HasAsked self.new command.now) }
+        ensures asked { IfOk result (λ load. load ≡ None → HasAskedOfReferences self.new command.now) }
         ensures one { IfOk result (λ load. IfSome load (λ n. IsTrue (is_of_one_node n))) }
         ensures holds { (c : Call) → Holds c self.old → Holds c self.new }
         ensures others { Readies self.old self.new }
@@ -124,7 +124,7 @@ impl Held {
     fn load_for(&mut self, command: &Command) -> Result<Option<Need>, AllocError>
         requires settled { IsFalse self.old.is_kept }
         ensures ready { IfOk result (λ load. load ≡ None → IsReady self.new command.now) }
-        ensures asked { IfOk result (λ load. load ≡ None → HasAsked self.new command.now) }
+        ensures asked { IfOk result (λ load. load ≡ None → HasAskedOfReferences self.new command.now) }
         ensures one { IfOk result (λ load. IfSome load (λ n. IsTrue (is_of_one_node n))) }
         ensures holds { (c : Call) → Holds c self.old → Holds c self.new }
         ensures others { Readies self.old self.new }
@@ -145,7 +145,7 @@ impl Held {
         requires ready { IsReady self.old command.now }
         ensures none { IfOk result (λ load. load ≡ None) }
         ensures ready { IsReady self.new command.now }
-        ensures asked { OnOk result (HasAsked self.new command.now) }
+        ensures asked { OnOk result (HasAskedOfReferences self.new command.now) }
         ensures holds { (c : Call) → Holds c self.old → Holds c self.new }
         ensures others { Readies self.old self.new }
         ensures fewer { (c : Call) (m : Command) → unread c self.new m ≤ unread c self.old m }

@@ -11,8 +11,7 @@ ghost use Rattle.jcr_held.specs.Accepts.{IsFilterOf};
 ghost use Rattle.jcr_held.specs.Holds.{Holds};
 
 use crate::Held;
-use crate::held::used;
-use jcr_call::events_reply;
+use jcr_call::{events_reply, used};
 use jcr_law::Cursor;
 use jcr_observe::{Filter, JcrEvent, events};
 use jcr_trans::Command;

@@ -32,7 +32,7 @@ use Rattle.jcr_run.specs.declared.run.Fetch.{Fetch}
 use Rattle.jcr_run.specs.declared.run.Fetch.TheVariants as fetch
 use Rattle.jcr_run.specs.declared.run.SessionRun.{SessionRun}
 use Rattle.jcr_steps.specs.Answered.{IsListAnswer, IsLoadAnswer, listed_by, loaded_by}
-use Rattle.jcr_run.specs.Standing.{AreSince, HasLooked, HasRead, IsCalled, IsFetchFor, IsIn, IsReading, IsReadyNext, IsRefused, IsSame, IsWantedNext, Stands, may_read}
+use Rattle.jcr_run.specs.Standing.{AreSince, HasLooked, HasMadeReading, IsCalled, IsFetchFor, IsIn, IsReading, IsReadyNext, IsRefused, IsSame, IsWantedNext, Stands, may_read}
 use Rattle.jcr_run.proofs.Coming.{list_comes, load_comes}
 use Rattle.jcr_run.proofs.Lawful.{at_between}
 use Rattle.jcr_run.proofs.Looking.{read_looked, read_refused}
@@ -255,14 +255,14 @@ module _ (law : JcrLaw) (p : Shown) (run : SessionRun) (stands : Stands law p ru
 
 -- ---- what was made of a reading step
 
-pub read_made : {E : Type 0} (made : Result Bool E) (old new : Shown) (run now : SessionRun) → may_read run ≡ true → IfOk made (λ b. b ≡ true) → IfOk made (HasRead old new run now)
+pub read_made : {E : Type 0} (made : Result Bool E) (old new : Shown) (run now : SessionRun) → may_read run ≡ true → IfOk made (λ b. b ≡ true) → IfOk made (HasMadeReading old new run now)
 read_made (Ok b) old new run now reads is = record { none = λ h. absurd (false≢true (sym h ∙ is)); prepared = λ h k. absurd (false≢true (sym h ∙ is)); due = λ h. reads }
 read_made (Err e) old new run now reads is = tt
 
-pub read_none : (p : Shown) (run now : SessionRun) → now.fetch ≡ None → IsReadyNext now → HasRead p p run now false
+pub read_none : (p : Shown) (run now : SessionRun) → now.fetch ≡ None → IsReadyNext now → HasMadeReading p p run now false
 read_none p run now none ready = record { none = λ h. refl; prepared = λ h k. record { done = none; ready = ready }; due = λ h. absurd (false≢true h) }
 
-pub read_like : {E : Type 0} (made : Result Bool E) (old new : Shown) (a b now : SessionRun) → may_read b ≡ may_read a → IfOk made (HasRead old new a now) → IfOk made (HasRead old new b now)
+pub read_like : {E : Type 0} (made : Result Bool E) (old new : Shown) (a b now : SessionRun) → may_read b ≡ may_read a → IfOk made (HasMadeReading old new a now) → IfOk made (HasMadeReading old new b now)
 read_like (Ok x) old new a b now same h = record { none = h.none; prepared = λ f r. h.prepared f (sym same ∙ r); due = λ t. same ∙ h.due t }
 read_like (Err e) old new a b now same h = tt
 

@@ -32,7 +32,7 @@ use Rattle.jcr_run.specs.declared.run.Phase.TheVariants as phase
 use Rattle.jcr_run.specs.declared.run.SessionRun.{SessionRun}
 use Rattle.jcr_run.specs.declared.turn.Turn.{Turn}
 use Rattle.jcr_run.specs.declared.turn.Turn.TheVariants as turn
-use Rattle.jcr_run.specs.Asked.{IsAsked, IsResting, MayAnswer, MayForgo, MaySettle, has_drawn, history_told}
+use Rattle.jcr_run.specs.Asked.{IsAsked, HasOnlyToTell, MayAnswer, MayForgo, MaySettle, has_drawn, history_told}
 use Rattle.jcr_run.specs.Nearing.{IsReply}
 use Rattle.jcr_run.specs.Standing.{HasAwaited, HasCounted, HasCursor, IsBeside, IsBetweenCommands, IsFetchFor, IsFresh, IsIn, IsReading, IsSeenFor, IsTurned, KeepsCursor, is_revision_written, stage_at}
 use Rattle.jcr_run.proofs.Committing.{own}
@@ -79,7 +79,7 @@ module _ (law : JcrLaw) (m : Command) (c : Call) where
 
   module _ (old new : Shown) (run : SessionRun) (asked : IsAsked law old run m c) (beside : IsBeside law old new) where
     -- while others add events, too
-    pub asked_waits : IsResting new.session new.work → IsAsked law new run m c
+    pub asked_waits : HasOnlyToTell new.session new.work → IsAsked law new run m c
     asked_waits rests = record {
       inside = in_beside law old new beside asked.inside.nodes asked.inside;
       session = beside.session ∙ asked.session;
@@ -101,8 +101,8 @@ module _ (law : JcrLaw) (m : Command) (c : Call) where
         (says_behind law old new old.work run.index text beside asked.inside.nodes asked.rests says)
 
     -- what was left to be told still is
-    pub rests_waits : new.work ≡ old.work → IsResting new.session new.work
-    rests_waits work = subst (λ (w : Work). IsResting new.session w) (sym work) (subst (λ (s : ℕ). IsResting s old.work) (sym beside.session) asked.rests)
+    pub rests_waits : new.work ≡ old.work → HasOnlyToTell new.session new.work
+    rests_waits work = subst (λ (w : Work). HasOnlyToTell new.session w) (sym work) (subst (λ (s : ℕ). HasOnlyToTell s old.work) (sym beside.session) asked.rests)
 
 -- ---- a reply is said
 
@@ -274,7 +274,7 @@ module _ (law : JcrLaw) (old new : Shown) (run : SessionRun) (text : Text) (may 
       }
 
 -- want of memory may still be answered, too
-pub forgo_waits : (law : JcrLaw) (old new : Shown) (run : SessionRun) (drew : Bool) → IsBeside law old new → IsResting new.session new.work → MayForgo law old run drew → MayForgo law new run drew
+pub forgo_waits : (law : JcrLaw) (old new : Shown) (run : SessionRun) (drew : Bool) → IsBeside law old new → HasOnlyToTell new.session new.work → MayForgo law old run drew → MayForgo law new run drew
 forgo_waits law old new run drew beside rests may = record {
   command = may.command;
   call = may.call;
@@ -335,7 +335,7 @@ module _ (law : JcrLaw) (old : Shown) (run : SessionRun) (text : Text) (may : Ma
 -- ---- behind calls that left nothing being done
 
 -- a session for which nothing was to be done, and is so, behind events of others
-pub idle_later : (law : JcrLaw) (old mid new : Shown) (run now : SessionRun) (t : Turn) → {attached : Bool} → IsIn law old attached → IsResting old.session old.work → mid.work ≡ Idle → IsBeside law old mid → HasCounted law mid new run now t → HasCounted law old new run now t
+pub idle_later : (law : JcrLaw) (old mid new : Shown) (run now : SessionRun) (t : Turn) → {attached : Bool} → IsIn law old attached → HasOnlyToTell old.session old.work → mid.work ≡ Idle → IsBeside law old mid → HasCounted law mid new run now t → HasCounted law old new run now t
 idle_later law old mid new run now t inside was is beside turned =
     has_turned_later law old mid new run now t inside.nodes (started_resting old mid (ap is_revision_written is) (ap is_awaiting is) was) beside
     (never_ends law mid new run now (in_beside law old mid beside inside.nodes inside)) turned

@@ -23,7 +23,7 @@ use Rattle.jcr_law.specs.State.{call_of}
 use Rattle.core_calls.proofs.Called.{call_stays}
 use Rattle.core_calls.specs.Events.{is_calling}
 use Rattle.std.specs.List.{list_any}
-use Rattle.jcr_run.specs.Asked.{IsResting}
+use Rattle.jcr_run.specs.Asked.{HasOnlyToTell}
 use Rattle.jcr_run.specs.Standing.{AreEnds, IsBeside, IsIn, IsSeenFor, is_revision_written, stage_of}
 use Rattle.jcr_run.proofs.Cursors.{has_cursor_over}
 use Rattle.jcr_run.proofs.Turning.{Link, free, is_awaiting}
@@ -37,17 +37,17 @@ pub data RestCase (s : ℕ) : Work → Type 0 where
   to_split : (t : ℕ) (p : Path) (e : SplitEnd) → is_task_end s (event.Split t p e) ≡ true → RestCase s (Telling (event.Split t p e))
   to_collect : (t : ℕ) (c : Collected) → is_task_end s (event.Collected t c) ≡ true → RestCase s (Telling (event.Collected t c))
 
-pub rest_case : (s : ℕ) (w : Work) → IsResting s w → RestCase s w
+pub rest_case : (s : ℕ) (w : Work) → HasOnlyToTell s w → RestCase s w
 rest_case s Idle h = at_idle
 rest_case s (Telling (event.Split t p e)) h = to_split t p e h
 rest_case s (Telling (event.Collected t c)) h = to_collect t c h
 rest_case s (Telling e) h = absurd (false≢true h)
 rest_case s w h = absurd h
 
-pub rest_idle : (s : ℕ) (w : Work) → w ≡ Idle → IsResting s w
-rest_idle s w is = subst (λ (x : Work). IsResting s x) (sym is) tt
+pub rest_idle : (s : ℕ) (w : Work) → w ≡ Idle → HasOnlyToTell s w
+rest_idle s w is = subst (λ (x : Work). HasOnlyToTell s x) (sym is) tt
 
-pub at_rest : (s : ℕ) (w : Work) → IsResting s w → IsAtRest w
+pub at_rest : (s : ℕ) (w : Work) → HasOnlyToTell s w → IsAtRest w
 at_rest s w rests = by w (rest_case s w rests)
   where
     by : (w : Work) → RestCase s w → IsAtRest w
@@ -55,7 +55,7 @@ at_rest s w rests = by w (rest_case s w rests)
     by _ (to_split t p e mine) = tt
     by _ (to_collect t c mine) = tt
 
-pub rest_stage : (s : ℕ) (w : Work) → IsResting s w → stage_of w ≡ 0
+pub rest_stage : (s : ℕ) (w : Work) → HasOnlyToTell s w → stage_of w ≡ 0
 rest_stage s w rests = by w (rest_case s w rests)
   where
     by : (w : Work) → RestCase s w → stage_of w ≡ 0
@@ -63,7 +63,7 @@ rest_stage s w rests = by w (rest_case s w rests)
     by _ (to_split t p e mine) = refl
     by _ (to_collect t c mine) = refl
 
-pub rest_unwaiting : (s : ℕ) (w : Work) → IsResting s w → is_awaiting w ≡ false
+pub rest_unwaiting : (s : ℕ) (w : Work) → HasOnlyToTell s w → is_awaiting w ≡ false
 rest_unwaiting s w rests = by w (rest_case s w rests)
   where
     by : (w : Work) → RestCase s w → is_awaiting w ≡ false
@@ -72,7 +72,7 @@ rest_unwaiting s w rests = by w (rest_case s w rests)
     by _ (to_collect t c mine) = refl
 
 -- nothing was being done that a later turn would go on with
-pub started_resting : (old mid : Shown) → is_revision_written mid.work ≡ false → is_awaiting mid.work ≡ false → IsResting old.session old.work → Link old mid
+pub started_resting : (old mid : Shown) → is_revision_written mid.work ≡ false → is_awaiting mid.work ≡ false → HasOnlyToTell old.session old.work → Link old mid
 started_resting old mid still waitless rests = free still waitless (rest_unwaiting old.session old.work rests)
     (subst (λ (n : ℕ). n ≤ stage_of mid.work) (sym (rest_stage old.session old.work rests)) (let le : 0 ≤ stage_of mid.work = omega arith in le))
 
@@ -81,7 +81,7 @@ pub run_under : (law : JcrLaw) (own : Past) (h : History) → IsRun (starts_of l
 run_under law [] h run = run
 run_under law (e ∷ own) h run = run_under law own h run.1
 
-pub rest_seen : (s : ℕ) (w : Work) (h : History) → IsResting s w → IsSeenFor h w
+pub rest_seen : (s : ℕ) (w : Work) (h : History) → HasOnlyToTell s w → IsSeenFor h w
 rest_seen s w h rests = by w (rest_case s w rests)
   where
     by : (w : Work) → RestCase s w → IsSeenFor h w
@@ -89,7 +89,7 @@ rest_seen s w h rests = by w (rest_case s w rests)
     by _ (to_split t p e mine) = tt
     by _ (to_collect t c mine) = tt
 
-pub rest_ends : (s : ℕ) (w : Work) → IsResting s w → AreEnds s (end_told w)
+pub rest_ends : (s : ℕ) (w : Work) → HasOnlyToTell s w → AreEnds s (end_told w)
 rest_ends s w rests = by w (rest_case s w rests)
   where
     by : (w : Work) → RestCase s w → AreEnds s (end_told w)
@@ -113,7 +113,7 @@ pub record IsToldOver (s : ℕ) (told past : Past) : Type 0 where
   pub committed : (r : Revision) → is_committed (told ++ past) r ≡ is_committed past r
   pub calls : list_any (is_calling s) told ≡ false
 
-pub told_over : (s : ℕ) (w : Work) → IsResting s w → (past : Past) → IsToldOver s (end_told w) past
+pub told_over : (s : ℕ) (w : Work) → HasOnlyToTell s w → (past : Past) → IsToldOver s (end_told w) past
 told_over s w rests past = by w (rest_case s w rests)
   where
     by : (w : Work) → RestCase s w → IsToldOver s (end_told w) past
@@ -148,13 +148,13 @@ told_over s w rests past = by w (rest_case s w rests)
     }
 
 -- what the next command is run with
-pub told_call : (law : JcrLaw) (h : History) (s : ℕ) (w : Work) → IsResting s w → AreNodes h.clusters h.sessions
+pub told_call : (law : JcrLaw) (h : History) (s : ℕ) (w : Work) → HasOnlyToTell s w → AreNodes h.clusters h.sessions
     → IsRun (starts_of law) (says_of law) (after (end_told w) h) → call_of law h.begin (end_told w ++ h.past) s ≡ call_of law h.begin h.past s
 told_call law h s w rests nodes run =
     call_stays law h.begin (starts_of law) (says_of law) h.clusters h.sessions nodes (end_told w) h.past s run (told_over s w rests h.past).calls
 
 -- the session is in
-pub told_inside : (law : JcrLaw) (p : Shown) (w : Work) (attached : Bool) → IsResting p.session w
+pub told_inside : (law : JcrLaw) (p : Shown) (w : Work) (attached : Bool) → HasOnlyToTell p.session w
     → IsRun (starts_of law) (says_of law) (after (end_told w) p.history) → IsIn law p attached
     → IsIn law (record p { history = after (end_told w) p.history }) attached
 told_inside law p w attached rests run inside = record {
@@ -174,7 +174,7 @@ told_inside law p w attached rests run inside = record {
 
 -- what may be said behind it may still be said with events of others before it
 pub says_behind : (law : JcrLaw) (old new : Shown) (w : Work) (i : ℕ) (text : Text) → (beside : IsBeside law old new)
-    → AreNodes old.history.clusters old.history.sessions → IsResting old.session w
+    → AreNodes old.history.clusters old.history.sessions → HasOnlyToTell old.session w
     → SaysBy law (after (end_told w) old.history) old.session i text → SaysBy law (after (end_told w) new.history) new.session i text
 says_behind law old new w i text beside nodes rests says =
     shown_beside law old new beside (λ h s. SaysBy law (after (end_told w) h) s i text) (by w (rest_case old.session w rests) says)

@@ -36,10 +36,10 @@ use Rattle.jcr_run.specs.declared.run.SessionRun.{SessionRun}
 use Rattle.jcr_run.specs.Standing.{HasCursor, IsCalled, IsIn}
 
 -- nothing is left to be done for s but to tell how a split or a collection of its own ended
-abbrev pub IsResting : ℕ → Work → Type 0
-IsResting s Idle = ⊤
-IsResting s (Telling e) = IsTrue (is_task_end s e)
-IsResting s _ = ⊥
+abbrev pub HasOnlyToTell : ℕ → Work → Type 0
+HasOnlyToTell s Idle = ⊤
+HasOnlyToTell s (Telling e) = IsTrue (is_task_end s e)
+HasOnlyToTell s _ = ⊥
 
 -- the session's history once it is told how a split or a collection ended, where that is left to
 -- be told
@@ -55,7 +55,7 @@ pub record IsAsked (law : JcrLaw) (p : Shown) (run : SessionRun) (m : Command) (
   pub few : length run.commands ≤ MOST_COMMANDS
   pub commands : (i : ℕ) → command_at law run.session i ≡ slice_get run.commands i
   pub index : run.index ≡ next_index p.history.past run.session
-  pub rests : IsResting p.session p.work
+  pub rests : HasOnlyToTell p.session p.work
   pub unread : run.fetch ≡ None
   pub still : IsFalse (is_drawing p.history.past p.session)
   pub next : slice_get run.commands run.index ≡ Some m

@@ -1,3 +1,4 @@
 pub mod Asked
+pub mod Came
 pub mod Nearing
 pub mod Standing

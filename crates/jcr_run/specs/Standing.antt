@@ -960,7 +960,7 @@ pub record IsNew (session earlier : ℕ) (commands : List Command) (types : List
 
 -- what comes of whether a reading step was made: where none was, nothing was shown anew, and the
 -- session has all that its next command asks for
-pub record HasRead (old new : Shown) (run now : SessionRun) (made : Bool) : Type 0 where
+pub record HasMadeReading (old new : Shown) (run now : SessionRun) (made : Bool) : Type 0 where
   pub none : IsFalse made → new ≡ old
   pub prepared : IsFalse made → IsTrue (may_read run) → IsPrepared now
   pub due : IsTrue made → IsTrue (may_read run)

@@ -3,6 +3,7 @@
 //! `jcr_session`'s.
 #![tactic(auto)]
 
+mod came;
 mod limits;
 mod next;
 mod reads;
@@ -10,6 +11,7 @@ mod run;
 mod say;
 mod turn;
 
+pub use came::come_on;
 pub use limits::MOST_COMMANDS;
 pub use next::Due;
 pub use reads::read;

@@ -3,8 +3,7 @@ ghost use Rattle.std.specs.Prelude.{◌≡◌};
 ghost use Rattle.jcr_run.specs.Standing.{due_by, due_for, due_to, may_read, reads_for};
 
 use crate::run::{Phase, SessionRun};
-use jcr_call::is_allowed;
-use jcr_held::commits;
+use jcr_call::{commits, is_allowed};
 use jcr_trans::Command;
 
 /// What is to be done for the next command.

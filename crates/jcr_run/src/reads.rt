@@ -8,7 +8,7 @@ ghost use Rattle.jcr_law.specs.State.{Call};
 ghost use Rattle.jcr_law.specs.declared.state.Cursor.{Cursor as Standing};
 ghost use Rattle.jcr_held.specs.Holds.{Holds};
 ghost use Rattle.jcr_run.specs.Nearing.{EndsSooner, HasNeared, unread_of};
-ghost use Rattle.jcr_run.specs.Standing.{HasLooked, HasRead, IsCalled, IsFetchFor, IsOneFetch};
+ghost use Rattle.jcr_run.specs.Standing.{HasLooked, HasMadeReading, IsCalled, IsFetchFor, IsOneFetch};
 ghost use Rattle.jcr_run.specs.Standing.{IsReading, IsReadyNext, IsRefused, IsWantedNext, Stands};
 ghost use Rattle.jcr_run.specs.Standing.{due_for, is_events, may_read};
 ghost use Rattle.jcr_run.specs.declared.run.Fetch.TheVariants as fetch;
@@ -33,7 +33,7 @@ pub fn read<P: Port<L = JcrLaw>>(run: &mut SessionRun, port: &mut P) -> Result<b
     ensures law { P.law port.new ≡ P.law port.old }
     ensures looked { HasLooked (P.law port.old) (P.shown port.old) (P.shown port.new)
         run.old run.new }
-    ensures read { IfOk result (HasRead (P.shown port.old) (P.shown port.new)
+    ensures read { IfOk result (HasMadeReading (P.shown port.old) (P.shown port.new)
         run.old run.new) }
     ensures err { OnErr result (IsTrue (may_read run.old)
         × IsRefused (P.shown port.new) run.new) }
@@ -58,7 +58,7 @@ fn read_next<P: Port<L = JcrLaw>>(run: &mut SessionRun, port: &mut P) -> Result<
     ensures law { P.law port.new ≡ P.law port.old }
     ensures looked { HasLooked (P.law port.old) (P.shown port.old) (P.shown port.new)
         run.old run.new }
-    ensures read { IfOk result (HasRead (P.shown port.old) (P.shown port.new)
+    ensures read { IfOk result (HasMadeReading (P.shown port.old) (P.shown port.new)
         run.old run.new) }
     ensures err { OnErr result (IsRefused (P.shown port.new) run.new) }
     ensures nears { IfOk result (λ made. IsTrue made → HasNeared ⊥

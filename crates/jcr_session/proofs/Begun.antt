@@ -57,7 +57,7 @@ use Rattle.jcr_run.specs.declared.turn.Turn.{Turn}
 use Rattle.jcr_run.specs.Asked.{IsAsked, IsUnviewedNext, MayAnswer, MayForgo, MaySettle, history_told}
 use Rattle.jcr_session.specs.Begins.{IsSaidAtOnce, IsTaskFor, MayObserve, MaySetOut}
 use Rattle.jcr_run.specs.Asked.{ObservesNext, SettlesBy}
-use Rattle.jcr_session.specs.Begins.{MayTell, StartsNext, StartsWith}
+use Rattle.jcr_session.specs.Begins.{MayAnswerTold, StartsNext, StartsWith}
 use Rattle.jcr_run.specs.Standing.{AreSince, HasCounted, HasCursor, IsBeside, IsBetweenCommands, IsIn, IsErrandTold, IsToldFor, IsWorkFor, Stands}
 use Rattle.jcr_steps.specs.Kept.{HasPlace, IsEight}
 use Rattle.jcr_run.specs.Standing.{due_by, due_for, is_errand, is_told_for, is_revision_written, stage_at}
@@ -429,7 +429,7 @@ module _ (law : JcrLaw) (p : Shown) (run : SessionRun) (t : Told) (stands : Stan
   pub told_eight : IsEight t
   told_eight = told_here.1.eight
 
-pub told_tells : (law : JcrLaw) (p : Shown) (run : SessionRun) (t : Told) → Stands law p (record run { phase = phase.Told t }) → MayTell law p run t
+pub told_tells : (law : JcrLaw) (p : Shown) (run : SessionRun) (t : Told) → Stands law p (record run { phase = phase.Told t }) → MayAnswerTold law p run t
 told_tells law p run (ended.Observed filter) stands =
     let is = (told_here law p run (ended.Observed filter) stands).1 in record {
       command = is.command;

@@ -52,6 +52,7 @@ use Rattle.jcr_steps.specs.declared.tidying.Tidied.TheVariants as tidied
 use Rattle.jcr_steps.specs.declared.tidying.TidyCame.{TidyCame}
 use Rattle.jcr_steps.specs.declared.tidying.TidyCame.TheVariants as came
 use Rattle.jcr_steps.specs.Tidied.{IsTidyAnswer, tidy_told}
+use Rattle.jcr_run.specs.Came.{going_turn, last_turn, phase_told, split_turn, turn_told}
 use Rattle.jcr_run.specs.declared.next.Due.{Due}
 use Rattle.jcr_run.specs.declared.next.Due.TheVariants as due
 use Rattle.jcr_run.specs.declared.run.Phase.{Phase}
@@ -59,12 +60,12 @@ use Rattle.jcr_run.specs.declared.run.Phase.TheVariants as phase
 use Rattle.jcr_run.specs.declared.run.SessionRun.{SessionRun}
 use Rattle.jcr_run.specs.declared.turn.Turn.{Turn}
 use Rattle.jcr_run.specs.declared.turn.Turn.TheVariants as turn
-use Rattle.jcr_run.specs.Asked.{IsAsked, IsResting, IsUnviewedNext, MayForgo, MaySettle, has_drawn, history_told}
+use Rattle.jcr_run.specs.Asked.{IsAsked, HasOnlyToTell, IsUnviewedNext, MayForgo, MaySettle, has_drawn, history_told}
 use Rattle.jcr_run.specs.Nearing.{BeginsNearer, EndsSooner, IsReply, ReadsOn, StepsOn, WorksSooner, stages_left, turns_left}
 use Rattle.jcr_run.specs.Standing.{AreInStageOrder, HasAwaited, HasCounted, HasReadOn, HasTurned, IsBeside, IsBetweenCommands, IsEndFor, IsFresh, IsIn}
 use Rattle.jcr_run.specs.Standing.{IsInTidying, IsOnCommand, IsOneStep, IsTidyTold, IsTidyWork, Stands, StandsAt, due_by, due_for, due_to, is_allowed}
 use Rattle.jcr_run.specs.Standing.{is_between, is_committing, is_revision_written, is_tidied, is_tidy, is_tidying, stage_at, stage_of}
-use Rattle.jcr_session.specs.Tidying.{IsSplitNext, IsTaskNext, IsTidyTask, MayTidy, going_turn, last_turn, phase_told, split_turn, tidied_text, turn_told}
+use Rattle.jcr_session.specs.Tidying.{IsSplitNext, IsTaskNext, IsTidyTask, MayBeginTidying, tidied_text}
 use Rattle.jcr_run.proofs.Calling.{turned_idle}
 use Rattle.jcr_run.proofs.Committing.{own as same_number}
 use Rattle.jcr_run.proofs.Cursors.{accepts_by, cursor_settled}
@@ -211,7 +212,7 @@ module _ (law : JcrLaw) (p : Shown) (run : SessionRun) (stands : Stands law p ru
       (tidy_viewed asked_m.0 (tidy_is run next asked_m.0 asked_m.1)) (refused_text r.0))
 
   -- once its place is kept
-  pub tidies_now : (mid : Shown) (t : Task) → IsTaskNext run t → IsBeside law p mid → mid.work ≡ Idle → HasRoom mid.room COMMIT_REPLY_BYTES → MayTidy law mid run t
+  pub tidies_now : (mid : Shown) (t : Task) → IsTaskNext run t → IsBeside law p mid → mid.work ≡ Idle → HasRoom mid.room COMMIT_REPLY_BYTES → MayBeginTidying law mid run t
   tidies_now mid t is beside idle place = record {
     command = asked_m.0;
     call = between_here.1.call;
@@ -277,7 +278,7 @@ module _ (law : JcrLaw) (old new : Shown) (run now : SessionRun) where
   read_on (inr (inl back)) = absurd (false≢true back.commits)
   read_on (inr (inr on)) = on
 
-module _ (law : JcrLaw) (old : Shown) (run : SessionRun) (t : Task) (may : MayTidy law old run t) where
+module _ (law : JcrLaw) (old : Shown) (run : SessionRun) (t : Task) (may : MayBeginTidying law old run t) where
   abbrev kind_is : IsTidyCommand may.command
   kind_is = tidy_is run may.tidies may.command may.asked.next
 
@@ -810,9 +811,9 @@ tidy_memory_is a is h = absurd is
 -- ---- the reply
 
 -- of what has ended so it is left to tell that
-end_rests : (s : ℕ) (m : Command) (t : Tidied) (w : Work) → IsEndFor s m t w → IsResting s w
-end_rests s (command.Split p) (tidied.Split e) w is = subst (λ (v : Work). IsResting s v) (sym is) (same_number s)
-end_rests s command.Collect (tidied.Collected d) w is = subst (λ (v : Work). IsResting s v) (sym is) (same_number s)
+end_rests : (s : ℕ) (m : Command) (t : Tidied) (w : Work) → IsEndFor s m t w → HasOnlyToTell s w
+end_rests s (command.Split p) (tidied.Split e) w is = subst (λ (v : Work). HasOnlyToTell s v) (sym is) (same_number s)
+end_rests s command.Collect (tidied.Collected d) w is = subst (λ (v : Work). HasOnlyToTell s v) (sym is) (same_number s)
 end_rests s m t w is = absurd is
 
 first_of : (x : Event) (xs : List Event) → Contains (x ∷ xs) x

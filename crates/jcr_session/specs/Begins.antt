@@ -142,9 +142,9 @@ pub record MayObserve (law : JcrLaw) (p : Shown) (run : SessionRun) (filter : Fi
   pub holds : Holds call run.held
 
 -- how the task of the next command has ended may be told now
-abbrev pub MayTell : JcrLaw → Shown → SessionRun → Told → Type 0
-MayTell law p run (told.Observed filter) = MayObserve law p run filter
-MayTell law p run t = MaySettle law p run (reply_of t)
+abbrev pub MayAnswerTold : JcrLaw → Shown → SessionRun → Told → Type 0
+MayAnswerTold law p run (told.Observed filter) = MayObserve law p run filter
+MayAnswerTold law p run t = MaySettle law p run (reply_of t)
 
 -- the task that the command asks for, which is run with c: a checkpoint's is under the session's
 -- next identifier, which it has; the cursor of an observing has a path within the limits

@@ -1,9 +1,7 @@
 -- What a session begins for a split or a collection, and what comes of its steps.
-use Rattle.std.specs.Prelude.{◌≡◌, Bool, true, false, slice_get, None, Some, IsTrue}
+use Rattle.std.specs.Prelude.{◌≡◌, slice_get, None, Some, IsTrue}
 use Rattle.jr_path.specs.declared.path.Path.{Path}
 use Rattle.jr_path.specs.Lists.{Text}
-use Rattle.oak_machine.specs.declared.event.StepKind.{StepKind}
-use Rattle.oak_machine.specs.declared.event.StepKind.TheVariants as kind
 use Rattle.oak_machine.specs.Sessions.{drawn_since}
 use Rattle.oak_port.specs.Ports.{HasRoom, Idle, Shown}
 use Rattle.oak_port.specs.declared.task.Task.{Task}
@@ -21,15 +19,10 @@ use Rattle.jcr_held.specs.declared.splits.NextSplit.{NextSplit}
 use Rattle.jcr_steps.specs.declared.limits.TheConstants.{COMMIT_REPLY_BYTES}
 use Rattle.jcr_steps.specs.declared.tidying.Tidied.{Tidied}
 use Rattle.jcr_steps.specs.declared.tidying.Tidied.TheVariants as tidied
-use Rattle.jcr_steps.specs.declared.tidying.TidyCame.{TidyCame}
-use Rattle.jcr_steps.specs.declared.tidying.TidyCame.TheVariants as came
 use Rattle.jcr_run.specs.Asked.{IsAsked}
 use Rattle.jcr_run.specs.Standing.{due_for, is_tidy}
-use Rattle.jcr_run.specs.declared.run.Phase.{Phase}
 use Rattle.jcr_run.specs.declared.run.Phase.TheVariants as phase
 use Rattle.jcr_run.specs.declared.run.SessionRun.{SessionRun}
-use Rattle.jcr_run.specs.declared.turn.Turn.{Turn}
-use Rattle.jcr_run.specs.declared.turn.Turn.TheVariants as turn
 
 -- ---- what it begins
 
@@ -51,7 +44,7 @@ IsTaskNext run t = (m : Command) → slice_get run.commands run.index ≡ Some m
 
 -- the task is that of the next command, for which nothing was drawn yet and neither the base nor
 -- the cursor has moved, and want of memory has a place as its reply
-pub record MayTidy (law : JcrLaw) (p : Shown) (run : SessionRun) (t : Task) : Type 0 where
+pub record MayBeginTidying (law : JcrLaw) (p : Shown) (run : SessionRun) (t : Task) : Type 0 where
   pub command : Command
   pub call : Call
   pub asked : IsAsked law p run command call
@@ -65,34 +58,7 @@ pub record MayTidy (law : JcrLaw) (p : Shown) (run : SessionRun) (t : Task) : Ty
   pub task_is : IsTidyTask command t
   pub place : HasRoom p.room COMMIT_REPLY_BYTES
 
--- ---- what comes of a step
-
--- the turn in which a step of a split or a collection was made that goes on
-abbrev pub going_turn : StepKind → Turn
-going_turn kind.Read = turn.Read
-going_turn k = turn.Stepped k
-
--- the turn in which a split has ended, by a reading step or by a change
-abbrev pub split_turn : (reads : Bool) → Turn
-split_turn true = turn.Read
-split_turn false = turn.Stepped kind.Split
-
--- the turn in which a split or a collection has ended so
-abbrev pub last_turn : (reads : Bool) → Tidied → Turn
-last_turn reads (tidied.Split e) = split_turn reads
-last_turn reads (tidied.Collected c) = turn.Stepped kind.Collect
-
--- the turn of a step of a split or a collection, for which a reading step is due or another, by what
--- it came to
-abbrev pub turn_told : (reads : Bool) → TidyCame → Turn
-turn_told reads (came.Going k) = going_turn k
-turn_told reads (came.Ended t) = last_turn reads t
-turn_told reads came.Refused = turn.Memory
-
--- where the session stands behind it
-abbrev pub phase_told : TidyCame → Phase
-phase_told (came.Ended t) = phase.Tidied t
-phase_told _ = phase.Tidying
+-- ---- how it ends
 
 -- the reply that shows how a split or a collection has ended
 abbrev pub tidied_text : Tidied → Text

@@ -11,7 +11,7 @@ ghost use Rattle.jcr_held.specs.Holds.{Holds};
 ghost use Rattle.jcr_steps.specs.Answered.{MayCome};
 ghost use Rattle.jcr_session.specs.Phases.{phase_came, turn_came};
 ghost use Rattle.jcr_run.specs.Asked.{MaySettle};
-ghost use Rattle.jcr_session.specs.Begins.{MaySetOut, MayTell, StartsNext, StartsWith};
+ghost use Rattle.jcr_session.specs.Begins.{MaySetOut, MayAnswerTold, StartsNext, StartsWith};
 ghost use Rattle.jcr_run.specs.Nearing.{EndsOrStays, EndsSooner, IsReply, StepsOn, WorksSooner};
 ghost use Rattle.jcr_run.specs.Nearing.{turns_left};
 ghost use Rattle.jcr_run.specs.Standing.{AreSince, HasCounted, IsGranted, Stands, due_by, due_for};
@@ -23,8 +23,7 @@ ghost use Rattle.jcr_steps.specs.declared.errand.Told.TheVariants as told;
 ghost use Rattle.jcr_session.specs.declared.errand.Start.TheVariants as start;
 ghost use Rattle.jcr_run.specs.declared.run.Phase.TheVariants as phase;
 
-use jcr_call::{cause_text, events_reply};
-use jcr_held::NextCheckpoint;
+use jcr_call::{NextCheckpoint, cause_text, events_reply};
 use jcr_law::JcrLaw;
 use jcr_observe::Filter;
 use jcr_run::{Phase, SessionRun, Turn};
@@ -249,7 +248,7 @@ pub(crate) fn say_told<P: Port<L = JcrLaw>>(run: &mut SessionRun, port: &mut P) 
 
 // Answers a command by how its task has ended.
 fn tell<P: Port<L = JcrLaw>>(run: &mut SessionRun, port: &mut P, told: Told) -> Turn
-    requires tells { MayTell (P.law port.old) (P.shown port.old) run.old told }
+    requires tells { MayAnswerTold (P.law port.old) (P.shown port.old) run.old told }
     requires place { HasPlace (P.shown port.old).room (kept_of told) }
     requires eight { IsEight told }
     ensures law { P.law port.new ≡ P.law port.old }
@@ -270,7 +269,7 @@ fn tell<P: Port<L = JcrLaw>>(run: &mut SessionRun, port: &mut P, told: Told) -> 
 
 // Answers an `observe`: the cursor has this filter from then on.
 fn tell_observed<P: Port<L = JcrLaw>>(run: &mut SessionRun, port: &mut P, filter: Filter) -> Turn
-    requires tells { MayTell (P.law port.old) (P.shown port.old) run.old
+    requires tells { MayAnswerTold (P.law port.old) (P.shown port.old) run.old
         (told.Observed filter) }
     requires room { HasRoom (P.shown port.old).room VECTOR_REPLY_BYTES }
     ensures law { P.law port.new ≡ P.law port.old }

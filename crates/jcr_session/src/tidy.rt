@@ -3,7 +3,6 @@ ghost use Rattle.std.specs.Prelude.{◌≡◌, IfOk, IsTrue, None, false, string
 ghost use Rattle.oak_machine.specs.declared.event.StepKind.TheVariants as kind;
 ghost use Rattle.oak_port.specs.Ports.{HasRoom, is_due};
 ghost use Rattle.jcr_steps.specs.declared.limits.TheConstants.{COMMIT_REPLY_BYTES};
-ghost use Rattle.jcr_steps.specs.declared.tidying.TidyCame.TheVariants as comes;
 ghost use Rattle.jcr_run.specs.Asked.{MayForgo, MaySettle};
 ghost use Rattle.jcr_run.specs.Nearing.{BeginsNearer, EndsSooner, IsReply, ReadsOn, StepsOn};
 ghost use Rattle.jcr_run.specs.Nearing.{WorksSooner, turns_left};
@@ -11,17 +10,14 @@ ghost use Rattle.jcr_run.specs.Standing.{HasCounted, HasTurned, IsGranted, IsPre
 ghost use Rattle.jcr_run.specs.Standing.{due_for, is_tidied, is_tidy, is_tidying};
 ghost use Rattle.jcr_run.specs.declared.next.Due.TheVariants as due;
 ghost use Rattle.jcr_run.specs.declared.run.Phase.TheVariants as phase;
-ghost use Rattle.jcr_session.specs.Tidying.{IsSplitNext, IsTaskNext, MayTidy, going_turn};
-ghost use Rattle.jcr_session.specs.Tidying.{last_turn, phase_told, split_turn, tidied_text};
-ghost use Rattle.jcr_session.specs.Tidying.{turn_told};
+ghost use Rattle.jcr_session.specs.Tidying.{IsSplitNext, IsTaskNext, MayBeginTidying, tidied_text};
 
 use jcr_call::{collected_reply, split_reply};
 use jcr_held::NextSplit;
 use jcr_law::JcrLaw;
-use jcr_run::{Phase, SessionRun, Turn};
-use jcr_steps::{COMMIT_REPLY_BYTES, Tidied, TidyCame, tidy_came};
+use jcr_run::{Phase, SessionRun, Turn, come_on};
+use jcr_steps::{COMMIT_REPLY_BYTES, Tidied, TidyCame, is_read, tidy_came};
 use jcr_trans::Command;
-use oak_machine::StepKind;
 use oak_port::{Port, Task};
 use std::alloc::{AllocError, Global};
 use std::mem;
@@ -92,7 +88,7 @@ fn keep_place<P: Port<L = JcrLaw>>(run: &mut SessionRun, port: &mut P, task: Tas
 
 // Begins the task, and makes its first step.
 fn begin<P: Port<L = JcrLaw>>(run: &mut SessionRun, port: &mut P, task: Task) -> Turn
-    requires tidies { MayTidy (P.law port.old) (P.shown port.old) run.old task }
+    requires tidies { MayBeginTidying (P.law port.old) (P.shown port.old) run.old task }
     ensures law { P.law port.new ≡ P.law port.old }
     ensures turned { HasTurned (P.law port.old) (P.shown port.old) (P.shown port.new)
         run.old run.new result }
@@ -123,8 +119,8 @@ pub(crate) fn tidy_on<P: Port<L = JcrLaw>>(run: &mut SessionRun, port: &mut P) -
     tidy(run, port)
 }
 
-// Makes a step of a split or a collection. A split ends by a reading step or by a counted one, as it
-// is due.
+// Makes a step of a split or a collection. A split ends by a reading step or by a counted one, as
+// it is due.
 fn tidy<P: Port<L = JcrLaw>>(run: &mut SessionRun, port: &mut P) -> Turn
     requires stands { Stands (P.law port.old) (P.shown port.old)
         (record run.old { phase = phase.Tidying }) }
@@ -144,8 +140,8 @@ fn tidy<P: Port<L = JcrLaw>>(run: &mut SessionRun, port: &mut P) -> Turn
     tidy_once(run, port, reads)
 }
 
-// Makes a step of a split or a collection, for which a reading step is due, or another. Where memory
-// is refused, the task has ended, and the reply tells so.
+// Makes a step of a split or a collection, for which a reading step is due, or another. Where
+// memory is refused, the task has ended, and the reply tells so.
 fn tidy_once<P: Port<L = JcrLaw>>(run: &mut SessionRun, port: &mut P, reads: bool) -> Turn
     requires stands { Stands (P.law port.old) (P.shown port.old)
         (record run.old { phase = phase.Tidying }) }
@@ -165,71 +161,6 @@ fn tidy_once<P: Port<L = JcrLaw>>(run: &mut SessionRun, port: &mut P, reads: boo
     match tidy_came(port.step()) {
         TidyCame::Refused => run.forgo(port, false),
         came => come_on(run, came, reads),
-    }
-}
-
-// What a step of a split or a collection came to that wasn't refused memory.
-fn come_on(run: &mut SessionRun, came: TidyCame, reads: bool) -> Turn
-    requires made { ¬ (came ≡ comes.Refused) }
-    ensures turn { result ≡ turn_told reads came }
-    ensures run { run.new ≡ record run.old { phase = phase_told came } }
-    ensures granted { IsGranted result }
-{
-    match came {
-        TidyCame::Going(kind) => {
-            run.phase = Phase::Tidying;
-            going_turn(kind)
-        }
-        TidyCame::Ended(ended) => {
-            let turn = last_turn(reads, &ended);
-            run.phase = Phase::Tidied(ended);
-            turn
-        }
-        TidyCame::Refused => unreachable!(),
-    }
-}
-
-// Whether a reading step is due.
-fn is_read(due: Option<StepKind>) -> bool
-    ensures { result ≡ is_due kind.Read due }
-{
-    match due {
-        Some(StepKind::Read) => true,
-        _ => false,
-    }
-}
-
-// The turn in which a step of this kind was made.
-fn going_turn(kind: StepKind) -> Turn
-    ensures turn { result ≡ going_turn kind }
-    ensures granted { IsGranted result }
-{
-    match kind {
-        StepKind::Read => Turn::Read,
-        kind => Turn::Stepped(kind),
-    }
-}
-
-// The turn in which a split or a collection has ended so, by a reading step or another.
-fn last_turn(reads: bool, ended: &Tidied) -> Turn
-    ensures turn { result ≡ last_turn reads ended.now }
-    ensures granted { IsGranted result }
-{
-    match ended {
-        Tidied::Split(_) => split_turn(reads),
-        Tidied::Collected(_) => Turn::Stepped(StepKind::Collect),
-    }
-}
-
-// The turn in which a split has ended, by a reading step or by a change.
-fn split_turn(reads: bool) -> Turn
-    ensures turn { result ≡ split_turn reads }
-    ensures granted { IsGranted result }
-{
-    if reads {
-        Turn::Read
-    } else {
-        Turn::Stepped(StepKind::Split)
     }
 }
 

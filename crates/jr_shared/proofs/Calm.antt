@@ -11,6 +11,7 @@ use Rattle.oak_machine.specs.declared.event.StepKind.TheVariants as kind
 use Rattle.oak_port.specs.declared.task.StepOut.{StepOut}
 use Rattle.oak_port.specs.declared.task.StepOut.TheVariants as answers
 use Rattle.oak_port.specs.declared.task.TaskEnd.TheVariants as ends
+use Rattle.core_tidy.specs.Steps.{after_tidied, tidied_in}
 use Rattle.core_world.specs.States.{State, node_of}
 use Rattle.oak_node.specs.declared.pending.Pending.{Pending}
 use Rattle.oak_prev.specs.declared.splitter.Splitter.{Splitter}
@@ -31,7 +32,7 @@ use Rattle.oak_tidy.specs.declared.tidying.Tidying.{Tidying}
 use Rattle.oak_tidy.specs.declared.tidying.Tidying.TheVariants as tidying
 use Rattle.oak_tidy.specs.Replies.{table_after}
 use Rattle.oak_tidy.specs.Tidyings.{tidy_events, tidying_ask}
-use Rattle.oak_world.specs.Steps.{BeginsBackWrite, MakesState, MakesBackRead, MakesBackWrite, MakesCommit, MakesSweep, MakesUpdate, MakesUpkeep, PassesTo, after_tidied, tidied_in}
+use Rattle.oak_world.specs.Steps.{BeginsBackWrite, MakesState, MakesBackRead, MakesBackWrite, MakesCommit, MakesSweep, MakesUpdate, MakesUpkeep, PassesTo}
 use Rattle.jr_shared.proofs.Lists.{never_longer, never_two_longer, none_more}
 
 -- ---- a split or a collection

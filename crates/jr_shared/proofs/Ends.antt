@@ -9,16 +9,17 @@ use Rattle.basics.proofs.Bools.{first_of_both, second_of_both}
 use Rattle.oak_machine.specs.declared.event.Event.{Event}
 use Rattle.oak_machine.specs.declared.event.Event.TheVariants as event
 use Rattle.oak_machine.specs.History.{History, Past}
-use Rattle.oak_machine.specs.Laws.{Says, Starts, is_event_of}
+use Rattle.oak_machine.specs.Laws.{Says, Starts}
 use Rattle.oak_machine.specs.Runs.{MayFollow, is_bound, is_skip, is_split_end, is_task_end}
 use Rattle.oak_machine.specs.Sessions.{has_login, since}
 use Rattle.oak_step.specs.declared.work.Work.{Work}
 use Rattle.oak_step.specs.declared.work.Work.TheVariants as work
 use Rattle.oak_world.specs.Ends.{MayTell}
 use Rattle.oak_world.specs.Worlds.{ActorState, WorldOf, idle, live, told_first, work_in}
+use Rattle.oak_world.proofs.Ends.{end_others}
 use Rattle.jr_shared.specs.Ends.{may_end, may_tell}
 use Rattle.jr_shared.specs.Meanings.{own_events}
-use Rattle.jr_shared.proofs.Shapes.{not_theirs, own_kept}
+use Rattle.jr_shared.proofs.Shapes.{own_kept}
 
 both : (a b : Bool) → a ≡ true → b ≡ true → (a && b) ≡ true
 both true b p q = q
@@ -54,17 +55,8 @@ end_follows starts says h s (event.Collected t c) k =
     }
 end_follows starts says h s _ k = absurd (false≢true k)
 
-pub tell_follows : (starts : Starts) (says : Says) (h : History) (s : ℕ) (e : Event) → MayTell h s e → MayFollow starts says h e
-tell_follows starts says h s e m = end_follows starts says h s e (tell_end h s e m)
-
--- how a task of one session has ended is no event of another
-end_apart : (past : Past) (s q : ℕ) (e : Event) → is_task_end s e ≡ true → (q == s) ≡ false → is_event_of past q e ≡ false
-end_apart past s q (event.Split t path o) own apart = not_theirs t s q own apart
-end_apart past s q (event.Collected t c) own apart = not_theirs t s q own apart
-end_apart past s q _ own apart = absurd (false≢true own)
-
 pub told_apart : (past : Past) (s q : ℕ) (v : Work) → ((e : Event) → v ≡ work.Told e → is_task_end s e ≡ true) → (q == s) ≡ false → own_events (told_first v ++ past) q ≡ own_events past q
-told_apart past s q (work.Told e) own apart = own_kept past q e (end_apart (e ∷ past) s q e (own e refl) apart)
+told_apart past s q (work.Told e) own apart = own_kept past q e (end_others s (e ∷ past) q apart e (own e refl))
 told_apart past s q _ own apart = refl
 
 -- ---- at a world

@@ -14,6 +14,7 @@ use Rattle.oak_machine.specs.Runs.{AreNodes, IsRunOf, MayFollow, OnlyOthersActed
 use Rattle.oak_machine.specs.Sessions.{base_of, has_left, has_login, is_attached, next_index}
 use Rattle.oak_machine.proofs.Induction.{base_stays}
 use Rattle.core_heads.proofs.Passing.{next_stays}
+use Rattle.core_tidy.proofs.Since.{stay_left}
 use Rattle.core_world.specs.States.{State, memory_of}
 use Rattle.oak_port.specs.declared.task.Task.{Task}
 use Rattle.oak_port.specs.declared.task.Task.TheVariants as task
@@ -23,14 +24,15 @@ use Rattle.oak_step.specs.declared.work.Work.TheVariants as work
 use Rattle.oak_world.specs.Ends.{MayTell}
 use Rattle.oak_world.specs.Left.{left_in, steps_left}
 use Rattle.oak_world.specs.Worlds.{ActorState, WorldOf, actor_in, idle, live, state_of, told_first, work_in}
-use Rattle.oak_world.proofs.Staying.{login_left, stay_left}
+use Rattle.oak_world.proofs.Ends.{tell_follows}
+use Rattle.oak_world.proofs.Staying.{login_left}
 use Rattle.jr_shared.specs.declared.locked.WorldFrame.{WorldFrame}
 use Rattle.jr_shared.specs.Meanings.{Owned, frame_of, journal_of, own_events, owned_of}
 use Rattle.jr_shared.specs.Ends.{may_tell}
 use Rattle.jr_shared.specs.Holds.{HasLaw, IsGot, IsTold, IsToldOf, PassKnown, actor_by, has_seat, owned_by, seat_by}
 use Rattle.jr_shared.specs.Seen.{clusters_by, history_by, law_by, left_by, sessions_by, state_by, the}
 use Rattle.oak_world.proofs.Others.{attached_left, cursor_stays}
-use Rattle.jr_shared.proofs.Ends.{end_follows, end_own, tell_follows, work_told}
+use Rattle.jr_shared.proofs.Ends.{end_follows, end_own, work_told}
 use Rattle.jr_shared.proofs.Events.{are_others, run_before}
 use Rattle.jr_shared.proofs.Lists.{found_part, grown_by}
 

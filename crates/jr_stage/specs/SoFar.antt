@@ -56,8 +56,8 @@ pub record IsDouble (script : Script) (past : Past) (s : ℕ) (own : Past) : Typ
   pub idle : IsFalse (is_drawing (event.End revision ∷ past) s)
   pub awake : IsFalse (is_resting script (event.End revision ∷ past) s)
 
--- the reply of session s, directly behind how its split or collection ended, where nothing of s is in
--- flight
+-- the reply of session s, directly behind how its split or collection ended, where nothing of s is
+-- in flight
 pub record IsToldReply (past : Past) (s : ℕ) (own : Past) : Type 0 where
   pub index : ℕ
   pub text : Text

@@ -108,7 +108,8 @@ comes_to stage s until = option_map_or (has_come stage s) until false
 -- ---- a turn
 
 -- the events that a turn of s adds to a past, the newest first: a step, no reply among it; a reply,
--- directly behind how a split or a collection ended, where that is told with it; or none, where s waits or all its commands are answered and it has left
+-- directly behind how a split or a collection ended, where that is told with it; or none, where s
+-- waits or all its commands are answered and it has left
 abbrev pub Comes : Script → Past → ℕ → Option StepKind → Turn → Past → Type 0
 Comes script past s due (turn.Stepped k) own =
     IsStepAt script past s due own × IsFalse (list_any (is_reply_of s) own)

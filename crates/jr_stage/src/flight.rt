@@ -1,7 +1,5 @@
 // What is kept of a commit in flight.
 ghost use Rattle.std.specs.Prelude.{◌≡◌, ◌&&◌, IfOk, nat_le};
-ghost use Rattle.oak_machine.specs.declared.event.StepKind.TheVariants as kind;
-ghost use Rattle.oak_port.specs.Ports.{is_due};
 ghost use Rattle.jr_stage.specs.Flights.{flight_with};
 ghost use Rattle.jr_stage.specs.SoFar.{is_last_due};
 ghost use Rattle.jr_stage.specs.Stages.{has_come_by};
@@ -57,16 +55,6 @@ fn is_last(due: Option<StepKind>) -> bool
 {
     match due {
         Some(kind) => matches!(kind, StepKind::Last),
-        None => false,
-    }
-}
-
-// Whether a reading step is due.
-pub(crate) fn is_read(due: Option<StepKind>) -> bool
-    ensures { result ≡ is_due kind.Read due }
-{
-    match due {
-        Some(kind) => matches!(kind, StepKind::Read),
         None => false,
     }
 }

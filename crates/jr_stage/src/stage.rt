@@ -19,7 +19,7 @@ ghost use Rattle.jr_script.specs.declared.script.Entry.TheVariants as entry;
 ghost use Rattle.jr_stage.specs.Stages.{Closes, MakesReading, IsFirstStage, IsOfCommit, IsStage, has_come, past_of};
 ghost use Rattle.jr_stage.specs.Seats.{AreNew, IsNewSeat};
 
-use crate::flight::{Flight, is_read};
+use crate::flight::Flight;
 use core_obeys::the_product_obeys;
 use jcr_law::JcrLaw;
 use jcr_run::{SessionRun, Turn, read};

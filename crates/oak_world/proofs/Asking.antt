@@ -19,7 +19,7 @@ use Rattle.oak_machine.specs.Asked.{AreAskedIn, IsAsked, IsAskedFor, is_made_by}
 use Rattle.oak_machine.specs.Commits.{draw_of}
 use Rattle.oak_machine.specs.History.{History, Past}
 use Rattle.oak_machine.specs.Laws.{Asks, Says, Starts, StartsProper, StartsWrite, after, is_revision_of}
-use Rattle.oak_machine.specs.Runs.{IsRunOf, StartsLast}
+use Rattle.oak_machine.specs.Runs.{IsRunOf, StartsLast, is_task_end}
 use Rattle.oak_machine.specs.Sessions.{is_stopped, next_index}
 use Rattle.oak_machine.specs.Steps.{is_appended_by, is_kind, moves_head, is_on, kinds_for, leaves_went, where_test}
 use Rattle.core_heads.proofs.Passing.{next_stays}
@@ -34,11 +34,13 @@ use Rattle.oak_port.specs.Ports.{AreOfStep, Awaiting, BoundsOn, Collecting, Coll
 use Rattle.oak_step.specs.declared.work.Work.{Work}
 use Rattle.oak_step.specs.declared.work.Work.TheVariants as work
 use Rattle.oak_step.specs.Works.{Begins}
+use Rattle.oak_world.specs.Ends.{MayTell}
 use Rattle.oak_world.specs.Kept.{IsAskedWorld, IsWorld}
 use Rattle.oak_world.specs.Seen.{shown_work}
 use Rattle.oak_world.specs.Steps.{StepsIn}
-use Rattle.oak_world.specs.Worlds.{ActorState, WorldOf, actor_in, live, reply_events, said_in, state_of, with_formers, with_reply, with_work, work_in}
-use Rattle.oak_world.proofs.Keeping.{begins_shown, does_now, grown, others_are, seat, set_is, step_is}
+use Rattle.oak_world.specs.Worlds.{ActorState, WorldOf, actor_in, live, said_in, state_of, told_first, with_formers, with_reply, with_work, work_in}
+use Rattle.oak_world.proofs.Ends.{end_next}
+use Rattle.oak_world.proofs.Keeping.{begins_shown, does_now, grown, others_are, seat, set_is, step_is, steps}
 use Rattle.oak_world.proofs.StepsOf.{IsStepOf, apart_one, flipped}
 
 -- ---- by what is told of a step
@@ -297,29 +299,42 @@ module _ (asks : Asks) {L : Type 0} (w : WorldOf L) (asked : IsAskedWorld asks w
   pub start_asked : (n : ℕ) (pin : Option Pin) (t : Task) (v : Work) → Begins n pin t v → IsAskedOf asks (live w.history) s t → IsAskedWorld asks (with_work w s v)
   start_asked n pin t v begins so = set_asked (record (actor_in w.actors s) { work = v; began = length w.history.past }) (λ e may. so e (subst (λ (x : Shows). MayAppend x e) (begins_shown n pin t v begins) may))
 
-  -- a reply is said
-  module _ (idle : work_in w.actors s ≡ work.Rest) (i : ℕ) (text : Text) where
+  -- a reply is said, and before it how the session's task ended
+  module _ (may : (e : Event) → work_in w.actors s ≡ work.Told e → MayTell (live w.history) s e) (i : ℕ) (text : Text) where
     abbrev said : WorldOf L
     said = said_in w s i text
 
     abbrev quiet : ActorState
     quiet = record (actor_in w.actors s) { work = work.Rest; reply = None }
 
-    replied_is : reply_events s i text (work_in w.actors s) ≡ event.Said s i text ∷ []
-    replied_is = ap (reply_events s i text) idle
+    -- the events so far, once that is told
+    abbrev told : Work → Past
+    told v = told_first v ++ w.history.past
 
-    past_is : said.history.past ≡ event.Said s i text ∷ w.history.past
-    past_is = ap (λ (own : Past). own ++ w.history.past) replied_is
+    -- how its task ended its next command asks for
+    end_made : (e : Event) → is_task_end s e ≡ true → is_made_by (live w.history) s e ≡ true
+    end_made (event.Split t path o) own = own
+    end_made (event.Collected t c) own = own
+    end_made _ own = absurd (false≢true own)
+
+    first_made : (v : Work) → work_in w.actors s ≡ v → AreAskedIn asks (record (live w.history) { past = told v }) (told v)
+    first_made (work.Told e) at = (
+      asked_for asks (live w.history) e (record { session = s; made = end_made e (may e at).own; asked = asked.coming s e (subst (λ (v : Work). MayAppend (shown_work v) e) (sym at) refl) }),
+      still_asked asks (live w.history) (e ∷ w.history.past) w.history.past asked.made,
+    )
+    first_made _ at = asked.made
 
     made_said : AreAskedIn asks (live said.history) said.history.past
-    made_said =
-        subst (λ (past : Past). AreAskedIn asks (record (live w.history) { past = past }) past) (sym past_is)
-        (tt, still_asked asks (live w.history) (event.Said s i text ∷ w.history.past) w.history.past asked.made)
+    made_said = (tt, still_asked asks (record (live w.history) { past = told (work_in w.actors s) }) said.history.past (told (work_in w.actors s)) (first_made (work_in w.actors s) refl))
 
     next_said : (q : ℕ) → (q == s) ≡ false → next_index said.history.past q ≡ next_index w.history.past q
     next_said q apart =
-        ap (λ (past : Past). next_index past q) past_is
-        ∙ next_stays (event.Said s i text ∷ w.history.past) (event.Said s i text ∷ []) w.history.past q (apart_one w.history.past s (event.Said s i text) (λ p h. flipped p s h) q apart)
+        next_stays said.history.past (event.Said s i text ∷ []) (told (work_in w.actors s)) q (apart_one (told (work_in w.actors s)) s (event.Said s i text) (λ p h. flipped p s h) q apart)
+        ∙ by (work_in w.actors s) may
+      where
+        by : (v : Work) → ((e : Event) → v ≡ work.Told e → MayTell (live w.history) s e) → next_index (told v) q ≡ next_index w.history.past q
+        by (work.Told e) tells = end_next s w.history.past q e (tells e refl).own
+        by _ tells = refl
 
     pub said_asked : IsAskedWorld asks said
     said_asked = record { made = made_said; coming = λ q. by q (q == s) refl }
@@ -331,7 +346,7 @@ module _ (asks : Asks) {L : Type 0} (w : WorldOf L) (asked : IsAskedWorld asks w
 -- a step is made
 module _ (starts : Starts) (says : Says) (proper : StartsProper starts) (writes : StartsWrite starts) (last : StartsLast starts says) {L : Type 0} (w : WorldOf L) (is : IsWorld starts says w) (s : ℕ) (there : is_some (slice_get w.history.sessions s) ≡ true) (u : WorldOf L) (o : StepOut) (m : StepsIn w s u o)
     (asks : Asks) (asked : IsAskedWorld asks w) where
-  abbrev step : IsStepOf starts says s (with_formers (state_of w) is.formers) (work_in w.actors s) (with_formers (state_of u) is.formers) m.does o
+  abbrev step : IsStepOf starts says s (with_formers (state_of w) is.formers) (work_in w.actors s) (with_formers (state_of u) (steps starts says proper writes last w is s there u o m).formers) m.does o
   step = step_is starts says proper writes last w is s there u o m
 
   abbrev grows : live u.history ≡ after step.own (live w.history)

@@ -25,7 +25,7 @@ use Rattle.oak_step.specs.declared.work.Work.{Work}
 use Rattle.oak_step.specs.declared.work.Work.TheVariants as work
 use Rattle.oak_tidy.specs.Replies.{all_parts}
 use Rattle.oak_world.specs.Acting.{Acts, CanAct, is_tidying}
-use Rattle.oak_world.specs.Kept.{ArePlaced, IsAskedWorld, IsPlaced, IsWorld, May, scene}
+use Rattle.oak_world.specs.Kept.{ArePlaced, IsAskedWorld, IsPlaced, IsWorld}
 use Rattle.oak_step.specs.Parts.{needed}
 use Rattle.oak_world.specs.Seen.{shown_at}
 use Rattle.oak_step.specs.Works.{Begins}
@@ -33,6 +33,7 @@ use Rattle.oak_world.specs.Steps.{StepsIn, attached_after, reads_after}
 use Rattle.oak_world.specs.Worlds.{ActorState, IsAtRest, WorldOf, actor_in, live, reply_events, said_in, shown_actor, shown_world, state_of, told_first, with_reply, with_work, work_in}
 use Rattle.oak_world.proofs.Asking.{reply_asked, said_asked, start_asked, step_keeps_asked}
 use Rattle.oak_world.proofs.Calls.{actor_shown, begun_is, can, its_placed, own_are, replied_is, said_is, same_is, seen_so, set_placed, step_keeps_all, steps_in}
+use Rattle.oak_world.proofs.Ends.{ends_may}
 use Rattle.oak_world.proofs.Keeping.{reply_keeps, said_keep, seat, start_keeps}
 use Rattle.oak_world.proofs.Seats.{actor_within, read_at}
 
@@ -123,16 +124,8 @@ module _ (starts : Starts) (says : Says) (proper : StartsProper starts) (writes 
       pub saying_is : now ≡ said_in w s i text
       saying_is = said_is starts says proper writes last law j t ms actors is placed s k on a here b es i text shown list
 
-      resting : IsAtRest (work_in w.actors s) → work_in w.actors s ≡ work.Rest
-      resting rest = by (work_in w.actors s) rest (is.may s)
-        where
-          by : (v : Work) → IsAtRest v → May starts (scene w.table is.formers (live w.history)) s v → v ≡ work.Rest
-          by work.Rest at may = refl
-          by (work.Told e) at may = absurd may
-          by _ at may = absurd at
-
       pub say_stands : (asks : Asks) → IsAskedWorld asks w → IsAtRest (work_in w.actors s) → i ≡ next_index w.history.past s → says (after (told_first (work_in w.actors s)) (live w.history)) s i text → Stands asks
-      say_stands asks asked rest next lawful = stands asks (said_in w s i text) saying_is (said_keep starts says proper writes last w is s there rest i text next lawful) (said_asked asks w asked s seated (resting rest) i text)
+      say_stands asks asked rest next lawful = stands asks (said_in w s i text) saying_is (said_keep starts says proper writes last w is s there rest i text next lawful) (said_asked asks w asked s seated (ends_may starts says w is s) i text)
 
     -- ---- a task
 

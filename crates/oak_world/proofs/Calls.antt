@@ -31,6 +31,7 @@ use Rattle.oak_world.specs.declared.actor.Actor.{Actor}
 use Rattle.oak_step.specs.declared.work.Work.{Work}
 use Rattle.oak_step.specs.declared.work.Work.TheVariants as work
 use Rattle.oak_tidy.specs.Replies.{all_parts}
+use Rattle.oak_tidy.specs.Tidyings.{CanTidy}
 use Rattle.oak_world.specs.Acting.{Acts, ActsOnAll, ActsOnOne, CanAct, is_tidying}
 use Rattle.oak_world.specs.Kept.{ArePlaced, IsPlaced, IsWorld, May, Scene, scene}
 use Rattle.oak_world.specs.Looks.{IsLooking}
@@ -39,11 +40,11 @@ use Rattle.oak_saves.specs.Saves.{Parts, parts}
 use Rattle.oak_world.specs.Steps.{MakesState, StepsIn, attached_after, reads_after}
 use Rattle.oak_world.specs.Seen.{shown_at}
 use Rattle.oak_world.specs.Worlds.{ActorState, IsAtRest, WorldOf, actor_in, idle, live, node_in, once_looked, parts_at, reply_events, said_in, shown_actor, shown_world, state_of, with_formers, with_parts, with_reply, with_work, work_in}
-use Rattle.oak_world.proofs.Keeping.{can_by, node, seat, step_keeps, step_seen}
+use Rattle.oak_world.proofs.Keeping.{can_by, node, seat, step_keeps, step_seen, tidied_looks}
 use Rattle.oak_world.proofs.Looking.{SamePrevious, running_same}
 use Rattle.oak_world.proofs.Placing.{own_places, placed_set}
-use Rattle.oak_world.proofs.States.{LeavesLooks}
-use Rattle.oak_world.proofs.Stepping.{makes}
+use Rattle.oak_world.proofs.States.{LeavesLooks, memory_same}
+use Rattle.oak_world.proofs.Stepping.{makes, tidies_make}
 use Rattle.oak_world.proofs.Sweepers.{learns_alone}
 
 -- a session's seat is set, and so is what is seen of it
@@ -125,7 +126,7 @@ module _ (starts : Starts) (says : Says) (proper : StartsProper starts) (writes 
       )
 
       by : (v : Work) → work_in w.actors s ≡ v → (IsAtRest v → ⊥) → May starts seen s v → needed v ≤ j.events.places → CanAct s k ms j.events.places v
-      by (work.Tidy x) at busy may low = absurd may
+      by (work.Tidy x) at busy may low = inl (x, refl, subst (λ (n : ℕ). CanTidy n x) (sym counted) may.1)
       by (work.Told e) at busy may low = absurd (busy tt)
       by work.Rest at busy may low = absurd (busy tt)
       by work.Login at busy may low = alone work.Login refl at busy may low
@@ -179,9 +180,15 @@ module _ (starts : Starts) (says : Says) (proper : StartsProper starts) (writes 
               (subst (λ (p : Parts). Steps s k p (work_in w.actors s) (parts u m.0 es.list) b.work o) (sym parts_are)
               (subst (λ (v : Work). Steps s k (parts t (memory_at ms k) j.events.list) v (parts u m.0 es.list) b.work o) (sym work_is) m.2))
 
-      -- no session splits or collects yet
+      -- over all memories, which stay
       all_makes : ActsOnAll s (all_parts t ms j.events.list) a.work (all_parts u ns es.list) b.work o → Makes now
-      all_makes m = absurd (subst (λ (v : Work). May starts seen s v) (work_is ∙ m.1) (is.may s))
+      all_makes m =
+          subst Makes (same_world (memory_at ms k) (m.4 ∙ sym (memory_same ms k)))
+          (subst (λ (v : Work). MakesState s (state_of w) v (state_of (with_parts w s (parts u (memory_at ms k) es.list) (shown_actor b))) b.work o) (sym at)
+          (tidies_make w s seated (parts u (memory_at ms k) es.list) b.work (shown_actor b) refl m.0 at (ap (memory_at ms) (sym node_is)) (tidied_looks starts says proper writes last w is s there m.0 at) m.2 m.3 j.events.list (sym (reverse-reverse j.events.list)) ns m.4 o m.5))
+        where
+          at : work_in w.actors s ≡ work.Tidy m.0
+          at = work_is ∙ m.1
 
       makes_now : Makes now
       makes_now = elim made [ inl m ↦ all_makes m | inr m ↦ one_makes m ]

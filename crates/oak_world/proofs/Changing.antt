@@ -64,6 +64,11 @@ pub record IsPlainChange (t u : Table) : Type 0 where
   pub previous : SamePrevious t u
   pub nodes : SameNodes t u ⊎ IsChangedMain t u
 
+-- a step changes the documents plainly, and tells of no former ones
+pub record IsPlainly (w u : State) : Type 0 where
+  pub change : IsPlainChange w.table u.table
+  pub formers : u.formers ≡ w.formers
+
 -- ---- changes by splits and collections
 
 -- one previous document comes or goes, which no node lists
@@ -186,11 +191,18 @@ module _ (w : State) (s : ℕ) (x : Running) where
   last_formers = lasted_formers _
 
 module _ (w u : State) where
-  pub plainly : IsPlainChange w.table u.table → u.formers ≡ w.formers → Changes w u
-  plainly change same = inl (inl change, same)
+  pub plainly : IsPlainChange w.table u.table → u.formers ≡ w.formers → IsPlainly w u
+  plainly change same = record { change = change; formers = same }
+
+  pub plain_changes : IsPlainly w u → Changes w u
+  plain_changes plain = inl (inl plain.change, plain.formers)
+
+  -- the documents stay
+  pub untouched : u.table ≡ w.table → u.formers ≡ w.formers → IsPlainly w u
+  untouched same told = plainly (subst (IsPlainChange w.table) (sym same) (still_plain w.table)) told
 
   pub unchanged : u.table ≡ w.table → u.formers ≡ w.formers → Changes w u
-  unchanged same told = plainly (subst (IsPlainChange w.table) (sym same) (still_plain w.table)) told
+  unchanged same told = plain_changes (untouched same told)
 
 -- ---- each previous document is listed once
 

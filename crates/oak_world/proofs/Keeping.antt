@@ -3,6 +3,7 @@ use mathlib.Core.Bool.{false≢true}
 use Rattle.std.proofs.Common.{◌+◌, ◌≡◌, ◌≢◌, ◌↔◌, ℕ, zero, suc, ◌^◌, ◌<◌, ◌≤◌, Bool, true, false, ◌||◌, cond, Option, Some, None, List, [], ◌∷◌, ◌++◌, length, map, is_some, refl, sym, ap, subst, ◌∙◌, arith}
 use Rattle.std.specs.Prelude.{◌==◌, slice_get, slice_set, IsSome}
 use Rattle.std.specs.Borrow.{GName}
+use Rattle.std.specs.List.{list_any}
 use Rattle.std.proofs.lemmas.List.{length-set}
 use Rattle.std.proofs.lemmas.Option.{slice_get_within}
 use Rattle.jr_path.specs.Lists.{Text}
@@ -17,27 +18,36 @@ use Rattle.oak_commit.specs.declared.outcome.CommitEnd.{CommitEnd}
 use Rattle.oak_commit.specs.declared.outcome.CommitEnd.TheVariants as end
 use Rattle.oak_commit.specs.declared.stage.Stage.{Stage}
 use Rattle.oak_commit.specs.declared.stage.Stage.TheVariants as stage
+use Rattle.oak_machine.specs.declared.event.Event.{Event}
 use Rattle.oak_machine.specs.declared.event.Event.TheVariants as event
 use Rattle.oak_machine.specs.History.{History, Past}
-use Rattle.oak_machine.specs.Laws.{AreOthers, Says, Starts, StartsProper, StartsWrite, after}
-use Rattle.oak_machine.specs.Runs.{IsNode, IsRun, StartsLast}
+use Rattle.oak_machine.specs.Laws.{AreOthers, Says, Starts, StartsProper, StartsWrite, after, is_event_of}
+use Rattle.oak_machine.specs.Runs.{IsNode, IsRun, StartsLast, is_task_end}
 use Rattle.oak_machine.specs.Sessions.{is_attached, is_stopped, next_index}
 use Rattle.oak_node.specs.Heads.{HasEnded, IsInFlight, known_time}
 use Rattle.oak_node.specs.Pins.{pin_of}
 use Rattle.oak_read.specs.declared.reader.Reader.{Reader}
+use Rattle.oak_prev.specs.Splitting as splitting
 use Rattle.oak_read.specs.Reading.{IsTable, children_reader, node_reader}
 use Rattle.core_clash.specs.Sessions.{Running}
 use Rattle.core_heads.proofs.Runs.{sound_run}
+use Rattle.core_keep.specs.Formers.{Formers}
 use Rattle.core_nodes.specs.Nodes.{cursor_owner}
 use Rattle.core_nodes.proofs.Pasts.{ended_was_drawn}
 use Rattle.core_nodes.proofs.Waits.{has_ended}
+use Rattle.core_tidy.specs.Steps.{IsTidyStep, after_tidied, told_of}
+use Rattle.core_tidy.specs.Tidying.{AreTidying, reader_of}
+use Rattle.core_tidy.proofs.Beginning.{begins_collection, begins_split, told_tidy}
+use Rattle.core_tidy.proofs.Stepping.{tidying_steps}
+use Rattle.core_tidy.proofs.Whole.{other_session}
 use Rattle.core_world.specs.Kept.{IsKept}
 use Rattle.core_world.specs.States.{State, actor_pin, memory_of, reader_pin, with_session}
 use Rattle.core_world.specs.Steps.{with_observer, with_reader}
 use Rattle.core_world.proofs.Flights.{other_number, same_number}
 use Rattle.core_world.proofs.Lives.{its_node, on_node}
+use Rattle.core_world.proofs.Rising.{said_rises}
 use Rattle.core_world.proofs.Truths.{due_drawn, flies_there, pin_there, time_known}
-use Rattle.core_world.proofs.Whole.{list_whole, load_whole, notice_whole, said_whole}
+use Rattle.core_world.proofs.Whole.{gone_whole, layers_of, list_whole, load_whole, notice_whole, said_whole, task_end_whole}
 use Rattle.oak_port.specs.declared.task.StepOut.{StepOut}
 use Rattle.oak_port.specs.declared.task.Task.{Task}
 use Rattle.oak_port.specs.declared.task.Task.TheVariants as task
@@ -53,34 +63,44 @@ use Rattle.oak_sync.specs.declared.back_read.BackRead.{BackRead}
 use Rattle.oak_sync.specs.declared.stage.Stage.{Stage as Syncing}
 use Rattle.oak_sync.specs.declared.stage.Stage.TheVariants as syncing
 use Rattle.oak_step.proofs.Backs.{publishing_at}
+use Rattle.oak_gc.specs.Collecting as collects
 use Rattle.oak_gc.specs.Stages as collecting
 use Rattle.oak_gc.specs.declared.stage.Stage.{Stage as Collects}
 use Rattle.oak_gc.specs.declared.stage.Stage.TheVariants as collected
+use Rattle.oak_tidy.specs.declared.tidying.Tidying.{Tidying}
 use Rattle.oak_tidy.specs.declared.tidying.Tidying.TheVariants as tidying
+use Rattle.oak_tidy.specs.Replies.{table_after}
+use Rattle.oak_tidy.specs.Tidyings.{CanTidy, tidying_ask}
+use Rattle.oak_tidy.proofs.Reading.{collections_begin, splits_begin}
 use Rattle.jr_path.specs.declared.path.Path.{Path}
 use Rattle.core_watch.specs.Standing.{path_read}
 use Rattle.oak_step.specs.declared.upkeep.Upkeep.{Upkeep}
 use Rattle.oak_step.specs.declared.upkeep.Upkeep.TheVariants as upkeep
 use Rattle.oak_world.proofs.Ahead.{still_due}
 use Rattle.oak_world.proofs.Changing.{Changes, changes_once, unchanged}
-use Rattle.oak_world.proofs.Lookers.{AreCopies, looking_lasts, once_lasts}
+use Rattle.oak_world.proofs.Ends.{end_attached, end_next, end_others, end_unstopped, ends_may, rest_readers, rest_running, rest_tidies, tell_follows}
+use Rattle.oak_world.proofs.Lookers.{AreCopies, looking_lasts, once_lasts, running_lasts}
 use Rattle.oak_world.proofs.Looking.{once_revision}
+use Rattle.oak_world.specs.Ends.{MayTell}
 use Rattle.oak_world.specs.Kept.{IsWorld, May, MayKeepUp, MayReadOn, MaySweepOn, Scene, scene}
 use Rattle.oak_world.specs.Looks.{IsLookingOn}
 use Rattle.oak_step.specs.Parts.{CanKeepUp, CanStep, IsBackReading, needed}
 use Rattle.oak_world.specs.Seen.{no_seat, seat_of, shown_at, shown_by, shown_collect, shown_read, shown_sweep, shown_upkeep, shown_work, task_of}
 use Rattle.oak_step.specs.Works.{Begins, CanBegin, kind_due, kind_of_stage}
 use Rattle.oak_world.specs.Acting.{is_tidying}
-use Rattle.oak_world.specs.Steps.{IsPresent, StepsIn, attached_after}
-use Rattle.oak_world.specs.Worlds.{ActorState, IsAtRest, Story, WorldOf, actor_in, live, node_in, observing_of, once_looked, reading_of, reply_events, running_as, running_of, said_in, state_of, state_with, told_first, with_formers, with_reply, with_work, work_in}
-use Rattle.oak_world.proofs.States.{SameReaders, actor_other, actor_set, readers_same, readers_set, same_readers, session_same, session_set, with_readers}
+use Rattle.oak_world.specs.Steps.{IsPresent, MakesState, StepsIn, attached_after}
+use Rattle.oak_world.specs.Worlds.{ActorState, IsAtRest, Story, WorldOf, actor_in, live, node_in, observing_of, once_looked, reading_of, reply_events, running_as, running_of, said_in, state_of, state_with, tidying_of, told_first, with_formers, with_reply, with_work, work_in}
+use Rattle.oak_world.proofs.States.{LeavesLooks, SameReaders, actor_other, actor_set, readers_same, readers_set, same_readers, session_same, session_set, with_readers}
 use Rattle.oak_saves.proofs.Stages.{done_stage}
 use Rattle.oak_world.proofs.Others.{attached_left}
 use Rattle.oak_world.proofs.Pinning.{actor_there}
+use Rattle.oak_world.proofs.Plainly.{plainly_tidies}
+use Rattle.oak_world.proofs.Standing.{still_tidies}
 use Rattle.oak_world.proofs.Staying.{may_last}
-use Rattle.oak_world.proofs.StepsOf.{IsStepOf, none_stopped}
+use Rattle.oak_world.proofs.StepsOf.{IsPlainStepOf, IsStepOf, flipped, holds_still, none_stopped, plain_step}
 use Rattle.oak_world.proofs.Questions.{reads_as_due, splits_as_due}
 use Rattle.oak_world.proofs.Telling.{makes_told}
+use Rattle.oak_world.proofs.TidiesOf.{tidies_step, tidy_changes}
 use Rattle.oak_world.proofs.Walking.{any_step}
 
 -- ---- the seats of the others
@@ -317,9 +337,24 @@ begins_shown n pin (task.Split p) v h = ap shown_work h.3
 begins_shown n pin task.Collect v h = ap shown_work h.1
 begins_shown n pin _ v h = absurd h
 
+-- a session that neither splits nor collects tidies nothing
+none_tidied : (v : Work) → is_tidying v ≡ false → tidying_of v ≡ None
+none_tidied (work.Tidy x) plain = absurd (false≢true (sym plain))
+none_tidied _ plain = refl
+
+-- a step of a session, in a world where so much is told of former documents then: what it owes, and all that tidies goes on
+pub record IsKeptStep (starts : Starts) (says : Says) (s : ℕ) (w : State) (v : Work) (tidies : ℕ → Option Tidying) (u : State) (x : Work) (o : StepOut) : Type 0 where
+  pub formers : Formers
+  pub step : IsStepOf starts says s w v (with_formers u formers) x o
+  pub tidying : AreTidying (with_formers u formers) (with_session tidies s (tidying_of x))
+
 module _ (starts : Starts) (says : Says) (proper : StartsProper starts) (writes : StartsWrite starts) (last : StartsLast starts says) {L : Type 0} (w : WorldOf L) (is : IsWorld starts says w) (s : ℕ) (there : is_some (slice_get w.history.sessions s) ≡ true) where
   abbrev does : Work
   does = work_in w.actors s
+
+  -- the splits and collections of the sessions
+  abbrev tidies : ℕ → Option Tidying
+  tidies q = tidying_of (work_in w.actors q)
 
   -- the state, with what is told of former documents
   abbrev state : State
@@ -409,11 +444,27 @@ module _ (starts : Starts) (says : Says) (proper : StartsProper starts) (writes 
   can_by (work.Upkeep u) busy plain at may places kept short = can_keep_up u may.0 may.1
   can_by (work.Move r) busy plain at may places kept short = record { ended = moved_ended r may; pinned = come_pinned may.0; place = kept }
 
+  -- ---- a split or a collection
+
+  -- it may do what it does
+  tidying_may : (x : Tidying) → does ≡ work.Tidy x → May starts seen s (work.Tidy x)
+  tidying_may x at = subst (λ (v : Work). May starts seen s v) at (is.may s)
+
+  -- over the documents after its step the committers stand as they stood
+  pub tidied_looks : (x : Tidying) → does ≡ work.Tidy x → LeavesLooks w s seat (table_after w.table (tidying_ask x))
+  tidied_looks x at q =
+      running_lasts starts says state is.kept (told_of (after_tidied state s x) stepped.formers) (tidy_changes starts says proper state is.kept tidies is.tidying s x stepped) stepped.kept.sessions.readers.told.copies q (work_in w.actors q) refl (λ c at. looks_of q c at)
+    where
+      stepped : IsTidyStep starts says state tidies s x
+      stepped = tidying_steps starts says proper state is.kept tidies is.tidying is.table s x (ap tidying_of at) (tidying_may x at).1
+
+  -- ---- a task that begins
+
   -- the session may be told to do the task
   pub can_begin : (t : Task) → MayBegin starts (live w.history) s t → CanBegin (actor_pin (state_of w) s) t
   can_begin (task.Load p) may = actor_there starts says proper state is.kept s there is.unstopped may.0 may.1
   can_begin (task.List p) may = actor_there starts says proper state is.kept s there is.unstopped may.0 may.1
-  can_begin (task.Split p) may = absurd may
+  can_begin (task.Split p) may = actor_there starts says proper state is.kept s there is.unstopped may.0 may.1
   can_begin (task.Changes since) may = actor_there starts says proper state is.kept s there is.unstopped may.0 may.1
   can_begin (task.Stop k) may = may
   can_begin (task.Recover k) may = may
@@ -425,17 +476,52 @@ module _ (starts : Starts) (says : Says) (proper : StartsProper starts) (writes 
   few_sessions : slice_get w.history.sessions (cursor_owner s) ≡ None
   few_sessions = none_behind (cursor_owner s) w.history.sessions (let few : length w.history.sessions ≤ 64 = is.few in omega (arith, few))
 
-  -- what the session does it may do, and so it is neither a split nor a collection
-  pub plain : is_tidying (work_in w.actors s) ≡ false
-  plain = by (work_in w.actors s) (is.may s)
-    where
-      by : (v : Work) → May starts seen s v → is_tidying v ≡ false
-      by (work.Tidy x) may = absurd may
-      by _ may = refl
-
   module _ (u : WorldOf L) (o : StepOut) (m : StepsIn w s u o) where
-    pub step_is : IsStepOf starts says s state (work_in w.actors s) (with_formers (state_of u) is.formers) m.does o
-    step_is = any_step starts says proper writes state is.kept s there few_sessions is.unstopped is.once is.table (work_in w.actors s) plain refl refl refl (is.may s) (with_formers (state_of u) is.formers) m.does o (makes_told is.formers s (state_of w) (state_of u) (work_in w.actors s) m.does o m.makes)
+    abbrev Keeps : Type 0
+    Keeps = IsKeptStep starts says s state does tidies (state_of u) m.does o
+
+    -- what the others read stays
+    readings : (q : ℕ) → (q == s) ≡ false → (state_of u).reading q ≡ (state_of w).reading q
+    readings q apart = ap (λ (a : ActorState). reading_of a.work) (others_are w s seat u.actors _ m.actors q apart)
+
+    -- the step, from the state with what is told of former documents
+    made : MakesState s state does (with_formers (state_of u) is.formers) m.does o
+    made = makes_told is.formers s (state_of w) (state_of u) does m.does o m.makes
+
+    -- of a session that neither splits nor collects
+    plainly : is_tidying does ≡ false → Keeps
+    plainly plain = record {
+      formers = is.formers;
+      step = plain_step starts says s state does (with_formers (state_of u) is.formers) m.does o its;
+      tidying = plainly_tidies starts says proper state (with_formers (state_of u) is.formers) is.kept tidies is.tidying s does m.does o plain (none_tidied does plain) its made readings;
+    }
+      where
+        its : IsPlainStepOf starts says s state does (with_formers (state_of u) is.formers) m.does o
+        its = any_step starts says proper writes state is.kept s there few_sessions is.unstopped is.once is.table does plain refl refl refl (is.may s) (with_formers (state_of u) is.formers) m.does o made
+
+    -- of one that does
+    tidily : (x : Tidying) → does ≡ work.Tidy x → Keeps
+    tidily x at =
+        let t = tidies_step starts says proper state is.kept tidies is.tidying is.table s x (ap tidying_of at) (tidying_may x at).1 (with_formers (state_of u) is.formers) m.does o (subst (λ (v : Work). MakesState s state v (with_formers (state_of u) is.formers) m.does o) at made) in
+        record {
+          formers = t.formers;
+          step = subst (λ (v : Work). IsStepOf starts says s state v (with_formers (state_of u) t.formers) m.does o) (sym at) t.step;
+          tidying = t.tidying;
+        }
+
+    pub steps : Keeps
+    steps = by does refl
+      where
+        by : (v : Work) → does ≡ v → Keeps
+        by (work.Tidy x) at = tidily x at
+        by _ at = plainly (ap is_tidying at)
+
+    -- the state then, with what is told of former documents
+    abbrev next : State
+    next = with_formers (state_of u) steps.formers
+
+    pub step_is : IsStepOf starts says s state does next m.does o
+    step_is = steps.step
 
     pub grown : (live u.history) ≡ after step_is.own (live w.history)
     grown = step_is.grown
@@ -446,12 +532,15 @@ module _ (starts : Starts) (says : Says) (proper : StartsProper starts) (writes 
     pub does_now : work_in u.actors s ≡ m.does
     does_now = ap (λ (a : ActorState). a.work) (set_is w s seat u.actors _ m.actors)
 
-    may_by : (q : ℕ) (b : Bool) → (q == s) ≡ b → May starts (scene u.table is.formers (live u.history)) q (work_in u.actors q)
-    may_by q true same = subst (λ (n : ℕ). May starts (scene u.table is.formers (live u.history)) n (work_in u.actors n)) (sym (same_number q s same))
-        (subst (λ (h : History). May starts (scene u.table is.formers h) s (work_in u.actors s)) (sym grown) (subst (λ (v : Work). May starts (scene u.table is.formers (after step_is.own (live w.history))) s v) (sym does_now) step_is.may))
-    may_by q false apart = subst (λ (h : History). May starts (scene u.table is.formers h) q (work_in u.actors q)) (sym grown)
-        (subst (λ (v : Work). May starts (scene u.table is.formers (after step_is.own (live w.history))) q v) (sym (ap (λ (a : ActorState). a.work) (others_are w s seat u.actors _ m.actors q apart)))
-        (others_may (with_formers (state_of u) is.formers) step_is.changes step_is.kept.sessions.readers.told.copies q step_is.own (step_is.apart q apart) run_now))
+    tidies_now : (λ q. tidying_of (work_in u.actors q)) ≡ with_session tidies s (tidying_of m.does)
+    tidies_now = ap (λ (actors : List ActorState). λ (q : ℕ). tidying_of (work_in actors q)) m.actors ∙ session_set (λ q v. tidying_of v) w.actors s _ seat
+
+    may_by : (q : ℕ) (b : Bool) → (q == s) ≡ b → May starts (scene u.table steps.formers (live u.history)) q (work_in u.actors q)
+    may_by q true same = subst (λ (n : ℕ). May starts (scene u.table steps.formers (live u.history)) n (work_in u.actors n)) (sym (same_number q s same))
+        (subst (λ (h : History). May starts (scene u.table steps.formers h) s (work_in u.actors s)) (sym grown) (subst (λ (v : Work). May starts (scene u.table steps.formers (after step_is.own (live w.history))) s v) (sym does_now) step_is.may))
+    may_by q false apart = subst (λ (h : History). May starts (scene u.table steps.formers h) q (work_in u.actors q)) (sym grown)
+        (subst (λ (v : Work). May starts (scene u.table steps.formers (after step_is.own (live w.history))) q v) (sym (ap (λ (a : ActorState). a.work) (others_are w s seat u.actors _ m.actors q apart)))
+        (others_may next step_is.changes step_is.kept.sessions.readers.told.copies q step_is.own (step_is.apart q apart) run_now))
 
     -- each session is attached as the journal tells
     attached_by : (q : ℕ) (b : Bool) → (q == s) ≡ b → (actor_in u.actors q).attached ≡ is_attached (step_is.own ++ w.history.past) q
@@ -461,15 +550,16 @@ module _ (starts : Starts) (says : Says) (proper : StartsProper starts) (writes 
 
     pub step_keeps : IsTable u.table.documents → IsWorld starts says u
     step_keeps table = record {
-      formers = is.formers;
+      formers = steps.formers;
       kept = step_is.kept;
       table = table;
-      once = changes_once starts says state is.kept (with_formers (state_of u) is.formers) step_is.changes is.once;
+      once = changes_once starts says state is.kept next step_is.changes is.once;
       few = subst (λ (h : History). length h.sessions ≤ 64) (sym grown) is.few;
       attached = λ q. attached_by q (q == s) refl ∙ ap (λ (h : History). is_attached h.past q) (sym grown);
       unstopped = λ k. subst (λ (h : History). is_stopped h.past k ≡ false) (sym grown) (step_is.unstopped k (is.unstopped k));
       seats = ap length m.actors ∙ (length-set w.actors s _ ∙ (is.seats ∙ sym (ap (λ (h : History). length h.sessions) grown)));
       may = λ q. may_by q (q == s) refl;
+      tidying = subst (λ (does : ℕ → Option Tidying). AreTidying next does) (sym tidies_now) steps.tidying;
     }
 
     pub step_seen : (name : GName) → StepSeen starts says (shown_at name w s) (shown_at name u s) o
@@ -481,7 +571,7 @@ module _ (starts : Starts) (says : Says) (proper : StartsProper starts) (writes 
       of_step = step_is.of_step;
       as_due = step_is.as_due;
       reads_due = reads_as_due s (state_of w) (state_of u) step_is.own (ap (λ (h : History). h.past) grown) (work_in w.actors s) m.does o m.makes;
-      splits_due = splits_as_due s (state_of w) (state_of u) step_is.own (ap (λ (h : History). h.past) grown) (work_in w.actors s) m.does o plain m.makes;
+      splits_due = splits_as_due s (state_of w) (state_of u) step_is.own (ap (λ (h : History). h.past) grown) (work_in w.actors s) m.does o m.makes;
       session = refl;
       room = ap (λ (a : ActorState). a.reply) (set_is w s seat u.actors _ m.actors);
       beside = beside_same w s seat name u _ m.actors;
@@ -491,10 +581,10 @@ module _ (starts : Starts) (says : Says) (proper : StartsProper starts) (writes 
   -- ---- other calls
 
   -- a session does something else, and no event is added
-  set_keeps : (a : ActorState) → a.attached ≡ (actor_in w.actors s).attached → IsKept starts says (with_formers (state_with w.history w.table w.memories (slice_set w.actors s a)) is.formers) → May starts seen s a.work → IsWorld starts says (record w { actors = slice_set w.actors s a })
-  set_keeps a same_attached kept may = record {
+  set_keeps : (a : ActorState) → a.attached ≡ (actor_in w.actors s).attached → (x : State) → state_with w.history w.table w.memories (slice_set w.actors s a) ≡ x → IsKept starts says (with_formers x is.formers) → AreTidying (with_formers x is.formers) (with_session tidies s (tidying_of a.work)) → May starts seen s a.work → IsWorld starts says (record w { actors = slice_set w.actors s a })
+  set_keeps a same_attached x same kept goes may = record {
     formers = is.formers;
-    kept = kept;
+    kept = subst (λ (t : State). IsKept starts says (with_formers t is.formers)) (sym same) kept;
     table = is.table;
     once = is.once;
     few = is.few;
@@ -502,6 +592,9 @@ module _ (starts : Starts) (says : Says) (proper : StartsProper starts) (writes 
     unstopped = is.unstopped;
     seats = length-set w.actors s a ∙ is.seats;
     may = λ q. by q (q == s) refl;
+    tidying =
+        subst (λ (does : ℕ → Option Tidying). AreTidying (with_formers (state_with w.history w.table w.memories (slice_set w.actors s a)) is.formers) does) (sym (session_set (λ q v. tidying_of v) w.actors s a seat))
+        (subst (λ (t : State). AreTidying (with_formers t is.formers) (with_session tidies s (tidying_of a.work))) (sym same) goes);
   }
     where
       attached_too : (q : ℕ) (b : Bool) → (q == s) ≡ b → (actor_in (slice_set w.actors s a) q).attached ≡ is_attached w.history.past q
@@ -532,39 +625,62 @@ module _ (starts : Starts) (says : Says) (proper : StartsProper starts) (writes 
   same_state a running same = idle_state a running ∙ readers_same w s seat (state_of w) a.work same
 
   pub reply_keeps : (room : Option ℕ) → IsWorld starts says (with_reply w s room)
-  reply_keeps room = set_keeps (record (actor_in w.actors s) { reply = room }) refl (subst (λ (t : State). IsKept starts says (with_formers t is.formers)) (sym (same_state (record (actor_in w.actors s) { reply = room }) refl (refl, refl))) is.kept) (is.may s)
+  reply_keeps room =
+      set_keeps (record (actor_in w.actors s) { reply = room }) refl (state_of w) (same_state (record (actor_in w.actors s) { reply = room }) refl (refl, refl)) is.kept
+      (subst (λ (does : ℕ → Option Tidying). AreTidying state does) (sym (session_same tidies s (tidying_of does) refl)) is.tidying) (is.may s)
 
   module _ (idle : work_in w.actors s ≡ work.Rest) where
     abbrev begun : Work → ActorState
     begun v = record (actor_in w.actors s) { work = v; began = length w.history.past }
 
+    none : tidies s ≡ None
+    none = ap tidying_of idle
+
+    -- what tidies goes on, where the session tidies nothing then
+    goes_on : (x : State) → AreTidying (with_formers x is.formers) tidies → AreTidying (with_formers x is.formers) (with_session tidies s None)
+    goes_on x goes = subst (λ (does : ℕ → Option Tidying). AreTidying (with_formers x is.formers) does) (sym (session_same tidies s None none)) goes
+
     -- a task that reads nothing
-    quiet_keeps : (v : Work) → running_of w.table s v ≡ None → SameReaders work.Rest v → May starts seen s v → IsWorld starts says (with_work w s v)
-    quiet_keeps v running same may = set_keeps (begun v) refl (subst (λ (t : State). IsKept starts says (with_formers t is.formers)) (sym (same_state (begun v) (ap (running_of w.table s) idle ∙ sym running) (same_readers (work_in w.actors s) v work.Rest v idle refl same))) is.kept) may
+    quiet_keeps : (v : Work) → running_of w.table s v ≡ None → SameReaders work.Rest v → tidying_of v ≡ None → May starts seen s v → IsWorld starts says (with_work w s v)
+    quiet_keeps v running same tidied may =
+        set_keeps (begun v) refl (state_of w) (same_state (begun v) (ap (running_of w.table s) idle ∙ sym running) (same_readers (work_in w.actors s) v work.Rest v idle refl same)) is.kept
+        (subst (λ (o : Option Tidying). AreTidying state (with_session tidies s o)) (sym tidied) (goes_on (state_of w) is.tidying)) may
+
+    -- what others read stays
+    others_read : (r : Option Reader) (q : ℕ) → (q == s) ≡ false → AreOthers q [] w.history.past × (with_session (state_of w).reading s r q ≡ (state_of w).reading q)
+    others_read r q apart = (refl, other_session (state_of w).reading s q r apart)
 
     reads_keeps : (r : Reader) → IsKept starts says (with_reader state s (Some r)) → IsPresent (live w.history) s → IsWorld starts says (with_work w s (work.Read r))
-    reads_keeps r kept come = set_keeps (begun (work.Read r)) refl (subst (λ (t : State). IsKept starts says (with_formers t is.formers)) (sym (reader_state (begun (work.Read r)) (ap (running_of w.table s) idle) (ap observing_of idle))) kept) come
+    reads_keeps r kept come =
+        set_keeps (begun (work.Read r)) refl (with_reader (state_of w) s (Some r)) (reader_state (begun (work.Read r)) (ap (running_of w.table s) idle) (ap observing_of idle)) kept
+        (goes_on (with_reader (state_of w) s (Some r)) (still_tidies starts says proper state is.kept tidies is.tidying s none (with_reader state s (Some r)) kept [] refl refl refl refl refl refl (holds_still state) (others_read (Some r)))) come
 
     observes_keeps : (r : ChangesReader) → IsKept starts says (with_observer state s (Some r)) → IsPresent (live w.history) s → is_attached w.history.past s ≡ false → IsWorld starts says (with_work w s (work.Changes r))
-    observes_keeps r kept come detached = set_keeps (begun (work.Changes r)) refl (subst (λ (t : State). IsKept starts says (with_formers t is.formers)) (sym (observer_state (begun (work.Changes r)) (ap (running_of w.table s) idle) (ap reading_of idle))) kept) (come, detached)
+    observes_keeps r kept come detached =
+        set_keeps (begun (work.Changes r)) refl (with_observer (state_of w) s (Some r)) (observer_state (begun (work.Changes r)) (ap (running_of w.table s) idle) (ap reading_of idle)) kept
+        (goes_on (with_observer (state_of w) s (Some r)) (still_tidies starts says proper state is.kept tidies is.tidying s none (with_observer state s (Some r)) kept [] refl refl refl refl refl refl (holds_still state) (λ q apart. (refl, refl)))) (come, detached)
+
+    -- a split or a collection begins
+    tidies_keeps : (y : Tidying) → IsKept starts says (with_reader state s (reader_of y)) → AreTidying (with_reader state s (reader_of y)) (with_session tidies s (Some y)) → IsPresent (live w.history) s → CanTidy w.history.clusters y → IsWorld starts says (with_work w s (work.Tidy y))
+    tidies_keeps y kept goes come can = set_keeps (begun (work.Tidy y)) refl (with_reader (state_of w) s (reader_of y)) (reader_state (begun (work.Tidy y)) (ap (running_of w.table s) idle) (ap observing_of idle)) kept goes (come, can)
 
     -- a session that isn't attached reads at its own pin
     own_pin : (pin : Pin) → is_attached w.history.past s ≡ false → actor_pin (state_of w) s ≡ Some pin → pin_of (memory_of (state_of w) s) s ≡ Some pin
     own_pin pin detached has = sym (ap (λ (b : Bool). cond b (reader_pin w.table s) (pin_of (memory_of (state_of w) s) s)) detached) ∙ has
 
     upkeep_keeps : (u : Upkeep) (v : Work) → v ≡ work.Upkeep u → IsPresent (live w.history) s → MayKeepUp (live w.history) s u → IsWorld starts says (with_work w s v)
-    upkeep_keeps u v is come may = subst (λ (x : Work). IsWorld starts says (with_work w s x)) (sym is) (quiet_keeps (work.Upkeep u) refl (refl, refl) (come, may))
+    upkeep_keeps u v is come may = subst (λ (x : Work). IsWorld starts says (with_work w s x)) (sym is) (quiet_keeps (work.Upkeep u) refl (refl, refl) refl (come, may))
 
     pub start_keeps : (t : Task) (v : Work) → MayBegin starts (live w.history) s t → Begins w.history.clusters (actor_pin (state_of w) s) t v → IsWorld starts says (with_work w s v)
-    start_keeps task.Login v may h = subst (λ (x : Work). IsWorld starts says (with_work w s x)) (sym h) (quiet_keeps work.Login refl (refl, refl) may)
-    start_keeps task.End v may h = subst (λ (x : Work). IsWorld starts says (with_work w s x)) (sym h) (quiet_keeps work.End refl (refl, refl) (record { login = may.0; stays = may.1 }))
-    start_keeps task.Refresh v may h = subst (λ (x : Work). IsWorld starts says (with_work w s x)) (sym h) (quiet_keeps work.Refresh refl (refl, refl) (record { login = may.0; stays = may.1 }, may.2))
+    start_keeps task.Login v may h = subst (λ (x : Work). IsWorld starts says (with_work w s x)) (sym h) (quiet_keeps work.Login refl (refl, refl) refl may)
+    start_keeps task.End v may h = subst (λ (x : Work). IsWorld starts says (with_work w s x)) (sym h) (quiet_keeps work.End refl (refl, refl) refl (record { login = may.0; stays = may.1 }))
+    start_keeps task.Refresh v may h = subst (λ (x : Work). IsWorld starts says (with_work w s x)) (sym h) (quiet_keeps work.Refresh refl (refl, refl) refl (record { login = may.0; stays = may.1 }, may.2))
     start_keeps (task.Load p) v may h = subst (λ (x : Work). IsWorld starts says (with_work w s x)) (sym h.3) (reads_keeps (node_reader h.0 h.1 p) (load_whole starts says proper state is.kept s h.0 h.1 p (none_stopped w.history.sessions w.history.past is.unstopped s) may.0 may.1 h.2) (record { login = may.0; stays = may.1 }))
     start_keeps (task.List p) v may h = subst (λ (x : Work). IsWorld starts says (with_work w s x)) (sym h.3) (reads_keeps (children_reader h.0 h.1 p) (list_whole starts says proper state is.kept s h.0 h.1 p (none_stopped w.history.sessions w.history.past is.unstopped s) may.0 may.1 h.2) (record { login = may.0; stays = may.1 }))
     start_keeps (task.Changes since) v may h =
         subst (λ (x : Work). IsWorld starts says (with_work w s x)) (sym h.3)
         (observes_keeps (changes_reader h.0 since h.1) (notice_whole starts says proper state is.kept s h.0 since h.1 (none_stopped w.history.sessions w.history.past is.unstopped s) few_sessions may.0 may.1 may.3 (own_pin h.1 may.2 h.2)) (record { login = may.0; stays = may.1 }) may.2)
-    start_keeps (task.Commit edit marks) v may h = subst (λ (x : Work). IsWorld starts says (with_work w s x)) (sym h) (quiet_keeps (work.Plan edit marks) refl (refl, refl) (record { login = may.0; stays = may.1 }, may.2, may.3))
+    start_keeps (task.Commit edit marks) v may h = subst (λ (x : Work). IsWorld starts says (with_work w s x)) (sym h) (quiet_keeps (work.Plan edit marks) refl (refl, refl) refl (record { login = may.0; stays = may.1 }, may.2, may.3))
     start_keeps task.BackWrite v may h = upkeep_keeps upkeep.Write v h (record { login = may.0; stays = may.1 }) tt
     start_keeps task.BackRead v may h = upkeep_keeps (upkeep.Read (begun_read h.0)) v h.1 (record { login = may.0; stays = may.1 }) tt
     start_keeps task.Sweep v may h = upkeep_keeps upkeep.Sweep v h (record { login = may.0; stays = may.1 }) tt
@@ -573,58 +689,81 @@ module _ (starts : Starts) (says : Says) (proper : StartsProper starts) (writes 
     start_keeps (task.Attach i) v may h = upkeep_keeps (upkeep.Attach i) v h (record { login = may.0; stays = may.1 }) may.2
     start_keeps task.Detach v may h = upkeep_keeps upkeep.Detach v h (record { login = may.0; stays = may.1 }) may.2
     start_keeps task.Observe v may h = upkeep_keeps upkeep.Observe v h (record { login = may.0; stays = may.1 }) may.2
-    start_keeps (task.Split p) v may h = absurd may
-    start_keeps task.Collect v may h = absurd may
+    start_keeps (task.Split p) v may h =
+        subst (λ (x : Work). IsWorld starts says (with_work w s x)) (sym h.3)
+        (tidies_keeps (tidying.Split (splitting.begun h.0 h.1 p)) (load_whole starts says proper state is.kept s h.0 h.1 p (none_stopped w.history.sessions w.history.past is.unstopped s) may.0 may.1 h.2)
+        (begins_split starts says proper state is.kept tidies is.tidying s h.0 h.1 p (none_stopped w.history.sessions w.history.past is.unstopped s) may.0 may.1 h.2) (record { login = may.0; stays = may.1 }) (splits_begin w.history.clusters h.0 h.1 p))
+    start_keeps task.Collect v may h =
+        subst (λ (x : Work). IsWorld starts says (with_work w s x)) (sym h.1)
+        (tidies_keeps (tidying.Collect (collects.begun h.0 w.history.clusters)) (gone_whole starts says proper state is.kept s)
+        (begins_collection starts says proper state is.kept tidies is.tidying s h.0 may.0 may.1) (record { login = may.0; stays = may.1 }) (collections_begin w.history.clusters h.0))
     start_keeps _ v may h = absurd h
 
   -- a reply is said, and before it how the session's task ended
-  module _ (rest : IsAtRest (work_in w.actors s)) (i : ℕ) (text : Text) (next : i ≡ next_index w.history.past s) (lawful : says (after (told_first (work_in w.actors s)) (live w.history)) s i text) where
+  module _ (rest : IsAtRest does) (i : ℕ) (text : Text) (next : i ≡ next_index w.history.past s) (lawful : says (after (told_first does) (live w.history)) s i text) where
     abbrev quiet : ActorState
     quiet = record (actor_in w.actors s) { work = work.Rest; reply = None }
 
-    abbrev replied : Past
-    replied = reply_events s i text (work_in w.actors s)
+    -- the events so far, once that is told
+    abbrev told : Past
+    told = told_first does ++ w.history.past
 
-    -- the state with these events more
+    abbrev replied : Past
+    replied = reply_events s i text does
+
+    -- the state with these events
     abbrev with_past : Past → State
-    with_past own = record state { past = own ++ w.history.past }
+    with_past past = record state { past = past }
+
+    may_be_told : (e : Event) → does ≡ work.Told e → MayTell (live w.history) s e
+    may_be_told = ends_may starts says w is s
+
+    -- what no end of a task changes
+    first_leaves : {X : Type 0} (f : Past → X) → ((e : Event) → is_task_end s e ≡ true → f (e ∷ w.history.past) ≡ f w.history.past) → (v : Work) → ((e : Event) → v ≡ work.Told e → MayTell (live w.history) s e) → f (told_first v ++ w.history.past) ≡ f w.history.past
+    first_leaves f leaves (work.Told e) may = leaves e (may e refl).own
+    first_leaves f leaves _ may = refl
+
+    told_next : next_index told s ≡ next_index w.history.past s
+    told_next = first_leaves (λ (past : Past). next_index past s) (end_next s w.history.past s) does may_be_told
+
+    -- the state is kept once that is told, and all that tidies goes on
+    first_keeps : (v : Work) → ((e : Event) → v ≡ work.Told e → MayTell (live w.history) s e) → tidies s ≡ tidying_of v → IsKept starts says (with_past (told_first v ++ w.history.past)) × AreTidying (with_past (told_first v ++ w.history.past)) tidies
+    first_keeps (work.Told e) may here = (
+      task_end_whole starts says proper state is.kept s e (may e refl).own (tell_follows starts says (live w.history) s e (may e refl)),
+      told_tidy starts says proper state is.kept tidies is.tidying s here e (may e refl).own (tell_follows starts says (live w.history) s e (may e refl)),
+    )
+    first_keeps _ may here = (is.kept, is.tidying)
+
+    first_kept : IsKept starts says (with_past told) × AreTidying (with_past told) tidies
+    first_kept = first_keeps does may_be_told refl
+
+    kept_said : IsKept starts says (with_past (replied ++ w.history.past))
+    kept_said = said_whole starts says proper (with_past told) first_kept.0 s i text (next ∙ sym told_next) lawful
 
     one_said : (past : Past) (q : ℕ) → (q == s) ≡ false → AreOthers q (event.Said s i text ∷ []) past
-    one_said past q apart = by (s == q) refl
-      where
-        by : (b : Bool) → (s == q) ≡ b → (b || false) ≡ false
-        by true same = absurd (other_number q s apart (sym (same_number s q same)))
-        by false k = refl
+    one_said past q apart = ap (λ b. b || false) (flipped q s apart)
 
-    -- nothing was to be told
-    rests : (v : Work) → IsAtRest v → May starts seen s v → v ≡ work.Rest
-    rests work.Rest at may = refl
-    rests (work.Told e) at may = absurd may
-    rests _ at may = absurd at
-
-    resting : work_in w.actors s ≡ work.Rest
-    resting = rests (work_in w.actors s) rest (is.may s)
-
-    replied_is : replied ≡ event.Said s i text ∷ []
-    replied_is = ap (reply_events s i text) resting
-
-    kept_said : IsKept starts says (with_past replied)
-    kept_said =
-        subst (λ (own : Past). IsKept starts says (with_past own)) (sym replied_is)
-        (said_whole starts says proper state is.kept s i text next (subst (λ (v : Work). says (after (told_first v) (live w.history)) s i text) resting lawful))
+    first_others : (past : Past) (q : ℕ) → (q == s) ≡ false → (v : Work) → ((e : Event) → v ≡ work.Told e → MayTell (live w.history) s e) → list_any (is_event_of past q) (told_first v) ≡ false
+    first_others past q apart (work.Told e) may = ap (λ b. b || false) (end_others s past q apart e (may e refl).own)
+    first_others past q apart _ may = refl
 
     said_others : (q : ℕ) → (q == s) ≡ false → AreOthers q replied w.history.past
-    said_others q apart = subst (λ (own : Past). AreOthers q own w.history.past) (sym replied_is) (one_said w.history.past q apart)
+    said_others q apart = ap (λ b. b || list_any (is_event_of (replied ++ w.history.past) q) (told_first does)) (flipped q s apart) ∙ first_others (replied ++ w.history.past) q apart does may_be_told
 
-    said_state : with_formers (state_of (said_in w s i text)) is.formers ≡ with_past replied
-    said_state = ap (λ (t : State). record t { past = replied ++ w.history.past; formers = is.formers }) (same_state quiet (ap (running_of w.table s) resting) (ap reading_of resting, ap observing_of resting))
+    said_tidies : AreTidying (with_past (replied ++ w.history.past)) tidies
+    said_tidies =
+        still_tidies starts says proper (with_past told) first_kept.0 tidies first_kept.1 s (rest_tidies does rest) (with_past (replied ++ w.history.past)) kept_said (event.Said s i text ∷ []) refl refl refl refl refl refl
+        (said_rises starts says proper (with_past told) (layers_of starts says (with_past told) first_kept.0) s i text (next ∙ sym told_next) lawful) (λ q apart. (one_said told q apart, refl))
+
+    said_state : with_formers (state_of (said_in w s i text)) is.formers ≡ with_past (replied ++ w.history.past)
+    said_state = ap (λ (t : State). record t { past = replied ++ w.history.past; formers = is.formers }) (same_state quiet (rest_running s w.table does rest) (rest_readers does rest))
 
     -- attached it stays as it was
     replied_attached : (q : ℕ) → is_attached w.history.past q ≡ is_attached (replied ++ w.history.past) q
-    replied_attached q = ap (λ (own : Past). is_attached (own ++ w.history.past) q) (sym replied_is)
+    replied_attached q = sym (first_leaves (λ (past : Past). is_attached past q) (end_attached s w.history.past q) does may_be_told)
 
     replied_unstopped : (k : ℕ) → is_stopped (replied ++ w.history.past) k ≡ false
-    replied_unstopped k = ap (λ (own : Past). is_stopped (own ++ w.history.past) k) replied_is ∙ is.unstopped k
+    replied_unstopped k = first_leaves (λ (past : Past). is_stopped past k) (end_unstopped s w.history.past k) does may_be_told ∙ is.unstopped k
 
     pub said_keep : IsWorld starts says (said_in w s i text)
     said_keep = record {
@@ -637,6 +776,9 @@ module _ (starts : Starts) (says : Says) (proper : StartsProper starts) (writes 
       unstopped = replied_unstopped;
       seats = length-set w.actors s quiet ∙ is.seats;
       may = λ q. by q (q == s) refl;
+      tidying =
+          subst (λ (does : ℕ → Option Tidying). AreTidying (with_formers (state_of (said_in w s i text)) is.formers) does) (sym (session_set (λ q v. tidying_of v) w.actors s quiet seat ∙ session_same tidies s None (rest_tidies does rest)))
+          (subst (λ (t : State). AreTidying t tidies) (sym said_state) said_tidies);
     }
       where
         attached_too : (q : ℕ) (b : Bool) → (q == s) ≡ b → (actor_in (slice_set w.actors s quiet) q).attached ≡ is_attached (replied ++ w.history.past) q
@@ -647,7 +789,8 @@ module _ (starts : Starts) (says : Says) (proper : StartsProper starts) (writes 
         by : (q : ℕ) (b : Bool) → (q == s) ≡ b → May starts (seen_after replied) q (work_in (slice_set w.actors s quiet) q)
         by q true same = subst (λ (n : ℕ). May starts (seen_after replied) n (work_in (slice_set w.actors s quiet) n)) (sym (same_number q s same))
             (subst (λ (v : Work). May starts (seen_after replied) s v) (sym (ap (λ (a : ActorState). a.work) (set_is w s seat (slice_set w.actors s quiet) quiet refl))) tt)
-        by q false apart = subst (λ (a : ActorState). May starts (seen_after replied) q a.work) (sym (others_are w s seat (slice_set w.actors s quiet) quiet refl q apart)) (others_may (with_past replied) (unchanged state (with_past replied) refl refl) kept_said.sessions.readers.told.copies q replied (said_others q apart) kept_said.sessions.run)
+        by q false apart = subst (λ (a : ActorState). May starts (seen_after replied) q a.work) (sym (others_are w s seat (slice_set w.actors s quiet) quiet refl q apart))
+            (others_may (with_past (replied ++ w.history.past)) (unchanged state (with_past (replied ++ w.history.past)) refl refl) kept_said.sessions.readers.told.copies q replied (said_others q apart) kept_said.sessions.run)
 
 -- how a task ended stands directly before the reply
 pub told_shown : (v : Work) → IsAtRest v → end_told (shown_work v) ≡ told_first v

@@ -1,6 +1,6 @@
 -- A step of a session lowers the number of steps that are left, or it waits.
 use mathlib.Core.Bool.{false≢true}
-use Rattle.std.proofs.Common.{◌≡◌, ◌⊎◌, inl, inr, ℕ, suc, ◌+◌, ◌-◌, ◌<◌, ◌≤◌, true, cond, Option, Some, None, Result, Ok, Err, List, [], ◌∷◌, ◌++◌, length, drop, map, is_some, refl, sym, ap, subst, ◌∙◌, arith, length-append}
+use Rattle.std.proofs.Common.{◌≡◌, ◌≢◌, ◌⊎◌, inl, inr, ℕ, suc, ◌+◌, ◌-◌, ◌<◌, ◌≤◌, true, cond, Option, Some, None, Result, Ok, Err, List, [], ◌∷◌, ◌++◌, length, drop, map, is_some, refl, sym, ap, subst, ◌∙◌, arith, length-append}
 use Rattle.std.specs.Prelude.{nat_lt, slice_get, slice_set}
 use Rattle.std.specs.Option.{unwrap_or}
 use Rattle.std.proofs.lemmas.Bool.{lt-ltb}
@@ -19,9 +19,14 @@ use Rattle.oak_commit.specs.declared.outcome.CommitEnd.{CommitEnd}
 use Rattle.oak_commit.specs.declared.outcome.CommitEnd.TheVariants as end
 use Rattle.oak_commit.specs.declared.stage.Stage.TheVariants as stage
 use Rattle.oak_doc.specs.Updates.{updated}
+use Rattle.oak_doc.specs.declared.asks.Ask.TheVariants as ask
 use Rattle.oak_doc.specs.declared.document.Document.{Document}
 use Rattle.oak_doc.specs.declared.update.OpFault.{OpFault}
-use Rattle.oak_machine.specs.History.{Past}
+use Rattle.oak_gc.specs.Collecting as collecting
+use Rattle.oak_gc.specs.declared.collector.Collector.{Collector}
+use Rattle.oak_gc.specs.declared.reading.Step.{Step as CollectStep}
+use Rattle.oak_gc.specs.declared.reading.Step.TheVariants as collect_step
+use Rattle.oak_machine.specs.History.{History, Past}
 use Rattle.oak_machine.specs.Laws.{Says, Starts}
 use Rattle.oak_machine.specs.declared.event.StepKind.{StepKind}
 use Rattle.oak_machine.specs.declared.event.StepKind.TheVariants as kind
@@ -31,10 +36,15 @@ use Rattle.oak_port.specs.Ports.{IsWait}
 use Rattle.oak_port.specs.declared.task.StepOut.{StepOut}
 use Rattle.oak_port.specs.declared.task.StepOut.TheVariants as answers
 use Rattle.oak_port.specs.declared.task.TaskEnd.TheVariants as ends
+use Rattle.oak_prev.specs.Splitting as splitting
+use Rattle.oak_prev.specs.declared.splitter.Splitter.{Splitter}
+use Rattle.oak_prev.specs.declared.splitter.Step.{Step as SplitStep}
+use Rattle.oak_prev.specs.declared.splitter.Step.TheVariants as split_step
 use Rattle.oak_read.specs.Reading.{IsTable}
 use Rattle.oak_store.specs.Tables.{Table, next_number}
 use Rattle.core_clash.specs.Core.{root_of}
-use Rattle.core_world.specs.States.{State, base_in, listed_at, memory_of, node_of, nodes_in}
+use Rattle.core_tidy.specs.Steps.{tidied_in}
+use Rattle.core_world.specs.States.{State, base_in, history_in, listed_at, memory_of, node_of, nodes_in}
 use Rattle.core_world.specs.Steps.{after_mark, after_update, after_write, marked_by, with_result}
 use Rattle.oak_saves.proofs.Stages.{finish_stage}
 use Rattle.oak_step.specs.Parts.{EndsSo, changes_on, read_on, swept_on}
@@ -53,6 +63,12 @@ use Rattle.oak_step.specs.declared.upkeep.Upkeep.{Upkeep}
 use Rattle.oak_step.specs.declared.upkeep.Upkeep.TheVariants as upkeep
 use Rattle.oak_step.specs.declared.work.Work.{Work}
 use Rattle.oak_step.specs.declared.work.Work.TheVariants as work
+use Rattle.oak_tidy.specs.Left.{collect_left, split_left, tidying_left}
+use Rattle.oak_tidy.specs.Replies.{all_parts, table_after}
+use Rattle.oak_tidy.specs.Tidyings.{CanTidy, tidying_ask}
+use Rattle.oak_tidy.specs.declared.tidying.Tidying.{Tidying}
+use Rattle.oak_tidy.specs.declared.tidying.Tidying.TheVariants as tidying
+use Rattle.oak_tidy.proofs.Lowering.{steps_lower}
 use Rattle.oak_world.proofs.Ahead.{begins_ahead, is_within}
 use Rattle.oak_world.proofs.Counting.{noted_few, upward_few}
 use Rattle.oak_world.proofs.Observing.{changes_lower}
@@ -62,7 +78,7 @@ use Rattle.oak_world.specs.Kept.{EndsInRoot, IsWorld, May, MayKeepUp, Scene, sce
 use Rattle.oak_world.specs.Looks.{IsLooking}
 use Rattle.oak_world.proofs.Looking.{left_found, left_written, once_alone, once_found, once_written, once_wrote, outcome_found, outcome_written, update_previous, written_found, written_written}
 use Rattle.oak_world.specs.Left.{changes_left, commit_left, learn_left, left_in, looked_in, looks_left, marks_left, names_in, reads_left, steps_left, passes_left, updates_left, upkeep_left, writes_left}
-use Rattle.oak_world.specs.Steps.{BeginsBackWrite, MakesBackRead, MakesBackWrite, MakesCommit, MakesState, MakesSweep, MakesUpdate, MakesUpkeep, MayUpdate, PassesTo, StepsIn}
+use Rattle.oak_world.specs.Steps.{BeginsBackWrite, MakesBackRead, MakesBackWrite, MakesCommit, MakesState, MakesSweep, MakesTidying, MakesUpdate, MakesUpkeep, MayUpdate, PassesTo, StepsIn, work_left}
 use Rattle.oak_world.specs.Worlds.{ActorState, IsAtRest, WorldOf, idle, live, look_through, once_looked, running_as, state_of, work_in}
 use Rattle.oak_world.proofs.Sweepers.{IsLookingFor, learn_left_one, look_lowers, publish_left, some_passes_left, sweep_told}
 
@@ -404,15 +420,15 @@ IsGoing (upkeep.Publish b) = EndsInRoot b
 IsGoing _ = Unit {0}
 
 -- the commit roots that a session keeps are those of whom it is to mark, its background write has
--- still to tell the root
-abbrev Rooted : Table → Past → Work → Type 0
-Rooted t past (work.Commit c) = HasRoots t past c
-Rooted t past (work.Upkeep u) = IsGoing u
-Rooted t past (work.Tidy x) = ⊥
-Rooted t past _ = Unit {0}
+-- still to tell the root, and its split or collection can go on
+abbrev Rooted : Table → History → Work → Type 0
+Rooted t h (work.Commit c) = HasRoots t h.past c
+Rooted t h (work.Upkeep u) = IsGoing u
+Rooted t h (work.Tidy x) = CanTidy h.clusters x
+Rooted t h _ = Unit {0}
 
 -- what a session may do keeps its roots
-rooted : (starts : Starts) (y : Scene) (s : ℕ) (v : Work) → May starts y s v → Rooted y.table y.history.past v
+rooted : (starts : Starts) (y : Scene) (s : ℕ) (v : Work) → May starts y s v → Rooted y.table y.history v
 rooted starts y s (work.Commit c) may = (may.roots, λ k is. (may.looks k is).form)
 rooted starts y s work.Rest may = tt
 rooted starts y s work.Login may = tt
@@ -437,7 +453,7 @@ rooted starts y s (work.Upkeep u) may = by u may.1
     by (upkeep.Detaching pin) m = tt
     by upkeep.Observe m = tt
 rooted starts y s (work.Move r) may = tt
-rooted starts y s (work.Tidy x) may = absurd may
+rooted starts y s (work.Tidy x) may = may.1
 rooted starts y s (work.Told e) may = tt
 
 -- ---- background work
@@ -555,9 +571,29 @@ module _ (s : ℕ) (w u : State) (m n : NodeState) (x : Work) where
   upkeep_less table upkeep.Observe going answers.Memory h = rest_less 0 h.1
   upkeep_less table upkeep.Observe going _ h = absurd h
 
+  -- ---- a split or a collection
+
+  module _ (y : Tidying) (table : IsTable w.table.documents) (can : CanTidy w.clusters y) where
+    lower : tidying_left (table_after w.table (tidying_ask y)) (tidied_in w y) < tidying_left w.table y
+    lower = steps_lower (all_parts w.table w.memories []) w.clusters y table can
+
+    -- it is over
+    ended_less : now ≡ 0 → now < tidying_left w.table y
+    ended_less z = let l = lower in omega (arith, z, l)
+
+    -- it goes on
+    goes_less : now ≡ tidying_left (table_after w.table (tidying_ask y)) (tidied_in w y) → now < tidying_left w.table y
+    goes_less z = subst (λ (k : ℕ). k < tidying_left w.table y) (sym z) lower
+
+    tidy_less : (o : StepOut) → MakesTidying s w y u x o → now < tidying_left w.table y
+    tidy_less answers.Memory h = ended_less (ap (steps_left s u.table n) h.1)
+    tidy_less (answers.Went k) h = goes_less (ap (steps_left s u.table n) (h.2 ∙ ap work_left h.3.1) ∙ ap (λ (v : State). tidying_left v.table (tidied_in w y)) h.0)
+    tidy_less (answers.Ready e) h = ended_less (ap (steps_left s u.table n) (h.2 ∙ ap work_left h.3.2))
+    tidy_less _ h = absurd h.3
+
   -- ---- all
 
-  less : IsTable w.table.documents → (v : Work) (o : StepOut) → Rooted w.table w.past v → MakesState s w v u x o → IsWait o ⊎ (now < steps_left s w.table (memory_of w s) v)
+  less : IsTable w.table.documents → (v : Work) (o : StepOut) → Rooted w.table (history_in w) v → MakesState s w v u x o → IsWait o ⊎ (now < steps_left s w.table (memory_of w s) v)
   less table work.Login (answers.Ready (ends.Pinned pin)) roots h = inr (rest_less 0 h.1)
   less table work.Login answers.Memory roots h = inr (rest_less 0 h.1)
   less table work.Login _ roots h = absurd h
@@ -594,7 +630,7 @@ module _ (s : ℕ) (w u : State) (m n : NodeState) (x : Work) where
   less table (work.Move r) (answers.Ready (ends.Commit (end.Committed o))) roots h = inr (rest_less 0 h.1)
   less table (work.Move r) _ roots h = absurd h
   less table (work.Upkeep k) o going h = inr (upkeep_less table k going o h)
-  less table (work.Tidy y) o roots h = absurd roots
+  less table (work.Tidy y) o can h = inr (tidy_less y table can o h)
   less table (work.Told e) o roots h = absurd h
   less table work.Rest o roots h = absurd h
 
@@ -604,11 +640,37 @@ lowers {L} starts says w u s o is m =
     subst (λ (v : Work). IsWait o ⊎ (steps_left s u.table (memory_of (state_of u) s) v < left_in w s)) (sym (does_now w s u o m))
     (less s (state_of w) (state_of u) (memory_of (state_of w) s) (memory_of (state_of u) s) m.does is.table (work_in w.actors s) o (rooted starts (scene w.table is.formers (live w.history)) s (work_in w.actors s) (is.may s)) m.makes)
 
+-- of a split or a collection for which something is due some step is left
+split_some : (t : Table) (x : Splitter) (st : SplitStep) → splitting.due (record x { step = st }) ≢ ask.Done → split_left t.documents (record x { step = st }) ≡ 0 → ⊥
+split_some t x split_step.Read busy h = omega (arith, h)
+split_some t x split_step.Root busy h = omega (arith, h)
+split_some t x (split_step.Previous e n) busy h = omega (arith, h)
+split_some t x (split_step.Main e n) busy h = omega (arith, h)
+split_some t x (split_step.Find k o) busy h = omega (arith, h)
+split_some t x (split_step.Remove k found o) busy h = omega (arith, h)
+split_some t x (split_step.Done o) busy h = busy refl
+
+collect_some : (t : Table) (x : Collector) (st : CollectStep) → collecting.due (record x { step = st }) ≢ ask.Done → collect_left t.documents (record x { step = st }) ≡ 0 → ⊥
+collect_some t x collect_step.Root busy h = omega (arith, h)
+collect_some t x (collect_step.Node k) busy h = omega (arith, h)
+collect_some t x collect_step.Settings busy h = omega (arith, h)
+collect_some t x collect_step.First busy h = omega (arith, h)
+collect_some t x collect_step.Next busy h = omega (arith, h)
+collect_some t x (collect_step.Listed n) busy h = omega (arith, h)
+collect_some t x collect_step.Prune busy h = omega (arith, h)
+collect_some t x collect_step.Remove busy h = omega (arith, h)
+collect_some t x (collect_step.RemovePrevious n read) busy h = omega (arith, h)
+collect_some t x collect_step.Done busy h = busy refl
+
+tidying_some : (t : Table) (x : Tidying) → tidying_ask x ≢ ask.Done → tidying_left t x ≡ 0 → ⊥
+tidying_some t (tidying.Split x) busy h = split_some t x x.step busy h
+tidying_some t (tidying.Collect x) busy h = collect_some t x x.step busy h
+
 -- nothing is left only where nothing is to be done but to tell how a task ended
 pub over : (starts : Starts) (y : Scene) (s : ℕ) (m : NodeState) (v : Work) → May starts y s v → steps_left s y.table m v ≡ 0 → IsAtRest v
 over starts y s m work.Rest may h = tt
 over starts y s m (work.Told e) may h = tt
-over starts y s m (work.Tidy x) may h = absurd may
+over starts y s m (work.Tidy x) may h = absurd (tidying_some y.table x may.1.busy h)
 over starts y s m work.Login may h = absurd (omega (arith, h))
 over starts y s m work.End may h = absurd (omega (arith, h))
 over starts y s m work.Refresh may h = absurd (omega (arith, h))

@@ -1,6 +1,6 @@
--- A commit that writes reads a previous document where that is due, and nowhere else; no event is added then.
+-- A commit that writes reads a previous document where that is due, and nowhere else, and so does a split; no event is added then.
 use mathlib.Core.Bool.{false≢true}
-use Rattle.std.proofs.Common.{◌≡◌, inl, inr, ℕ, suc, ◌+◌, Bool, true, false, Option, Some, None, [], ◌∷◌, ◌++◌, length, is_some, refl, sym, ap, subst, ◌∙◌, arith, length-append}
+use Rattle.std.proofs.Common.{◌≡◌, ◌≢◌, inl, inr, ℕ, suc, ◌+◌, Bool, true, false, Option, Some, None, [], ◌∷◌, ◌++◌, length, is_some, refl, sym, ap, subst, ◌∙◌, arith, length-append}
 use Rattle.jr_rev.specs.declared.revision.Revision.{Revision}
 use Rattle.oak_commit.specs.Committing.{Committing}
 use Rattle.oak_commit.specs.Kept.{undoes}
@@ -11,12 +11,17 @@ use Rattle.oak_commit.specs.declared.outcome.CommitEnd.TheVariants as end
 use Rattle.oak_commit.specs.declared.stage.Stage.{Stage}
 use Rattle.oak_commit.specs.declared.stage.Stage.TheVariants as stage
 use Rattle.oak_machine.specs.History.{Past}
+use Rattle.oak_machine.specs.declared.event.Event.{Event}
+use Rattle.oak_machine.specs.declared.event.Event.TheVariants as event
 use Rattle.oak_machine.specs.declared.event.StepKind.{StepKind}
 use Rattle.oak_machine.specs.declared.event.StepKind.TheVariants as kind
 use Rattle.oak_port.specs.declared.task.StepOut.{StepOut}
 use Rattle.oak_port.specs.declared.task.StepOut.TheVariants as answers
 use Rattle.oak_port.specs.declared.task.Task.{Task}
 use Rattle.oak_port.specs.Ports.{Deciding, Detaching, Learning, Publishing, ReadsAsDue, SplitsAsDue, Collecting, Starting, Undoing, Awaiting, Writing, is_due, Passing, Sweeping}
+use Rattle.oak_prev.specs.declared.splitter.Splitter.{Splitter}
+use Rattle.oak_prev.specs.declared.splitter.Step.{Step as SplitStep}
+use Rattle.oak_prev.specs.declared.splitter.Step.TheVariants as split_step
 use Rattle.oak_saves.proofs.Feeding.{stage_last, stage_mark, stage_write}
 use Rattle.oak_saves.proofs.Stages.{finish_stage}
 use Rattle.oak_step.specs.declared.upkeep.Upkeep.{Upkeep}
@@ -41,9 +46,10 @@ use Rattle.oak_gc.specs.declared.stage.Stage.TheVariants as collected
 use Rattle.oak_port.specs.declared.task.Task.TheVariants as task
 use Rattle.oak_tidy.specs.declared.tidying.Tidying.{Tidying}
 use Rattle.oak_tidy.specs.declared.tidying.Tidying.TheVariants as tidying
+use Rattle.oak_tidy.specs.Tidyings.{kind_tidied, tidy_events}
+use Rattle.core_tidy.specs.Steps.{tidied_in}
 use Rattle.oak_world.specs.Seen.{shown_by, shown_collect, shown_read, shown_tidying, shown_upkeep, shown_work, shown_sweep, task_of}
-use Rattle.oak_world.specs.Acting.{is_tidying}
-use Rattle.oak_world.specs.Steps.{MakesCommit, MakesState, MakesUpdate}
+use Rattle.oak_world.specs.Steps.{MakesCommit, MakesState, MakesTidying, MakesUpdate}
 
 -- where as many events are there as before, none was added
 none_added : (own past : Past) → own ++ past ≡ past → own ≡ []
@@ -193,16 +199,49 @@ module _ (s : ℕ) (w u : State) (own : Past) (grown : u.past ≡ own ++ w.past)
   upkeep_is_no_split (upkeep.Detaching pin) p h = cc
   upkeep_is_no_split upkeep.Observe p h = cc
 
-  pub splits_as_due : (v x : Work) (o : StepOut) → (is_tidying v ≡ false) → MakesState s w v u x o → (p : Path) → shown_work v ≡ Starting (task.Split p) → SplitsAsDue (is_due kind.Read (kind_due v)) o own
-  splits_as_due (work.Tidy y) x o plain m p h = absurd (false≢true (sym plain))
-  splits_as_due (work.Told e) x o plain m p h = absurd m
-  splits_as_due work.Rest x o plain m p h = absurd m
-  splits_as_due work.Login x o plain m p h = absurd (let never : Starting task.Login ≡ Starting (task.Split p) = h in cc)
-  splits_as_due work.End x o plain m p h = absurd (let never : Starting task.End ≡ Starting (task.Split p) = h in cc)
-  splits_as_due work.Refresh x o plain m p h = absurd (let never : Starting task.Refresh ≡ Starting (task.Split p) = h in cc)
-  splits_as_due (work.Read y) x o plain m p h = absurd (let same : task_of y.parent (path_read y) ≡ task.Split p = task_same _ _ h in read_is_no_split y.parent (path_read y) p same)
-  splits_as_due (work.Changes y) x o plain m p h = absurd (let never : Starting (task.Changes y.from) ≡ Starting (task.Split p) = h in cc)
-  splits_as_due (work.Plan edit marks) x o plain m p h = absurd (let never : Starting (task.Commit edit marks) ≡ Starting (task.Split p) = h in cc)
-  splits_as_due (work.Commit c) x o plain m p h = absurd (commit_is_no_split c.revision c.outcome p h)
-  splits_as_due (work.Move y) x o plain m p h = absurd (let never : Awaiting y ≡ Starting (task.Split p) = h in cc)
-  splits_as_due (work.Upkeep k) x o plain m p h = absurd (upkeep_is_no_split k p h)
+  collect_is_no_split : (st : Collects) (p : Path) → shown_collect st ≡ Starting (task.Split p) → ⊥
+  collect_is_no_split collected.Bound p h = let never : Starting task.Collect ≡ Starting (task.Split p) = h in cc
+  collect_is_no_split collected.Read p h = let never : Collecting ≡ Starting (task.Split p) = h in cc
+  collect_is_no_split collected.Collect p h = let never : Collecting ≡ Starting (task.Split p) = h in cc
+  collect_is_no_split collected.Done p h = let never : Collecting ≡ Starting (task.Split p) = h in cc
+
+  -- where there is an event more, one was added
+  some_added : (e : Event) → u.past ≡ e ∷ w.past → own ≢ []
+  some_added e more none =
+      let longer : length w.past ≡ suc (length w.past) = ap length (ap (λ (es : Past). es ++ w.past) (sym none) ∙ (sym grown ∙ more)) in
+      omega (arith, longer)
+
+  adds : (o : StepOut) → own ≢ [] → SplitsAsDue false o own
+  adds answers.Memory some = tt
+  adds _ some = some
+
+  refused : (b : Bool) → u.past ≡ w.past → SplitsAsDue b answers.Memory own
+  refused true same = nothing same
+  refused false same = tt
+
+  -- a split reads a commit root, or the previous document that it wrote, and no event is added
+  split_adds : (y : Splitter) (st : SplitStep) (z : Tidying) (o : StepOut) → u.past ≡ tidy_events s (tidying.Split (record y { step = st })) z ++ w.past → SplitsAsDue (is_due kind.Read (Some (kind_tidied (tidying.Split (record y { step = st }))))) o own
+  split_adds y split_step.Root z o more = nothing more
+  split_adds y (split_step.Find k e) z o more = nothing more
+  split_adds y _ z o more = adds o (some_added (event.Went s kind.Split) more)
+
+  tidying_splits : (y : Tidying) (x : Work) (o : StepOut) → MakesTidying s w y u x o → (p : Path) → shown_tidying y ≡ Starting (task.Split p) → SplitsAsDue (is_due kind.Read (Some (kind_tidied y))) o own
+  tidying_splits (tidying.Collect y) x o m p h = absurd (collect_is_no_split (collecting.stage_of y) p h)
+  tidying_splits (tidying.Split y) x answers.Memory m p h = refused (is_due kind.Read (Some (kind_tidied (tidying.Split y)))) (ap (λ (t : State). t.past) m.0)
+  tidying_splits (tidying.Split y) x (answers.Went k) m p h = split_adds y y.step (tidied_in w (tidying.Split y)) (answers.Went k) (ap (λ (t : State). t.past) m.0)
+  tidying_splits (tidying.Split y) x (answers.Ready e) m p h = split_adds y y.step (tidied_in w (tidying.Split y)) (answers.Ready e) (ap (λ (t : State). t.past) m.0)
+  tidying_splits (tidying.Split y) x _ m p h = absurd m.3
+
+  pub splits_as_due : (v x : Work) (o : StepOut) → MakesState s w v u x o → (p : Path) → shown_work v ≡ Starting (task.Split p) → SplitsAsDue (is_due kind.Read (kind_due v)) o own
+  splits_as_due (work.Tidy y) x o m p h = tidying_splits y x o m p h
+  splits_as_due (work.Told e) x o m p h = absurd m
+  splits_as_due work.Rest x o m p h = absurd m
+  splits_as_due work.Login x o m p h = absurd (let never : Starting task.Login ≡ Starting (task.Split p) = h in cc)
+  splits_as_due work.End x o m p h = absurd (let never : Starting task.End ≡ Starting (task.Split p) = h in cc)
+  splits_as_due work.Refresh x o m p h = absurd (let never : Starting task.Refresh ≡ Starting (task.Split p) = h in cc)
+  splits_as_due (work.Read y) x o m p h = absurd (let same : task_of y.parent (path_read y) ≡ task.Split p = task_same _ _ h in read_is_no_split y.parent (path_read y) p same)
+  splits_as_due (work.Changes y) x o m p h = absurd (let never : Starting (task.Changes y.from) ≡ Starting (task.Split p) = h in cc)
+  splits_as_due (work.Plan edit marks) x o m p h = absurd (let never : Starting (task.Commit edit marks) ≡ Starting (task.Split p) = h in cc)
+  splits_as_due (work.Commit c) x o m p h = absurd (commit_is_no_split c.revision c.outcome p h)
+  splits_as_due (work.Move y) x o m p h = absurd (let never : Awaiting y ≡ Starting (task.Split p) = h in cc)
+  splits_as_due (work.Upkeep k) x o m p h = absurd (upkeep_is_no_split k p h)

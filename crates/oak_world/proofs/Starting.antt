@@ -18,6 +18,8 @@ use Rattle.oak_machine.specs.Recorded.{Recorded}
 use Rattle.oak_node.specs.Memory.{NodeState, begun}
 use Rattle.oak_store.specs.Tables.{AreStored, Table, by_id}
 use Rattle.core_nodes.proofs.Events.{start_entry}
+use Rattle.core_tidy.specs.Tidying.{AreTidying}
+use Rattle.core_tidy.proofs.Whole.{starts_tidy}
 use Rattle.core_world.specs.Kept.{IsKept}
 use Rattle.core_world.specs.Start.{documents_of_start, start_state, start_table}
 use Rattle.core_world.specs.States.{State}
@@ -32,10 +34,11 @@ use Rattle.oak_world.specs.declared.actor.Actor.{Actor}
 use Rattle.oak_port.specs.Ports.{MayAppend}
 use Rattle.oak_step.specs.declared.work.Work.{Work}
 use Rattle.oak_step.specs.declared.work.Work.TheVariants as work
+use Rattle.oak_tidy.specs.declared.tidying.Tidying.{Tidying}
 use Rattle.oak_world.specs.Kept.{ArePlaced, IsAskedWorld, IsPlaced, IsWorld, May, scene}
 use Rattle.oak_world.specs.Looks.{AreOnce}
 use Rattle.oak_world.specs.Seen.{shown_work}
-use Rattle.oak_world.specs.Worlds.{ActorState, WorldOf, actor_in, idle, live, observing_of, reading_of, running_of, shown_actor, shown_world, start_world, state_of, work_in}
+use Rattle.oak_world.specs.Worlds.{ActorState, WorldOf, actor_in, idle, live, observing_of, reading_of, running_of, shown_actor, shown_world, start_world, state_of, tidying_of, work_in}
 
 -- the seat of a session that does nothing
 abbrev pub idle_actor : Actor
@@ -82,6 +85,9 @@ start_is_world starts says law clusters sessions few nodes = record {
   unstopped = λ k. refl;
   seats = length-map sessions (λ k. idle);
   may = λ s. subst (λ (v : Work). May starts (scene (start_world law clusters sessions).table (λ p k. None) (live (start_world law clusters sessions).history)) s v) (sym (idle_works sessions s)) tt;
+  tidying =
+      subst (λ (does : ℕ → Option Tidying). AreTidying (state_of (start_world law clusters sessions)) does) (sym (fun_ext (λ s. ap tidying_of (idle_works sessions s))))
+      (subst (λ (t : State). AreTidying t (λ s. None)) (sym (start_same law clusters sessions)) (starts_tidy clusters sessions));
 }
 
 -- no event was made, and nothing is done

@@ -8,15 +8,15 @@ use Rattle.oak_commit.specs.Committing.{Committing}
 use Rattle.oak_commit.specs.declared.look.Look.{Look}
 use Rattle.oak_machine.specs.declared.event.Event.{Event}
 use Rattle.oak_machine.specs.declared.event.Event.TheVariants as event
-use Rattle.oak_machine.specs.declared.event.StepKind.TheVariants as kind
 use Rattle.oak_machine.specs.History.{History, Past}
 use Rattle.oak_machine.specs.Commits.{is_drawn, is_ended}
 use Rattle.oak_machine.specs.Laws.{AreOthers, Says, Starts, after, is_event_of}
 use Rattle.oak_machine.specs.Runs.{AreNodes, IsRun, IsRunOf, StartsLast}
-use Rattle.oak_machine.specs.Sessions.{has_left, has_login, is_end_of_session, is_login_of}
+use Rattle.oak_machine.specs.Sessions.{has_login, is_login_of}
 use Rattle.oak_machine.proofs.Induction.{neither}
 use Rattle.core_clash.specs.Core.{root_of}
 use Rattle.core_keep.specs.Formers.{Formers}
+use Rattle.core_tidy.proofs.Since.{stay_left}
 use Rattle.core_clash.specs.Views.{In}
 use Rattle.core_clash.proofs.Basics.{or_right}
 use Rattle.core_nodes.proofs.Pasts.{still_drawn}
@@ -25,6 +25,7 @@ use Rattle.oak_step.specs.declared.work.Work.{Work}
 use Rattle.oak_step.specs.declared.work.Work.TheVariants as work
 use Rattle.oak_world.specs.Kept.{May, scene}
 use Rattle.oak_world.specs.Looks.{IsLookingOn}
+use Rattle.oak_world.proofs.Ends.{tell_lasts}
 use Rattle.oak_world.proofs.Lasting.{upkeep_lasts}
 use Rattle.oak_world.proofs.Others.{attached_left}
 use Rattle.oak_world.specs.Steps.{IsPresent}
@@ -37,10 +38,6 @@ login_is : (past : Past) (q : ℕ) (e : Event) → is_event_of past q e ≡ fals
 login_is past q (event.Login t v) h = h
 login_is past q _ h = refl
 
-end_is : (past : Past) (q : ℕ) (e : Event) → is_event_of past q e ≡ false → is_end_of_session q e ≡ false
-end_is past q (event.Went t kind.End) h = h
-end_is past q _ h = refl
-
 -- what no event of some is, they leave
 left_by : (past : Past) (q : ℕ) (is : ℕ → Event → Bool) → ((e : Event) → is_event_of past q e ≡ false → is q e ≡ false) → (own before : Past) → list_any (is_event_of past q) own ≡ false → list_any (is q) (own ++ before) ≡ list_any (is q) before
 left_by past q is none [] before h = refl
@@ -50,9 +47,6 @@ left_by past q is none (e ∷ own) before h =
 
 pub login_left : (q : ℕ) (own before : Past) → AreOthers q own before → has_login (own ++ before) q ≡ has_login before q
 login_left q own before others = left_by (own ++ before) q is_login_of (login_is (own ++ before) q) own before others
-
-pub stay_left : (q : ℕ) (own before : Past) → AreOthers q own before → has_left (own ++ before) q ≡ has_left before q
-stay_left q own before others = left_by (own ++ before) q is_end_of_session (end_is (own ++ before) q) own before others
 
 pub come_left : (h : History) (q : ℕ) (own : Past) → AreOthers q own h.past → IsPresent h q → IsPresent (after own h) q
 come_left h q own others come = record { login = login_left q own h.past others ∙ come.login; stays = stay_left q own h.past others ∙ come.stays }
@@ -99,5 +93,5 @@ module _ (starts : Starts) (says : Says) (last : StartsLast starts says) (h : St
   }
   may_last (work.Upkeep u) drawn same looks may = (come_left (live h) q own others may.0, upkeep_lasts starts says h nodes q own now others u may.1)
   may_last (work.Move r) drawn same looks may = (come_left (live h) q own others may.0, ended_lasts r own h.past may.1, may.2)
-  may_last (work.Tidy x) drawn same looks may = absurd may
-  may_last (work.Told e) drawn same looks may = absurd may
+  may_last (work.Tidy x) drawn same looks may = (come_left (live h) q own others may.0, may.1)
+  may_last (work.Told e) drawn same looks may = (come_left (live h) q own others may.0, tell_lasts (live h) q own others e may.1)

@@ -1,8 +1,9 @@
--- A step of a session on its parts is, by what it does, one of the steps of the state.
+-- A step of a session on its parts, or over all memories, is by what it does one of the steps of the state.
 use Rattle.jr_path.specs.declared.path.Path.{Path}
-use Rattle.std.proofs.Common.{Bool, List, None, Option, Some, [], ap, inl, inr, length, map, refl, subst, sym, true, ℕ, ◌++◌, ◌<◌, ◌∙◌, ◌∷◌, ◌≡◌}
+use Rattle.std.proofs.Common.{Bool, List, None, Option, Some, [], ap, cond, false, inl, inr, length, map, refl, subst, sym, true, ℕ, ◌++◌, ◌<◌, ◌∙◌, ◌∷◌, ◌≡◌}
 use mathlib.Core.Bool.{false≢true}
-use Rattle.std.proofs.lemmas.List.{reverse-reverse}
+use Rattle.std.proofs.lemmas.List.{reverse-append, reverse-reverse}
+use Rattle.std.specs.Option.{option_map_or}
 use Rattle.std.specs.Prelude.{reverse}
 use Rattle.jr_rev.specs.declared.revision.Revision.{Revision}
 use Rattle.jr_tree.specs.declared.edit.Edit.{Edit}
@@ -18,7 +19,9 @@ use Rattle.oak_machine.specs.declared.event.Event.{Event}
 use Rattle.oak_machine.specs.declared.event.Event.TheVariants as event
 use Rattle.oak_machine.specs.declared.event.StepKind.{StepKind}
 use Rattle.oak_machine.specs.declared.event.StepKind.TheVariants as kind
+use Rattle.oak_machine.specs.History.{Past}
 use Rattle.oak_doc.specs.declared.asks.Ask.{Ask}
+use Rattle.oak_doc.specs.declared.asks.Ask.TheVariants as ask
 use Rattle.oak_doc.specs.declared.update.Change.TheVariants as change
 use Rattle.oak_node.specs.Heads.{learned, next_draw, with_draw}
 use Rattle.oak_node.specs.Memory.{NodeState}
@@ -28,10 +31,14 @@ use Rattle.core_nodes.specs.Nodes.{cursor_owner, without_session}
 use Rattle.oak_read.specs.declared.reader.Reader.{Reader}
 use Rattle.oak_store.specs.Tables.{Table}
 use Rattle.core_clash.specs.Core.{root_of}
+use Rattle.core_clash.specs.Sessions.{Running}
+use Rattle.core_tidy.specs.Steps.{after_tidied, tidied_in}
+use Rattle.core_tidy.specs.Tidying.{reader_at, reader_of}
 use Rattle.core_world.specs.States.{State, memory_at, with_memory, with_session}
 use Rattle.core_world.specs.Steps.{after_finish, after_sweep, after_update, after_want, after_went, setting_op, swept_to, with_observer, with_reader}
 use Rattle.oak_port.specs.declared.task.StepOut.{StepOut}
 use Rattle.oak_port.specs.declared.task.StepOut.TheVariants as answers
+use Rattle.oak_port.specs.declared.task.TaskEnd.{TaskEnd}
 use Rattle.oak_port.specs.declared.task.TaskEnd.TheVariants as ends
 use Rattle.oak_step.specs.declared.work.Work.{Work}
 use Rattle.oak_step.specs.declared.work.Work.TheVariants as work
@@ -51,12 +58,17 @@ use Rattle.oak_step.specs.declared.upkeep.Upkeep.TheVariants as upkeep
 use Rattle.oak_step.proofs.Backs.{goes_on, read_table, reads_on, told_table}
 use Rattle.oak_step.specs.Parts.{CommitsOn, EndsSo, IsGivenUp, IsPassing, KeepsUp, LearnsOn, PassesOn, PublishesFirst, PublishesOn, Steps, UpdatesOn, after_ask, changes_on, learned_on, pinned_base, published_on, read_on, stepping, sweep_event, swept_on}
 use Rattle.oak_saves.specs.Saves.{Parts, UpdatesDocument, parts, parts_ended, saving}
-use Rattle.oak_world.specs.Steps.{BeginsBackWrite, MakesBackRead, MakesBackWrite, MakesCommit, MakesState, MakesSweep, MakesUpdate, MakesUpkeep, PassesTo}
+use Rattle.oak_tidy.specs.declared.tidying.Tidied.{Tidied}
+use Rattle.oak_tidy.specs.declared.tidying.Tidying.{Tidying}
+use Rattle.oak_tidy.specs.declared.tidying.Tidying.TheVariants as tidying
+use Rattle.oak_tidy.specs.Replies.{AllParts, all_parts, table_after, told_to}
+use Rattle.oak_tidy.specs.Tidyings.{GoesOrEnds, Tidies, TidiesTo, bound_told, kind_tidied, parts_on, takes_bound, tidied_on, tidy_events, tidying_ask, tidying_fed, went}
+use Rattle.oak_world.specs.Steps.{BeginsBackWrite, MakesBackRead, MakesBackWrite, MakesCommit, MakesState, MakesSweep, MakesUpdate, MakesUpkeep, PassesTo, work_left}
 use Rattle.oak_world.specs.Worlds.{ActorState, WorldOf, node_in, observing_of, once_looked, parts_at, reading_of, running_as, running_of, state_of, with_parts, work_in}
 use Rattle.oak_world.specs.Looks.{IsLooking}
 use Rattle.oak_world.proofs.Looking.{SamePrevious, both_previous, once_alone, same_previous, update_previous}
 use Rattle.oak_world.proofs.Making.{begins_is, ended_is, makes_last, makes_look, makes_mark, makes_undo, makes_write, observes_is, reads_is, runs_is, same_is, sets_is, told_is}
-use Rattle.oak_world.proofs.States.{LeavesLooks, SameReaders, same_readers}
+use Rattle.oak_world.proofs.States.{LeavesLooks, SameReaders, memory_same, moved, moved_is, newest, rest_is, same_readers, session_same, with_readers}
 use Rattle.oak_saves.proofs.Stages.{IsLookStage, IsMarkStage, last_stage, look_stage, mark_stage, undo_stage, write_stage}
 use Rattle.oak_world.proofs.Sweepers.{IsLookingFor, looks_stay, root_told}
 
@@ -340,3 +352,111 @@ module _ {L : Type 0} (w : WorldOf L) (s : ℕ) (there : s < length w.actors) (q
   makes (work.Move r) here roots o h = move_makes r here o h
   makes (work.Tidy x) here roots o h = absurd h
   makes (work.Told e) here roots o h = absurd h
+
+-- ---- over all memories
+
+-- what is answered hangs on no event
+told_alike : (t : Table) (ms : List NodeState) (es fs : List Event) (a : Ask) → told_to (all_parts t ms es) a ≡ told_to (all_parts t ms fs) a
+told_alike t ms es fs (ask.RemoveIf i n) = refl
+told_alike t ms es fs (ask.Memory m) = refl
+told_alike t ms es fs _ = refl
+
+-- the events of a step, of which there is one at most, are the newest
+went_newest : (past : Past) (s : ℕ) (k : StepKind) → reverse (reverse past ++ went s k) ≡ went s k ++ past
+went_newest past s kind.Read = reverse-append (reverse past) [] ∙ reverse-reverse past
+went_newest past s k = newest past (event.Went s k)
+
+abbrev bound_of : Tidying → Event
+bound_of y = event.Bound (bound_told y).base (bound_told y).sweep
+
+tidy_newest : (past : Past) (s : ℕ) (x y : Tidying) → reverse (reverse past ++ tidy_events s x y) ≡ tidy_events s x y ++ past
+tidy_newest past s x y = by (takes_bound x (tidying_ask x))
+  where
+    by : (b : Bool) → reverse (reverse past ++ option_map_or (λ e. e ∷ []) (cond b (Some (bound_of y)) None) (went s (kind_tidied x))) ≡ option_map_or (λ e. e ∷ []) (cond b (Some (bound_of y)) None) (went s (kind_tidied x)) ++ past
+    by true = newest past (bound_of y)
+    by false = went_newest past s (kind_tidied x)
+
+-- what has ended reads nothing
+ended_unread : (s : ℕ) (x : Tidying) (e : TaskEnd) (told : Event) → TidiesTo s x e told → reader_of x ≡ None
+ended_unread s (tidying.Split x) (ends.Split e) told h = ap (reader_at x) h.0
+ended_unread s (tidying.Split x) _ told h = absurd h
+ended_unread s (tidying.Collect x) e told h = refl
+
+module _ {L : Type 0} (w : WorldOf L) (s : ℕ) (there : s < length w.actors) (q : Parts) (v : Work) (a : ActorState) (does : a.work ≡ v) (x : Tidying) (here : work_in w.actors s ≡ work.Tidy x) (still : q.memory ≡ memory_at w.memories (node_in w.history s)) where
+  abbrev stands : State
+  stands = state_of (with_parts w s q a)
+
+  abbrev next : Tidying
+  next = tidied_in (state_of w) x
+
+  abbrev answered : Table
+  answered = table_after w.table (tidying_ask x)
+
+  abbrev events : Past
+  events = tidy_events s x next
+
+  abbrev own_memory : NodeState
+  own_memory = memory_at w.memories (node_in w.history s)
+
+  -- the state where what was asked is answered
+  tidied_state : (y : Work) → a.work ≡ y → running_of answered s y ≡ None → observing_of y ≡ None → reading_of y ≡ reader_of next → q.table ≡ answered → reverse q.list ≡ events ++ w.history.past → LeavesLooks w s there answered → stands ≡ after_tidied (state_of w) s x
+  tidied_state y is runs observes reads table list leaves =
+      moved_is w s there q a (λ p. ap (λ (t : Table). running_of t p (work_in w.actors p)) table ∙ leaves p)
+      ∙ (ap (λ (past : Past). moved w s there past q.table q.memory (running_of q.table s a.work) a.work) list
+      ∙ (ap (λ (t : Table). moved w s there (events ++ w.history.past) t q.memory (running_of t s a.work) a.work) table
+      ∙ (ap (λ (m : NodeState). moved w s there (events ++ w.history.past) answered m (running_of answered s a.work) a.work) still
+      ∙ (ap (λ (z : Work). moved w s there (events ++ w.history.past) answered own_memory (running_of answered s z) z) is
+      ∙ (ap (λ (ms : List NodeState). record (moved w s there (events ++ w.history.past) answered own_memory (running_of answered s y) y) { memories = ms }) (memory_same w.memories (node_in w.history s))
+      ∙ (ap (λ (f : ℕ → Option Running). record (after_tidied (state_of w) s x) { running = f; reading = with_session (state_of w).reading s (reading_of y); observing = with_session (state_of w).observing s (observing_of y) }) (session_same (state_of w).running s (running_of answered s y) (ap (running_of w.table s) here ∙ sym runs))
+      ∙ (ap (λ (f : ℕ → Option ChangesReader). record (after_tidied (state_of w) s x) { reading = with_session (state_of w).reading s (reading_of y); observing = f }) (session_same (state_of w).observing s (observing_of y) (ap observing_of here ∙ sym observes))
+      ∙ ap (λ (r : Option Reader). record (after_tidied (state_of w) s x) { reading = with_session (state_of w).reading s r }) reads)))))))
+
+  -- where memory was refused
+  gone_state : a.work ≡ work.Rest → q ≡ parts_at w s → stands ≡ with_reader (state_of w) s None
+  gone_state is same =
+      ap (λ (p : Parts). state_of (with_parts w s p a)) same
+      ∙ (rest_is w s there a
+      ∙ (ap (λ (z : Work). with_readers w s there (record (state_of w) { running = with_session (state_of w).running s (running_of w.table s z) }) z) is
+      ∙ (ap (λ (f : ℕ → Option Running). with_readers w s there (record (state_of w) { running = f }) work.Rest) (session_same (state_of w).running s None (ap (running_of w.table s) here))
+      ∙ ap (λ (f : ℕ → Option ChangesReader). record (with_reader (state_of w) s None) { observing = f }) (session_same (state_of w).observing s None (ap observing_of here)))))
+
+  module _ (leaves : LeavesLooks w s there answered) (left : Tidied) (is : v ≡ work_left left) where
+    abbrev before : AllParts
+    before = all_parts w.table w.memories (reverse w.history.past)
+
+    next_is : tidied_on before x ≡ next
+    next_is = ap (tidying_fed x) (told_alike w.table w.memories (reverse w.history.past) [] (tidying_ask x))
+
+    list_is : all_parts q.table w.memories q.list ≡ parts_on s before x → reverse q.list ≡ events ++ w.history.past
+    list_is same =
+        ap (λ (p : AllParts). reverse p.list) same
+        ∙ (ap (λ (y : Tidying). reverse (reverse w.history.past ++ tidy_events s x y)) next_is
+        ∙ tidy_newest w.history.past s x next)
+
+    there_makes : (o : StepOut) → Tidies s before x (all_parts q.table w.memories q.list) left o → MakesState s (state_of w) (work.Tidy x) stands v o
+    there_makes answers.Memory h = (
+      gone_state (does ∙ (is ∙ ap work_left h.1)) (same_parts q (parts_at w s) (ap (λ (p : AllParts). p.table) h.0) still (ap (λ (p : AllParts). p.list) h.0)),
+      is ∙ ap work_left h.1,
+    )
+    there_makes (answers.Went k) h =
+        let goes = subst (λ (y : Tidying). GoesOrEnds s (kind_tidied x) y left (answers.Went k)) next_is h.1 in (
+          tidied_state (work.Tidy next) (does ∙ (is ∙ ap work_left goes.1)) refl refl refl (ap (λ (p : AllParts). p.table) h.0) (list_is h.0) leaves,
+          left,
+          is,
+          goes,
+        )
+    there_makes (answers.Ready e) h =
+        let goes = subst (λ (y : Tidying). GoesOrEnds s (kind_tidied x) y left (answers.Ready e)) next_is h.1 in (
+          tidied_state (work.Told goes.0) (does ∙ (is ∙ ap work_left goes.2)) refl refl (sym (ended_unread s next e goes.0 goes.1)) (ap (λ (p : AllParts). p.table) h.0) (list_is h.0) leaves,
+          left,
+          is,
+          goes,
+        )
+    there_makes _ h = absurd h.1
+
+    -- a step of a split or a collection is one of the state
+    pub tidies_make : (es : List Event) → es ≡ reverse w.history.past → (ns : List NodeState) → ns ≡ w.memories → (o : StepOut) → Tidies s (all_parts w.table w.memories es) x (all_parts q.table ns q.list) left o → MakesState s (state_of w) (work.Tidy x) stands v o
+    tidies_make es told ns kept o h =
+        there_makes o
+        (subst (λ (ms : List NodeState). Tidies s before x (all_parts q.table ms q.list) left o) kept
+        (subst (λ (fs : List Event). Tidies s (all_parts w.table w.memories fs) x (all_parts q.table ns q.list) left o) told h))

@@ -23,13 +23,13 @@ use Rattle.oak_port.specs.declared.task.StepOut.TheVariants as answers
 use Rattle.oak_port.specs.Ports.{AreOfStep, Makes as Tells, is_by_due}
 use Rattle.oak_step.specs.declared.work.Work.{Work}
 use Rattle.oak_world.specs.Kept.{May, scene}
-use Rattle.oak_world.proofs.Changing.{Changes}
+use Rattle.oak_world.proofs.Changing.{Changes, IsPlainly, plain_changes}
 use Rattle.oak_world.specs.Seen.{shown_work}
 use Rattle.oak_step.specs.Works.{kind_due}
 use Rattle.oak_world.specs.Steps.{attached_after, attaching, is_made}
 
--- a step of session s, from one state to the next: the events that it adds, which are of no other session; the state is kept, the session may do what it does then, it is attached then as the journal tells, the documents are numbered on, what is held rises, and it is told so
-pub record IsStepOf (starts : Starts) (says : Says) (s : ℕ) (w : State) (v : Work) (u : State) (x : Work) (o : StepOut) : Type 0 where
+-- a step of session s, from one state to the next, which changes the documents so: the events that it adds, which are of no other session; the state is kept, the session may do what it does then, it is attached then as the journal tells, the documents are numbered on, what is held rises, and it is told so
+pub record IsStepWhere (Changing : State → State → Type 0) (starts : Starts) (says : Says) (s : ℕ) (w : State) (v : Work) (u : State) (x : Work) (o : StepOut) : Type 0 where
   pub own : Past
   pub grown : history_in u ≡ after own (history_in w)
   pub kept : IsKept starts says u
@@ -37,12 +37,38 @@ pub record IsStepOf (starts : Starts) (says : Says) (s : ℕ) (w : State) (v : W
   pub apart : (q : ℕ) → (q == s) ≡ false → AreOthers q own w.past
   pub attached : attached_after v o (is_attached w.past s) ≡ is_attached (own ++ w.past) s
   pub unstopped : (k : ℕ) → is_stopped w.past k ≡ false → is_stopped (own ++ w.past) k ≡ false
-  pub changes : Changes w u
+  pub changes : Changing w u
   pub numbers : w.table.number ≤ last_number → IsNumberStep w.table u.table
   pub holds : IsHoldingStep (holding_in w) (holding_in u)
   pub tells : Tells (history_in w) s (shown_work v) o own (shown_work x)
   pub of_step : AreOfStep (history_in w) s (shown_work v) o own
   pub as_due : is_by_due (kind_due v) own ≡ true
+
+-- a step of session s
+abbrev pub IsStepOf : Starts → Says → ℕ → State → Work → State → Work → StepOut → Type 0
+IsStepOf starts says s w v u x o = IsStepWhere Changes starts says s w v u x o
+
+-- a step of session s that changes the documents plainly
+abbrev pub IsPlainStepOf : Starts → Says → ℕ → State → Work → State → Work → StepOut → Type 0
+IsPlainStepOf starts says s w v u x o = IsStepWhere IsPlainly starts says s w v u x o
+
+-- which is a step
+pub plain_step : (starts : Starts) (says : Says) (s : ℕ) (w : State) (v : Work) (u : State) (x : Work) (o : StepOut) → IsPlainStepOf starts says s w v u x o → IsStepOf starts says s w v u x o
+plain_step starts says s w v u x o step = record {
+  own = step.own;
+  grown = step.grown;
+  kept = step.kept;
+  may = step.may;
+  apart = step.apart;
+  attached = step.attached;
+  unstopped = step.unstopped;
+  changes = plain_changes w u step.changes;
+  numbers = step.numbers;
+  holds = step.holds;
+  tells = step.tells;
+  of_step = step.of_step;
+  as_due = step.as_due;
+}
 
 -- ---- documents and what is held, where they stay
 

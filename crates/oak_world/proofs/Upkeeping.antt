@@ -1,5 +1,5 @@
 -- The steps of background work and on the settings, from one state to the next.
-use Rattle.oak_world.proofs.Changing.{plainly, settings_plain, unchanged, update_plain}
+use Rattle.oak_world.proofs.Changing.{plainly, settings_plain, untouched, update_plain}
 use Rattle.std.proofs.Common.{Bool, None, Option, Some, [], ap, cond, false, inl, inr, is_some, refl, subst, sym, true, ℕ, ◌&&◌, ◌∙◌, ◌∷◌, ◌≡◌, ◌⊎◌}
 use Rattle.std.specs.Prelude.{◌==◌, IsSome, length, slice_get}
 use Rattle.std.specs.BTreeMap.{is_at}
@@ -70,7 +70,7 @@ use Rattle.oak_world.proofs.Ahead.{begins_ahead, below_root, goes_ahead}
 use Rattle.oak_world.proofs.Lasting.{local_lasts}
 use Rattle.oak_world.proofs.Attached.{attached_reads}
 use Rattle.oak_world.proofs.Sweepers.{document_passed, either_stage, root_read, sweep_told, target_own, target_published}
-use Rattle.oak_world.proofs.StepsOf.{IsStepOf, apart_one, chosen, flipped, holds_still, kind_told, none_stopped, numbers_stay, refused_stays, with_true}
+use Rattle.oak_world.proofs.StepsOf.{IsPlainStepOf, apart_one, chosen, flipped, holds_still, kind_told, none_stopped, numbers_stay, refused_stays, with_true}
 
 module _ (starts : Starts) (says : Says) (proper : StartsProper starts) (w : State) (kept : IsKept starts says w) (s : ℕ) (there : is_some (slice_get w.sessions s) ≡ true) (none_halted : (k : ℕ) → is_stopped w.past k ≡ false) where
   -- its cluster node isn't stopped
@@ -84,7 +84,7 @@ module _ (starts : Starts) (says : Says) (proper : StartsProper starts) (w : Sta
   layers = layers_of starts says w kept
 
   abbrev StepOf : Work → State → Work → StepOut → Type 0
-  StepOf v u x o = IsStepOf starts says s w v u x o
+  StepOf v u x o = IsPlainStepOf starts says s w v u x o
 
   on : slice_get w.sessions s ≡ Some (node_of w s)
   on = on_node starts says proper w kept.sessions s there
@@ -101,7 +101,7 @@ module _ (starts : Starts) (says : Says) (proper : StartsProper starts) (w : Sta
 
   -- memory was refused
   refused_step : (k : Upkeep) → Tells (history_in w) s (shown_upkeep k) answers.Memory [] Idle → (u : State) (x : Work) → u ≡ w → x ≡ work.Rest → StepOf (work.Upkeep k) u x answers.Memory
-  refused_step k tells u x same is = at_those (work.Upkeep k) answers.Memory w work.Rest u x same is (record { own = []; grown = refl; kept = kept; may = tt; apart = λ q m. refl; attached = refused_stays (work.Upkeep k) (is_attached w.past s); unstopped = λ q m. m; changes = unchanged w _ refl refl; numbers = numbers_stay w.table; holds = holds_still w; tells = tells; of_step = refl; as_due = refl })
+  refused_step k tells u x same is = at_those (work.Upkeep k) answers.Memory w work.Rest u x same is (record { own = []; grown = refl; kept = kept; may = tt; apart = λ q m. refl; attached = refused_stays (work.Upkeep k) (is_attached w.past s); unstopped = λ q m. m; changes = untouched w _ refl refl; numbers = numbers_stay w.table; holds = holds_still w; tells = tells; of_step = refl; as_due = refl })
 
   module _ (come : IsPresent (history_in w) s) (few : slice_get w.sessions (cursor_owner s) ≡ None) (unobserved : w.observing s ≡ None) (idle : w.running s ≡ None) (unread : w.reading s ≡ None) where
     -- ---- a background write
@@ -115,7 +115,7 @@ module _ (starts : Starts) (says : Says) (proper : StartsProper starts) (w : Sta
       apart = apart_one w.past s (event.Went s kind.Back) (λ q m. flipped q s m);
       attached = refl;
       unstopped = λ q k. k;
-      changes = unchanged w _ refl refl;
+      changes = untouched w _ refl refl;
       numbers = numbers_stay w.table;
       holds = pending_rises starts says proper w layers s come.login come.stays;
       tells = (node_of w s, on, refl, refl, ap Publishing upto_is);
@@ -185,7 +185,7 @@ module _ (starts : Starts) (says : Says) (proper : StartsProper starts) (w : Sta
       }
 
       still_step : (u : State) (x : Work) → u ≡ w → x ≡ work.Rest → StepOf v u x answers.Memory
-      still_step u x same is = at_those v answers.Memory w work.Rest u x same is (record { own = []; grown = refl; kept = kept; may = tt; apart = λ q m. refl; attached = refused_stays v (is_attached w.past s); unstopped = λ q m. m; changes = unchanged w _ refl refl; numbers = numbers_stay w.table; holds = holds_still w; tells = subst (λ (y : Shows). Tells (history_in w) s y answers.Memory [] Idle) (sym shown) (refl, refl); of_step = refl; as_due = refl })
+      still_step u x same is = at_those v answers.Memory w work.Rest u x same is (record { own = []; grown = refl; kept = kept; may = tt; apart = λ q m. refl; attached = refused_stays v (is_attached w.past s); unstopped = λ q m. m; changes = untouched w _ refl refl; numbers = numbers_stay w.table; holds = holds_still w; tells = subst (λ (y : Shows). Tells (history_in w) s y answers.Memory [] Idle) (sym shown) (refl, refl); of_step = refl; as_due = refl })
 
       publish_step : (u : State) (x : Work) (o : StepOut) → MakesBackWrite s w b u x o → StepOf v u x o
       publish_step u x (answers.Went kind.Back) m =
@@ -222,7 +222,7 @@ module _ (starts : Starts) (says : Says) (proper : StartsProper starts) (w : Sta
             apart = apart_one w.past s (event.Went s kind.Back) (λ q m. flipped q s m);
             attached = refl;
             unstopped = λ q k. k;
-            changes = unchanged w _ refl refl;
+            changes = untouched w _ refl refl;
             numbers = numbers_stay w.table;
             holds = went_rises starts says proper w layers s come.login kind.Back refl refl come.stays;
             tells = subst (λ (y : Shows). Tells (history_in w) s y (answers.Went kind.Back) (event.Went s kind.Back ∷ []) (Learning d.last_rev)) (sym (ap (shown_read b) at)) (d.last_rev, told.public, refl, refl, refl);
@@ -239,7 +239,7 @@ module _ (starts : Starts) (says : Says) (proper : StartsProper starts) (w : Sta
         apart = apart_one w.past s (event.In (node_of w s) (learned (memory_of w s) b.last b.sweep).head) (λ q m. refl);
         attached = refl;
         unstopped = λ q k. k;
-        changes = unchanged w _ refl refl;
+        changes = untouched w _ refl refl;
         numbers = numbers_stay w.table;
         holds = learn_rises starts says proper w layers s come.login on_now b.last b.sweep were;
         tells = subst (λ (y : Shows). Tells (history_in w) s y (answers.Ready (ends.Learnt (learned (memory_of w s) b.last b.sweep).head)) (event.In (node_of w s) (learned (memory_of w s) b.last b.sweep).head ∷ []) Idle) (sym (ap (shown_read b) at)) (node_of w s, on, λ r seen. heard starts says proper w (layers_of starts says w kept) s come.login b.last b.sweep were r seen, refl, refl);
@@ -296,7 +296,7 @@ module _ (starts : Starts) (says : Says) (proper : StartsProper starts) (w : Sta
         apart = apart_one w.past s (event.Went s kind.Sweep) (λ q m. flipped q s m);
         attached = unmoved_stays (answers.Went kind.Sweep);
         unstopped = λ q k. k;
-        changes = unchanged w _ refl refl;
+        changes = untouched w _ refl refl;
         numbers = numbers_stay w.table;
         holds = went_rises starts says proper w layers s come.login kind.Sweep refl refl come.stays;
         tells = subst (λ (z : Shows). Tells (history_in w) s z (answers.Went kind.Sweep) (event.Went s kind.Sweep ∷ []) (shown_sweep next (sweeping.stage_of next))) (shown_there swept.Root at) (node_of w s, on, refl, refl, ap (shown_sweep next) read.0 ∙ ap Passing (target ∙ target_published starts says w kept (node_of w s) node));
@@ -326,7 +326,7 @@ module _ (starts : Starts) (says : Says) (proper : StartsProper starts) (w : Sta
         apart = apart_one w.past s (event.Went s kind.Sweep) (λ q m. flipped q s m);
         attached = unmoved_stays (answers.Went kind.Sweep);
         unstopped = λ q k. k;
-        changes = unchanged w _ refl refl;
+        changes = untouched w _ refl refl;
         numbers = numbers_stay w.table;
         holds = went_rises starts says proper w layers s come.login kind.Sweep refl refl come.stays;
         tells = subst (λ (z : Shows). Tells (history_in w) s z (answers.Went kind.Sweep) (event.Went s kind.Sweep ∷ []) (shown_sweep next (sweeping.stage_of next))) (shown_there swept.Document at)
@@ -380,7 +380,7 @@ module _ (starts : Starts) (says : Says) (proper : StartsProper starts) (w : Sta
         apart = apart_one w.past s (event.Went s kind.Learn) (λ q m. flipped q s m);
         attached = unmoved_stays (answers.Ready (ends.Swept y.target));
         unstopped = λ q k. k;
-        changes = unchanged w _ refl refl;
+        changes = untouched w _ refl refl;
         numbers = numbers_stay w.table;
         holds = learn_swept_rises starts says proper w layers s come.login y.target come.stays (of_its_node mine) (published_local starts says w layers (node_of w s) y.target (low mine));
         tells = subst (λ (z : Shows). Tells (history_in w) s z (answers.Ready (ends.Swept y.target)) (event.Went s kind.Learn ∷ []) Idle) (shown_there swept.Learn at) (refl, refl, refl);
@@ -408,7 +408,7 @@ module _ (starts : Starts) (says : Says) (proper : StartsProper starts) (w : Sta
       sweep_step may u x (answers.Ready (ends.Swept r)) m =
           subst (λ (z : Revision). StepOf v u x (answers.Ready (ends.Swept z))) (sym m.1)
           (at_those v (answers.Ready (ends.Swept y.target)) (after_learn_swept w s y.target) work.Rest u x m.2 m.3 (swept_step m.0 (subst (MaySweepOn (history_in w) s y) m.0 may)))
-      sweep_step may u x answers.Memory m = at_those v answers.Memory w work.Rest u x m.0 m.1 (record { own = []; grown = refl; kept = kept; may = tt; apart = λ q m. refl; attached = refused_stays v (is_attached w.past s); unstopped = λ q m. m; changes = unchanged w _ refl refl; numbers = numbers_stay w.table; holds = holds_still w; tells = subst (λ (z : Shows). Tells (history_in w) s z answers.Memory [] Idle) (sym shown) (unswept_step (sweeping.stage_of y)); of_step = refl; as_due = refl })
+      sweep_step may u x answers.Memory m = at_those v answers.Memory w work.Rest u x m.0 m.1 (record { own = []; grown = refl; kept = kept; may = tt; apart = λ q m. refl; attached = refused_stays v (is_attached w.past s); unstopped = λ q m. m; changes = untouched w _ refl refl; numbers = numbers_stay w.table; holds = holds_still w; tells = subst (λ (z : Shows). Tells (history_in w) s z answers.Memory [] Idle) (sym shown) (unswept_step (sweeping.stage_of y)); of_step = refl; as_due = refl })
       sweep_step may u x _ m = absurd m
 
     -- ---- the settings
@@ -529,7 +529,7 @@ module _ (starts : Starts) (says : Says) (proper : StartsProper starts) (w : Sta
       apart = apart_one w.past s (event.Refresh s (memory_of w s).head) (λ q m. flipped q s m);
       attached = chosen s false (is_attached w.past s);
       unstopped = λ q k. k;
-      changes = unchanged w _ refl refl;
+      changes = untouched w _ refl refl;
       numbers = numbers_stay w.table;
       holds = refresh_rises starts says proper w layers s come.login on_now come.stays idle unread unobserved;
       tells = ((memory_of w s).head, refl, refl, refl);
@@ -566,7 +566,7 @@ module _ (starts : Starts) (says : Says) (proper : StartsProper starts) (w : Sta
       apart = apart_one w.past s (event.Went s kind.Pin) (λ q m. flipped q s m);
       attached = refl;
       unstopped = λ q k. k;
-      changes = unchanged w _ refl refl;
+      changes = untouched w _ refl refl;
       numbers = numbers_stay w.table;
       holds = observe_rises starts says proper w layers s come.login pin few come.stays unread unobserved has;
       tells = (base_is starts says proper w kept.sessions s (node_alive starts says proper w kept.sessions s there on_now) come.login come.stays detached ∙ ap (λ (o : Option Pin). Some (option_map_or (λ (p : Pin). p.base) o (memory_of w s).head)) has, refl, refl);

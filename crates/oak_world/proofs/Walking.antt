@@ -108,12 +108,12 @@ use Rattle.oak_step.specs.Works.{kind_due, kind_of_stage}
 use Rattle.oak_world.specs.Steps.{IsPresent, MakesState, MakesCommit, MakesUpdate, MayUpdate}
 use Rattle.oak_world.specs.Worlds.{observing_of, once_looked, reading_of, running_as, running_of}
 use Rattle.oak_world.proofs.Looking.{SamePrevious, ended_found, ended_written, once_alone, once_found, once_outcome, once_written, outcome_found, outcome_written, revision_found, revision_written, update_previous, want_same, whole_rooted}
-use Rattle.oak_world.proofs.Changing.{last_formers, last_plain, mark_formers, mark_plain, plainly, unchanged, undo_plain, write_plain}
+use Rattle.oak_world.proofs.Changing.{last_formers, last_plain, mark_formers, mark_plain, plain_changes, plainly, untouched, undo_plain, write_plain}
 use Rattle.oak_world.proofs.Lookers.{looks_found_on, written_looks}
 use Rattle.oak_saves.proofs.Feeding.{stage_last, stage_mark, stage_write}
 use Rattle.oak_saves.proofs.Stages.{finish_stage}
 use Rattle.oak_world.proofs.Pinning.{pin_base}
-use Rattle.oak_world.proofs.StepsOf.{IsStepOf, apart_one, chosen, flipped, holds_still, kind_told, none_stopped, numbers_stay, refused_stays, with_true}
+use Rattle.oak_world.proofs.StepsOf.{IsPlainStepOf, apart_one, chosen, flipped, holds_still, kind_told, none_stopped, numbers_stay, refused_stays, with_true}
 use Rattle.oak_world.proofs.Upkeeping.{upkeep_step}
 use Rattle.oak_world.proofs.Staying.{come_left, same_roots}
 
@@ -228,7 +228,7 @@ module _ (starts : Starts) (says : Says) (proper : StartsProper starts) (writes 
   layers = layers_of starts says w kept
 
   abbrev StepOf : Work → State → Work → StepOut → Type 0
-  StepOf v u x o = IsStepOf starts says s w v u x o
+  StepOf v u x o = IsPlainStepOf starts says s w v u x o
 
   -- ---- sessions
 
@@ -241,7 +241,7 @@ module _ (starts : Starts) (says : Says) (proper : StartsProper starts) (writes 
     apart = apart_one w.past s (event.Login s (memory_of w s).head) (λ q k. flipped q s k);
     attached = chosen s false (is_attached w.past s);
     unstopped = λ q k. k;
-    changes = unchanged w _ refl refl;
+    changes = untouched w _ refl refl;
     numbers = numbers_stay w.table;
     holds = login_rises starts says proper w layers s on_now there first;
     tells = (ap (λ (p : Pin). event.Login s p.base ∷ []) (sym is), refl);
@@ -258,7 +258,7 @@ module _ (starts : Starts) (says : Says) (proper : StartsProper starts) (writes 
     apart = apart_one w.past s (event.Went s kind.End) (λ q k. flipped q s k);
     attached = refl;
     unstopped = λ q k. k;
-    changes = unchanged w _ refl refl;
+    changes = untouched w _ refl refl;
     numbers = numbers_stay w.table;
     holds = leave_rises starts says proper w layers s come.login on_now few come.stays idle unread unobserved;
     tells = (refl, refl);
@@ -275,7 +275,7 @@ module _ (starts : Starts) (says : Says) (proper : StartsProper starts) (writes 
     apart = apart_one w.past s (event.Refresh s (memory_of w s).head) (λ q k. flipped q s k);
     attached = chosen s false (is_attached w.past s);
     unstopped = λ q k. k;
-    changes = unchanged w _ refl refl;
+    changes = untouched w _ refl refl;
     numbers = numbers_stay w.table;
     holds = refresh_rises starts says proper w layers s come.login on_now come.stays idle unread unobserved;
     tells = (ap (λ (p : Pin). event.Refresh s p.base ∷ []) (sym is), refl);
@@ -306,7 +306,7 @@ module _ (starts : Starts) (says : Says) (proper : StartsProper starts) (writes 
     apart = λ q k. refl;
     attached = refl;
     unstopped = λ q k. k;
-    changes = unchanged w _ refl refl;
+    changes = untouched w _ refl refl;
     numbers = numbers_stay w.table;
     holds = holds_still w;
     tells = (refl, refl, ap (λ (v : RevVec). sees v r) (sym (head_is r on)) ∙ awaits.unseen, held_back r q awaits on);
@@ -323,7 +323,7 @@ module _ (starts : Starts) (says : Says) (proper : StartsProper starts) (writes 
     apart = apart_one w.past s (event.Refresh s (memory_of w s).head) (λ q k. flipped q s k);
     attached = chosen s false (is_attached w.past s);
     unstopped = λ q k. k;
-    changes = unchanged w _ refl refl;
+    changes = untouched w _ refl refl;
     numbers = numbers_stay w.table;
     holds = refresh_rises starts says proper w layers s come.login on_now come.stays idle unread unobserved;
     tells = (ap end.Committed is, ap (λ (v : RevVec). sees v r) (sym (head_is r on)) ∙ seen, (memory_of w s).head, seen, refl, refl);
@@ -359,7 +359,7 @@ module _ (starts : Starts) (says : Says) (proper : StartsProper starts) (writes 
       apart = λ q k. refl;
       attached = refl;
       unstopped = λ q k. k;
-      changes = unchanged w _ refl refl;
+      changes = untouched w _ refl refl;
       numbers = numbers_stay w.table;
       holds = holds_still w;
       tells = goes_on r.parent (path_read r) (shown_work (work.Read next)) same_task;
@@ -380,7 +380,7 @@ module _ (starts : Starts) (says : Says) (proper : StartsProper starts) (writes 
       apart = λ q k. refl;
       attached = refl;
       unstopped = λ q k. k;
-      changes = unchanged w _ refl refl;
+      changes = untouched w _ refl refl;
       numbers = numbers_stay w.table;
       holds = holds_still w;
       tells = gone_tells r.parent (path_read r);
@@ -430,7 +430,7 @@ module _ (starts : Starts) (says : Says) (proper : StartsProper starts) (writes 
         apart = λ q k. refl;
         attached = refl;
         unstopped = λ q k. k;
-        changes = unchanged w _ refl refl;
+        changes = untouched w _ refl refl;
         numbers = numbers_stay w.table;
         holds = holds_still w;
         tells = given r.parent for_same.same_kind next.step refl gives;
@@ -460,7 +460,7 @@ module _ (starts : Starts) (says : Says) (proper : StartsProper starts) (writes 
       apart = λ q k. refl;
       attached = refl;
       unstopped = λ q k. k;
-      changes = unchanged w _ refl refl;
+      changes = untouched w _ refl refl;
       numbers = numbers_stay w.table;
       holds = holds_still w;
       tells = (refl, refl, ap (λ (v : RevVec). Starting (task.Changes v)) then_same.0);
@@ -477,7 +477,7 @@ module _ (starts : Starts) (says : Says) (proper : StartsProper starts) (writes 
       apart = λ q k. refl;
       attached = refl;
       unstopped = λ q k. k;
-      changes = unchanged w _ refl refl;
+      changes = untouched w _ refl refl;
       numbers = numbers_stay w.table;
       holds = holds_still w;
       tells = (refl, refl);
@@ -508,7 +508,7 @@ module _ (starts : Starts) (says : Says) (proper : StartsProper starts) (writes 
         apart = λ q k. refl;
         attached = refl;
         unstopped = λ q k. k;
-        changes = unchanged w _ refl refl;
+        changes = untouched w _ refl refl;
         numbers = numbers_stay w.table;
         holds = holds_still w;
         tells = (r.pin.base, own_base, told_is, refl, refl);
@@ -540,7 +540,7 @@ module _ (starts : Starts) (says : Says) (proper : StartsProper starts) (writes 
     apart = apart_one w.past s (event.Draw (draw_in w s edit marks)) (λ q k. flipped q s k);
     attached = refl;
     unstopped = λ q k. k;
-    changes = unchanged w _ refl refl;
+    changes = untouched w _ refl refl;
     numbers = numbers_stay w.table;
     holds = draw_rises starts says proper w layers s edit marks (marked_paths marks) on_now come.login come.stays apart_now idle lawful (base_above starts says proper w kept s on_now come.login come.stays);
     tells = (draw_in w s edit marks, record { session = refl; edit_is = refl; marks_are = refl }, refl, refl, refl);
@@ -570,7 +570,7 @@ module _ (starts : Starts) (says : Says) (proper : StartsProper starts) (writes 
       apart = λ q k. refl;
       attached = refl;
       unstopped = λ q k. k;
-      changes = unchanged w _ refl refl;
+      changes = untouched w _ refl refl;
       numbers = numbers_stay w.table;
       holds = holds_still w;
       tells = told_writing answers.Memory [] (shown_work (work.Commit (wanting c))) (refl, refl);
@@ -600,7 +600,7 @@ module _ (starts : Starts) (says : Says) (proper : StartsProper starts) (writes 
         apart = λ q k. refl;
         attached = refl;
         unstopped = λ q k. k;
-        changes = unchanged w _ refl refl;
+        changes = untouched w _ refl refl;
         numbers = numbers_stay w.table;
         holds = holds_still w;
         tells = told_writing (answers.Went kind.Read) [] (shown_work (work.Commit found_on)) (inr (inl (refl, refl, inl (ap (λ (r : Revision). shown_by r found_on.outcome) (revision_found w.table c k is looks) ∙ ap (shown_by c.revision) (outcome_found w.table c k is looks ∙ going)))));
@@ -617,7 +617,7 @@ module _ (starts : Starts) (says : Says) (proper : StartsProper starts) (writes 
         apart = λ q k. refl;
         attached = refl;
         unstopped = λ q k. k;
-        changes = unchanged w _ refl refl;
+        changes = untouched w _ refl refl;
         numbers = numbers_stay w.table;
         holds = holds_still w;
         tells = told_writing (answers.Went kind.Read) [] (shown_work (work.Commit (wanting found_on))) (inr (inl (refl, refl, inr (ap (λ (r : Revision). Undoing r end.Memory) (revision_found w.table c k is looks)))));
@@ -738,7 +738,7 @@ module _ (starts : Starts) (says : Says) (proper : StartsProper starts) (writes 
             come = record { login = at.come.login; stays = at.come.stays };
             unended = ended_written c p rest (nodes_in w.table p) ∙ at.unended;
             roots = subst (λ (e : Committing). e.roots ≡ map (λ (f : Met). root_of w.past f.other) e.writer.due) (sym (once_written c p rest w.table (after_write w s x p rest).table documents)) roots_stood;
-            looks = written_looks starts says w kept (after_write w s x p rest) (plainly w _ (write_plain w s x p) refl) s c here going p rest lists;
+            looks = written_looks starts says w kept (after_write w s x p rest) (plain_changes w _ (plainly w _ (write_plain w s x p) refl)) s c here going p rest lists;
           };
           apart = apart_went kind.Write;
           attached = refl;
@@ -922,7 +922,7 @@ module _ (starts : Starts) (says : Says) (proper : StartsProper starts) (writes 
         apart = λ q k. ends_apart moved (node_of w s) done.head c.revision w.past q;
         attached = ends_attached moved (node_of w s) done.head c.revision w.past s;
         unstopped = ends_unstopped moved (node_of w s) done.head c.revision w.past;
-        changes = unchanged w _ refl refl;
+        changes = untouched w _ refl refl;
         numbers = numbers_stay w.table;
         holds = finish_rises starts says proper w layers s x here through;
         tells = deciding_tells h s c.revision c.outcome own_ends ends_so.0 (is_finish moved (node_of w s) done.head c.revision);
@@ -939,7 +939,7 @@ module _ (starts : Starts) (says : Says) (proper : StartsProper starts) (writes 
             apart = λ q k. ends_apart moved (node_of w s) done.head c.revision w.past q;
             attached = ends_attached moved (node_of w s) done.head c.revision w.past s;
             unstopped = ends_unstopped moved (node_of w s) done.head c.revision w.past;
-            changes = unchanged w _ refl refl;
+            changes = untouched w _ refl refl;
             numbers = numbers_stay w.table;
             holds = finish_rises starts says proper w layers s x here through;
             tells = subst (λ (y : Option CommitEnd). Tells h s (shown_by c.revision y) (answers.Ready (ends.Commit e)) own_ends Idle) (sym ends_so.0) (undone_tells h s c.revision e own_ends past (is_finish moved (node_of w s) done.head c.revision));
@@ -1049,9 +1049,9 @@ module _ (starts : Starts) (says : Says) (proper : StartsProper starts) (writes 
 
   -- nothing is done
   still_step : (v : Work) → Tells h s (shown_work v) answers.Memory [] Idle → is_by_due (kind_due v) [] ≡ true → (u : State) (x : Work) → u ≡ w → x ≡ work.Rest → StepOf v u x answers.Memory
-  still_step v tells due u x same is = at_those v answers.Memory w work.Rest u x same is (record { own = []; grown = refl; kept = kept; may = tt; apart = λ q k. refl; attached = refused_stays v (is_attached w.past s); unstopped = λ q k. k; changes = unchanged w _ refl refl; numbers = numbers_stay w.table; holds = holds_still w; tells = tells; of_step = refl; as_due = due })
+  still_step v tells due u x same is = at_those v answers.Memory w work.Rest u x same is (record { own = []; grown = refl; kept = kept; may = tt; apart = λ q k. refl; attached = refused_stays v (is_attached w.past s); unstopped = λ q k. k; changes = untouched w _ refl refl; numbers = numbers_stay w.table; holds = holds_still w; tells = tells; of_step = refl; as_due = due })
 
-  -- a step of a session that may do what it does, but for splits and collections
+  -- a step of a session that may do what it does, but for splits and collections: it changes the documents plainly
   pub any_step : IsTable w.table.documents → (v : Work) → is_tidying v ≡ false → w.running s ≡ running_of w.table s v → w.reading s ≡ reading_of v → w.observing s ≡ observing_of v → May starts (scene w.table w.formers h) s v → (u : State) (x : Work) (o : StepOut) → MakesState s w v u x o → StepOf v u x o
   any_step table work.Login plain runs reads observes may u x (answers.Ready (ends.Pinned pin)) m = at_those work.Login (answers.Ready (ends.Pinned pin)) (after_login w s) work.Rest u x m.0 m.1 (login_step pin m.2 may)
   any_step table work.Login plain runs reads observes may u x answers.Memory m = still_step work.Login (refl, refl) refl u x m.0 m.1

@@ -13,6 +13,7 @@ use Rattle.oak_machine.specs.Sessions.{has_login, has_reader, is_attached, is_st
 use Rattle.oak_read.specs.Reading.{IsTable}
 use Rattle.core_clash.specs.Core.{root_of}
 use Rattle.core_keep.specs.Formers.{Formers}
+use Rattle.core_tidy.specs.Tidying.{AreTidying}
 use Rattle.core_world.specs.Kept.{IsKept, WereOnRoot}
 use Rattle.jr_rev.specs.declared.revision.Revision.{Revision}
 use Rattle.jr_rev.specs.Revisions.{is_at_most}
@@ -33,7 +34,9 @@ use Rattle.oak_world.specs.declared.actor.Actor.{Actor}
 use Rattle.oak_step.specs.declared.work.Work.{Work}
 use Rattle.oak_step.specs.declared.work.Work.TheVariants as work
 use Rattle.oak_step.specs.Parts.{needed}
-use Rattle.oak_world.specs.Worlds.{WorldOf, actor_in, live, once_looked, state_of, with_formers, work_in}
+use Rattle.oak_tidy.specs.Tidyings.{CanTidy}
+use Rattle.oak_world.specs.Ends.{MayTell}
+use Rattle.oak_world.specs.Worlds.{WorldOf, actor_in, live, once_looked, state_of, tidying_of, with_formers, work_in}
 use Rattle.oak_world.specs.Looks.{AreListedOnce, IsLookingOn}
 use Rattle.oak_world.specs.Seen.{shown_work}
 use Rattle.oak_world.specs.Steps.{IsPresent}
@@ -103,7 +106,8 @@ MayKeepUp h s (upkeep.Detaching pin) =
 MayKeepUp h s upkeep.Observe = IsFalse (is_attached h.past s)
 MayKeepUp h s _ = Unit {0}
 
--- what a session does, it may do; no session splits or collects yet
+-- what a session does, it may do: a session that splits or collects can go on over the memories of
+-- all cluster nodes, and how its split or collection ended it may tell
 abbrev pub May : Starts → Scene → ℕ → Work → Type 0
 May starts x s work.Rest = Unit {0}
 May starts x s work.Login = IsFalse (has_login x.history.past s)
@@ -118,13 +122,14 @@ May starts x s (work.Upkeep u) = IsPresent x.history s × MayKeepUp x.history s 
 May starts x s (work.Move r) =
     IsPresent x.history s × IsTrue (is_ended x.history.past r)
     × (slice_get x.history.sessions s ≡ Some r.cluster)
-May starts x s (work.Tidy y) = ⊥
-May starts x s (work.Told e) = ⊥
+May starts x s (work.Tidy y) = IsPresent x.history s × CanTidy x.history.clusters y
+May starts x s (work.Told e) = IsPresent x.history s × MayTell x.history s e
 
 -- the state is kept by its law, with the former documents of those that list previous ones; the
 -- documents are in store order, and each lists each previous document once; there are at most 64
 -- sessions, of each it is known whether it is attached to a checkpoint, no cluster node is stopped,
--- and each may do what it does
+-- each may do what it does, and those that split or collect have tidied so far what they may go on
+-- from
 pub record IsWorld (starts : Starts) (says : Says) {L : Type 0} (w : WorldOf L) : Type 0 where
   pub formers : Formers
   pub kept : IsKept starts says (with_formers (state_of w) formers)
@@ -136,6 +141,8 @@ pub record IsWorld (starts : Starts) (says : Says) {L : Type 0} (w : WorldOf L) 
   pub seats : length w.actors ≡ length w.history.sessions
   pub may : (s : ℕ)
       → May starts (scene w.table formers (live w.history)) s (work_in w.actors s)
+  pub tidying :
+      AreTidying (with_formers (state_of w) formers) (λ s. tidying_of (work_in w.actors s))
 
 -- each event was made for a command that asks for it, and the next command of each session asks for
 -- each event that what is being done for it may still append

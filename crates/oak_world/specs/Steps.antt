@@ -1,5 +1,5 @@
 -- What sessions do, and what a step makes of a world.
-use Rattle.std.specs.Prelude.{◌≡◌, ◌≢◌, ◌⊎◌, ◌≤◌, ◌+◌, ◌-◌, ◌^◌, ℕ, Bool, true, false, cond, min, List, [], ◌∷◌, ◌++◌, length, slice_get, slice_set, Option, Some, None, is_some, IsTrue, IsFalse}
+use Rattle.std.specs.Prelude.{◌≡◌, ◌≢◌, ◌⊎◌, ◌≤◌, ◌+◌, ◌-◌, ◌^◌, ℕ, Bool, true, false, cond, min, List, [], ◌∷◌, length, slice_get, slice_set, Option, Some, None, is_some, IsTrue, IsFalse}
 use Rattle.std.specs.Option.{IsSomeAnd, option_map_or}
 use Rattle.std.specs.declared.alloc.Global.{Global}
 use Rattle.jr_path.specs.declared.path.Path.{Path}
@@ -32,7 +32,8 @@ use Rattle.oak_node.specs.Notes.{IsPending}
 use Rattle.oak_node.specs.Heads.{AwaitsEarlier, learned, next_draw}
 use Rattle.oak_node.specs.Pins.{pin_now}
 use Rattle.oak_read.specs.Reading.{due}
-use Rattle.core_world.specs.States.{State, base_in, memory_of, node_of, nodes_in, with_session}
+use Rattle.core_tidy.specs.Steps.{after_tidied, tidied_in}
+use Rattle.core_world.specs.States.{State, base_in, memory_of, node_of, nodes_in}
 use Rattle.core_world.specs.Steps.{after_attach, after_back, after_checkpoint, after_detach, after_learn, after_learn_swept, after_observe, after_out, after_pending, after_release, after_sweep, after_unfound, after_went, after_draw, after_finish, after_last, after_leave, after_login, after_mark, after_refresh, after_undoing, after_want, after_write, after_write_in_want, with_observer, with_reader}
 use Rattle.oak_port.specs.declared.task.StepOut.{StepOut}
 use Rattle.oak_port.specs.declared.task.StepOut.TheVariants as answers
@@ -57,9 +58,8 @@ use Rattle.oak_saves.specs.Saves.{committed, fed_previous, mark_made}
 use Rattle.oak_tidy.specs.declared.tidying.Tidied.{Tidied}
 use Rattle.oak_tidy.specs.declared.tidying.Tidied.TheVariants as tidied
 use Rattle.oak_tidy.specs.declared.tidying.Tidying.{Tidying}
-use Rattle.oak_tidy.specs.Replies.{all_parts, table_after}
-use Rattle.oak_tidy.specs.Tidyings.{GoesOrEnds, kind_tidied, tidied_on, tidy_events, tidying_ask}
-use Rattle.oak_world.specs.Worlds.{ActorState, IsAtRest, WorldOf, actor_in, reader_of, running_as, state_of, told_first, work_in}
+use Rattle.oak_tidy.specs.Tidyings.{GoesOrEnds, kind_tidied}
+use Rattle.oak_world.specs.Worlds.{ActorState, IsAtRest, WorldOf, actor_in, running_as, state_of, told_first, work_in}
 
 -- ---- who may be told what
 
@@ -230,19 +230,6 @@ MakesUpkeep s w upkeep.Observe u v (answers.Ready (ends.Pinned pin)) =
     (pin_of (memory_of w s) s ≡ Some pin) × (u ≡ after_observe w s pin) × (v ≡ work.Rest)
 MakesUpkeep s w upkeep.Observe u v answers.Memory = (u ≡ w) × (v ≡ work.Rest)
 MakesUpkeep s w upkeep.Observe u v _ = ⊥
-
--- what tidies documents is this after a step in a world
-abbrev pub tidied_in : State → Tidying → Tidying
-tidied_in w x = tidied_on (all_parts w.table w.memories []) x
-
--- the world after a step of session s that tidies documents, but for what is told of former ones:
--- what is asked is done and answered, with its event
-abbrev pub after_tidied : State → ℕ → Tidying → State
-after_tidied w s x = record w {
-  past = tidy_events s x (tidied_in w x) ++ w.past;
-  table = table_after w.table (tidying_ask x);
-  reading = with_session w.reading s (reader_of (tidied_in w x));
-}
 
 -- what a session does whose split or collection has left this
 abbrev pub work_left : Tidied → Work

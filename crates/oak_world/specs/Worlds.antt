@@ -17,14 +17,11 @@ use Rattle.oak_machine.specs.declared.event.Journal.{Journal}
 use Rattle.oak_machine.specs.History.{History, Past}
 use Rattle.oak_node.specs.Memory.{NodeState, begun as begun_memory}
 use Rattle.oak_read.specs.Meaning.{documents_in}
-use Rattle.oak_prev.specs.declared.splitter.Splitter.{Splitter}
-use Rattle.oak_prev.specs.declared.splitter.Step.{Step as SplitStep}
-use Rattle.oak_prev.specs.declared.splitter.Step.TheVariants as split_step
-use Rattle.oak_read.specs.Reading.{node_reader}
 use Rattle.oak_read.specs.declared.reader.Reader.{Reader}
 use Rattle.oak_store.specs.Tables.{Table}
 use Rattle.core_clash.specs.Sessions.{Running}
 use Rattle.core_keep.specs.Formers.{Formers}
+use Rattle.core_tidy.specs.Tidying.{reader_of}
 use Rattle.core_world.specs.Start.{start_table}
 use Rattle.core_world.specs.States.{State, memory_at, with_memory}
 use Rattle.oak_world.specs.declared.actor.Actor.{Actor}
@@ -32,7 +29,6 @@ use Rattle.oak_step.specs.declared.work.Work.{Work}
 use Rattle.oak_step.specs.declared.work.Work.TheVariants as work
 use Rattle.oak_saves.specs.Saves.{Parts, parts}
 use Rattle.oak_tidy.specs.declared.tidying.Tidying.{Tidying}
-use Rattle.oak_tidy.specs.declared.tidying.Tidying.TheVariants as tidying
 
 -- ---- a world
 
@@ -160,15 +156,10 @@ abbrev pub running_of : Table → ℕ → Work → Option Running
 running_of t s (work.Commit c) = Some (running_as s (once_looked t c))
 running_of t s _ = None
 
--- the reader as which a splitter stands that has read nothing
-abbrev pub reader_at : Splitter → SplitStep → Option Reader
-reader_at x split_step.Read = Some (node_reader x.alloc x.pin x.path)
-reader_at x _ = None
-
--- the reader as which something that tidies stands
-abbrev pub reader_of : Tidying → Option Reader
-reader_of (tidying.Split x) = reader_at x x.step
-reader_of (tidying.Collect x) = None
+-- the split or the collection that a session does
+abbrev pub tidying_of : Work → Option Tidying
+tidying_of (work.Tidy x) = Some x
+tidying_of _ = None
 
 -- a session's reader, where it loads, or splits and has read nothing
 abbrev pub reading_of : Work → Option Reader

@@ -1,6 +1,6 @@
 use Rattle.std.proofs.Common.{◌≡◌, Option, IfOk, true, subst, sym, ◌∙◌}
 use Rattle.jcr_run.specs.declared.run.Fetch.{Fetch}
-use Rattle.jcr_run.specs.Standing.{HasLooked, HasRead, Stands}
+use Rattle.jcr_run.specs.Standing.{HasLooked, HasMadeReading, Stands}
 use Rattle.jcr_run.proofs.Loads.{err_with, read_made}
 use Rattle.jcr_run.specs.Nearing.{EndsSooner, HasNeared}
 use Rattle.jcr_run.proofs.Calling.{made_if}
@@ -28,7 +28,7 @@ returns-in-None-clause-looked g c =
 
 pub returns-in-None-clause-read : goal.returns-in-None-clause-read
 returns-in-None-clause-read g c =
-    subst (λ (o : Option Fetch). Rattle.std.specs.Result.IfOk c.read_next.result (HasRead (g.P.Port.shown c.args.port.now) (g.P.Port.shown c.read_next.new.port) (record c.args.run.now { fetch = o }) c.read_next.new.run)) (c.in-None.ensures.after ∙ c.in-None.ensures.value) c.read_next.ensures.read
+    subst (λ (o : Option Fetch). Rattle.std.specs.Result.IfOk c.read_next.result (HasMadeReading (g.P.Port.shown c.args.port.now) (g.P.Port.shown c.read_next.new.port) (record c.args.run.now { fetch = o }) c.read_next.new.run)) (c.in-None.ensures.after ∙ c.in-None.ensures.value) c.read_next.ensures.read
 
 -- what was being read comes nearer, or something begins to be read
 pub returns-in-Some-clause-nears : goal.returns-in-Some-clause-nears

@@ -2,7 +2,7 @@ use Rattle.std.proofs.Common.{Some, false, subst, sym, ◌∙◌}
 use Rattle.jcr_law.specs.declared.law.JcrLaw.{JcrLaw}
 use Rattle.jcr_law.specs.Lasting.{says_of, starts_of}
 use Rattle.jcr_steps.specs.declared.limits.TheConstants.{COMMIT_REPLY_BYTES}
-use Rattle.jcr_session.specs.Tidying.{MayTidy}
+use Rattle.jcr_session.specs.Tidying.{MayBeginTidying}
 use Rattle.jcr_run.proofs.Calling.{forgo_behind, turned_idle}
 use Rattle.jcr_run.proofs.Lawful.{between_forgoes, idle_by}
 use Rattle.jcr_run.proofs.Saying.{room_kept}
@@ -19,7 +19,7 @@ begin-requires g c =
     let mid = g.P.Port.shown c.reserve_say.new.self in
     let waits = c.in-Ok.ensures.ok in
     record {
-      tidies = subst (λ (l : JcrLaw). MayTidy l mid c.args.run.now c.args.task) (sym c.in-Ok.ensures.law)
+      tidies = subst (λ (l : JcrLaw). MayBeginTidying l mid c.args.run.now c.args.task) (sym c.in-Ok.ensures.law)
           (tidies_now law old c.args.run.now c.requires.stands c.requires.between c.requires.next c.requires.unread mid c.args.task c.requires.task
           (by_waits law old mid old.work (Some COMMIT_REPLY_BYTES) waits)
           (waits.work_is ∙ idle_by law old c.args.run.now c.requires.stands c.requires.between c.requires.unread)

@@ -1,10 +1,9 @@
 // What a `checkpoint` begins with.
 ghost use Rattle.std.specs.Prelude.{◌<◌, ◌≤◌, IfOk};
 ghost use Rattle.jr_tree.specs.declared.shared.Who.{Who};
-ghost use Rattle.jcr_held.specs.Checkpoints.{IsNextOf};
+ghost use Rattle.jcr_call.specs.Checkpoints.{IsNextOf};
 
-use crate::Held;
-use jcr_call::{cause_text, next_id};
+use crate::{cause_text, next_id};
 use jcr_ref::MAX_IDS;
 use jcr_trans::text_reply;
 use jr_items::over_limit;
@@ -21,17 +20,15 @@ pub enum NextCheckpoint {
     Refused(String),
 }
 
-impl Held {
-    /// What a `checkpoint` of the session begins with (Oak, DocumentNodeStore: "Checkpoints"). No
-    /// identifier is drawn yet: an accepted reply draws it.
-    pub fn next_checkpoint(&self) -> Result<NextCheckpoint, AllocError>
-        ensures { IfOk result (IsNextOf self.now.who) }
-    {
-        if self.who.ids >= MAX_IDS {
-            return refused(self.alloc);
-        }
-        named(self.alloc, &self.who)
+/// What a `checkpoint` of a session begins with (Oak, DocumentNodeStore: "Checkpoints"). No
+/// identifier is drawn yet: an accepted reply draws it.
+pub fn next_checkpoint(alloc: Global, who: &Who) -> Result<NextCheckpoint, AllocError>
+    ensures { IfOk result (IsNextOf who.now) }
+{
+    if who.ids >= MAX_IDS {
+        return refused(alloc);
     }
+    named(alloc, who)
 }
 
 // The session's next identifier, and the reply that shows it.

@@ -7,8 +7,8 @@ use Rattle.jcr_trans.specs.Answers.{ShowsText}
 use Rattle.jcr_trans.specs.Texts.{answer_text}
 use Rattle.jcr_law.specs.Law.{no_text}
 use Rattle.jcr_law.specs.State.{next_id}
-use Rattle.jcr_held.specs.declared.checkpoints.NextCheckpoint.{NextCheckpoint}
-use Rattle.jcr_held.specs.declared.checkpoints.NextCheckpoint.TheVariants as next
+use Rattle.jcr_call.specs.declared.checkpoints.NextCheckpoint.{NextCheckpoint}
+use Rattle.jcr_call.specs.declared.checkpoints.NextCheckpoint.TheVariants as next
 
 -- what a `checkpoint` begins with has the next identifier of the session, which hasn't drawn all,
 -- and the reply that shows it; or the reply that the session has drawn all its identifiers
