@@ -1,0 +1,8 @@
+pub mod Steps
+pub mod Asked
+pub mod Bounded
+pub mod Collected
+pub mod Split
+pub mod Still
+pub mod Quiet
+pub mod Whole
