@@ -4,11 +4,12 @@ use Rattle.std.specs.List.{filter}
 use Rattle.std.specs.declared.alloc.Global.{Global}
 use Rattle.std.proofs.lemmas.List.{length-map}
 use Rattle.jr_path.specs.declared.path.DocId.TheVariants as id
+use Rattle.oak_clean.specs.Clean.{after_collection}
 use Rattle.oak_doc.specs.declared.asks.Ask.TheVariants as ask
 use Rattle.oak_doc.specs.declared.asks.Collected.{Collected}
 use Rattle.oak_doc.specs.declared.document.Document.{Document}
-use Rattle.oak_gc.specs.Collecting.{begun, due, nothing_collected}
-use Rattle.oak_gc.specs.Resting.{Emptied, collected_by}
+use Rattle.oak_gc.specs.Collecting.{begun, due}
+use Rattle.oak_gc.specs.Resting.{Emptied}
 use Rattle.oak_gc.specs.declared.collector.Collector.{Collector}
 use Rattle.oak_gc.proofs.Resting.{collects_by_the_least}
 use Rattle.oak_machine.specs.declared.event.Event.{Event}
@@ -33,7 +34,7 @@ use Rattle.oak_alone.proofs.Steps.{IsKeptAlone, events_with, next_of}
 module _ (s : ℕ) (ms : List NodeState) (a : Global) (t0 : Table) (root settings : Document) (root_is : found t0 (id.Node []) ≡ Some root) (settings_is : found t0 id.Settings ≡ Some settings) where
   -- what it makes of the documents, and counts
   abbrev pub out : Emptied
-  out = collected_by (bound s ms a t0 root settings root_is settings_is) (record { store = t0; collected = nothing_collected }) t0.documents
+  out = after_collection (bound s ms a t0 root settings root_is settings_is) t0
 
   -- a collection goes on
   pub record IsAt (c : Collector) (t : Table) (es : Past) : Type 0 where

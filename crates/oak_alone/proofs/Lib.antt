@@ -5,4 +5,5 @@ pub mod Collected
 pub mod Split
 pub mod Still
 pub mod Quiet
+pub mod Swept
 pub mod Whole

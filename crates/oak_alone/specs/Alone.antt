@@ -6,6 +6,7 @@ use Rattle.jr_path.specs.declared.path.DocId.{DocId}
 use Rattle.jr_path.specs.declared.path.DocId.TheVariants as id
 use Rattle.jr_path.specs.declared.path.Path.{Path}
 use Rattle.jr_rev.specs.declared.vector.Pin.{Pin}
+use Rattle.oak_clean.specs.Clean.{IsClean, IsCounted, after_collection}
 use Rattle.oak_doc.specs.declared.asks.SplitEnd.{SplitEnd}
 use Rattle.oak_doc.specs.declared.asks.SplitEnd.TheVariants as end
 use Rattle.oak_doc.specs.declared.document.Document.{Document}
@@ -13,7 +14,6 @@ use Rattle.oak_doc.specs.declared.document.PrevEntry.{PrevEntry}
 use Rattle.oak_gc.specs.Bounding.{those_that_tell}
 use Rattle.oak_gc.specs.Bounds.{bound_of}
 use Rattle.oak_gc.specs.Collecting as collecting
-use Rattle.oak_gc.specs.Resting.{Emptied, collected_by}
 use Rattle.oak_machine.specs.declared.event.Event.{Event}
 use Rattle.oak_machine.specs.declared.event.Event.TheVariants as event
 use Rattle.oak_machine.specs.History.{Past}
@@ -38,15 +38,11 @@ use Rattle.oak_alone.specs.Quiet.{Quietly}
 abbrev pub least_held : Document → List NodeState → Document → Pin
 least_held root ms settings = bound_of root (those_that_tell (map node_tells ms)) settings
 
--- what a collection of this bound makes of documents, and what it counts
-abbrev pub emptied : Pin → Table → Emptied
-emptied bound t =
-    collected_by bound (record { store = t; collected = collecting.nothing_collected }) t.documents
-
 -- a collection of session s that began at one world has ended in the other, and tells this: its
 -- bound was the least of all pairs that were held when it began, it told that bound alone, the
--- documents are what a collection of that bound makes of those that there were, and it tells what
--- that counts; memories stay
+-- documents are what a collection of that bound makes of those that there were, no node's has
+-- garbage of that bound, but for those that have the last number, and it tells what that counts,
+-- which is what is gone; memories stay
 pub record HasCollected {L : Type 0} (s : ℕ) (old new : WorldOf L) (told : Event) : Type 0 where
   pub root : Document
   pub root_there : documents_in old.table.documents (id.Node []) ≡ Some root
@@ -57,8 +53,10 @@ pub record HasCollected {L : Type 0} (s : ℕ) (old new : WorldOf L) (told : Eve
   pub events : Past
   pub added : new.history.past ≡ events ++ old.history.past
   pub bounds : filter is_bound events ≡ event.Bound bound.base bound.sweep ∷ []
-  pub documents : new.table ≡ (emptied bound old.table).store
-  pub counted : told ≡ event.Collected s (emptied bound old.table).collected
+  pub documents : new.table ≡ (after_collection bound old.table).store
+  pub clean : IsClean bound new.table
+  pub counted : told ≡ event.Collected s (after_collection bound old.table).collected
+  pub gone : IsCounted bound old.table (after_collection bound old.table)
   pub memories : new.memories ≡ old.memories
 
 -- a collection of a session while which nobody else adds an event ends so
