@@ -1,6 +1,6 @@
 -- A session splits or collects: what it begins, what its steps leave, and what it answers.
 use Rattle.std.proofs.Common.{◌≡◌, ◌⊎◌, inl, inr, ℕ, ◌+◌, ◌*◌, ◌-◌, ◌<◌, ◌≤◌, Bool, true, false, not, ◌||◌, ◌&&◌, None, Some, Option, List, [], ◌∷◌, ◌++◌, is_some}
-use Rattle.std.proofs.Common.{length, refl, sym, ap, ◌∙◌, subst, arith}
+use Rattle.std.proofs.Common.{Result, Ok, Err, IfOk, length, refl, sym, ap, ◌∙◌, subst, arith}
 use Rattle.std.specs.Prelude.{◌==◌, Contains, cond, reverse, slice_get}
 use Rattle.std.specs.List.{list_any}
 use Rattle.std.specs.Option.{option_map_or}
@@ -42,6 +42,7 @@ use Rattle.jcr_law.specs.Since.{is_unmoved, is_unpinned}
 use Rattle.jcr_law.specs.State.{Call, accepted, call_of, command_at, is_ok_text}
 use Rattle.jcr_held.specs.Holds.{Holds}
 use Rattle.jcr_held.specs.Splits.{IsNextSplit}
+use Rattle.jcr_held.specs.declared.splits.NextSplit.{NextSplit}
 use Rattle.jcr_held.specs.declared.splits.NextSplit.TheVariants as nexts
 use Rattle.std.specs.declared.alloc.Global.{Global}
 use Rattle.std.specs.declared.string.String.{String}
@@ -65,7 +66,7 @@ use Rattle.jcr_run.specs.Nearing.{BeginsNearer, EndsSooner, IsReply, ReadsOn, St
 use Rattle.jcr_run.specs.Standing.{AreInStageOrder, HasAwaited, HasCounted, HasReadOn, HasTurned, IsBeside, IsBetweenCommands, IsEndFor, IsFresh, IsIn}
 use Rattle.jcr_run.specs.Standing.{IsInTidying, IsOnCommand, IsOneStep, IsTidyTold, IsTidyWork, Stands, StandsAt, due_by, due_for, due_to, is_allowed}
 use Rattle.jcr_run.specs.Standing.{is_between, is_committing, is_revision_written, is_tidied, is_tidy, is_tidying, stage_at, stage_of}
-use Rattle.jcr_session.specs.Tidying.{IsSplitNext, IsTaskNext, IsTidyTask, MayBeginTidying, tidied_text}
+use Rattle.jcr_session.specs.Tidying.{IsSplitNext, IsSplitOf, IsTaskNext, IsTidyTask, MayBeginTidying, tidied_text}
 use Rattle.jcr_run.proofs.Calling.{turned_idle}
 use Rattle.jcr_run.proofs.Committing.{own as same_number}
 use Rattle.jcr_run.proofs.Cursors.{accepts_by, cursor_settled}
@@ -163,6 +164,16 @@ split_next run is =
     by : (m : Command) → IsTidyCommand m → slice_get run.commands run.index ≡ Some m → due_by m ≡ due.Split → (p : Path) × (slice_get run.commands run.index ≡ Some (command.Split p))
     by _ (split_of p) there same = (p, there)
     by _ collect_of there same = absurd (false≢true (sym (ap collects same)))
+
+-- what the split begins with that is the next command
+pub split_by : {E : Type 0} (run : SessionRun) (m : Command) (r : Result NextSplit E) → slice_get run.commands run.index ≡ Some m → IfOk r (IsSplitOf run m) → IfOk r (IsSplitNext run)
+split_by run m (Ok next) there told = λ p c at holds. told p c (same_next run.commands run.index m (command.Split p) there at) holds
+split_by run m (Err e) there told = tt
+
+-- the same of that command
+pub split_told : {E : Type 0} (run : SessionRun) (m : Command) (q : Path) (r : Result NextSplit E) → m ≡ command.Split q → ((c : Call) → Holds c run.held → IfOk r (IsNextSplit c q)) → IfOk r (IsSplitOf run m)
+split_told run m q (Ok next) is told = λ p c same holds. let k : q ≡ p = (let h : command.Split q ≡ command.Split p = sym is ∙ same in cc) in subst (λ (x : Path). IsNextSplit c x next) k (told c holds)
+split_told run m q (Err e) is told = tt
 
 pub collect_next : (run : SessionRun) → due_for run ≡ due.Collect → slice_get run.commands run.index ≡ Some command.Collect
 collect_next run is =

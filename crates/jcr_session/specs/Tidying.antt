@@ -26,6 +26,11 @@ use Rattle.jcr_run.specs.declared.run.SessionRun.{SessionRun}
 
 -- ---- what it begins
 
+-- what a command that splits begins with
+abbrev pub IsSplitOf : SessionRun → Command → NextSplit → Type 0
+IsSplitOf run m next = (p : Path) (c : Call) → m ≡ command.Split p → Holds c run.held
+    → IsNextSplit c p next
+
 -- what the split of the next command begins with
 abbrev pub IsSplitNext : SessionRun → NextSplit → Type 0
 IsSplitNext run next = (p : Path) (c : Call)

@@ -1,16 +1,18 @@
 // How a session splits the document of a node, or collects garbage, for its next command.
 ghost use Rattle.std.specs.Prelude.{◌≡◌, IfOk, IsTrue, None, false, string_bytes};
+ghost use Rattle.jr_path.specs.declared.path.Path.{Path};
+ghost use Rattle.jcr_trans.specs.declared.command.Command.TheVariants.{Split};
 ghost use Rattle.oak_machine.specs.declared.event.StepKind.TheVariants as kind;
 ghost use Rattle.oak_port.specs.Ports.{HasRoom, is_due};
 ghost use Rattle.jcr_steps.specs.declared.limits.TheConstants.{COMMIT_REPLY_BYTES};
 ghost use Rattle.jcr_run.specs.Asked.{MayForgo, MaySettle};
 ghost use Rattle.jcr_run.specs.Nearing.{BeginsNearer, EndsSooner, IsReply, ReadsOn, StepsOn};
 ghost use Rattle.jcr_run.specs.Nearing.{WorksSooner, turns_left};
-ghost use Rattle.jcr_run.specs.Standing.{HasCounted, HasTurned, IsGranted, IsPrepared, Stands};
+ghost use Rattle.jcr_run.specs.Standing.{HasCounted, HasTurned, IsGranted, IsPrepared, IsReadyFor, Stands};
 ghost use Rattle.jcr_run.specs.Standing.{due_for, is_tidied, is_tidy, is_tidying};
 ghost use Rattle.jcr_run.specs.declared.next.Due.TheVariants as due;
 ghost use Rattle.jcr_run.specs.declared.run.Phase.TheVariants as phase;
-ghost use Rattle.jcr_session.specs.Tidying.{IsSplitNext, IsTaskNext, MayBeginTidying, tidied_text};
+ghost use Rattle.jcr_session.specs.Tidying.{IsSplitNext, IsSplitOf, IsTaskNext, MayBeginTidying, tidied_text};
 
 use jcr_call::{collected_reply, split_reply};
 use jcr_held::NextSplit;
@@ -48,7 +50,19 @@ fn next_split(run: &SessionRun) -> Result<NextSplit, AllocError>
     ensures { IfOk result (IsSplitNext run.now) }
 {
     match run.commands.as_slice().get(run.index as usize) {
-        Some(Command::Split(path)) => run.held.next_split(path),
+        Some(command) => split_of(run, command),
+        None => unreachable!(),
+    }
+}
+
+// What this split begins with.
+fn split_of(run: &SessionRun, command: &Command) -> Result<NextSplit, AllocError>
+    requires split { (p : Path) × (command.now ≡ Split p) }
+    requires ready { IsReadyFor run.now command.now }
+    ensures { IfOk result (IsSplitOf run.now command.now) }
+{
+    match command {
+        Command::Split(path) => run.held.next_split(path),
         _ => unreachable!(),
     }
 }
