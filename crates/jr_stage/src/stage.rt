@@ -23,6 +23,7 @@ use crate::flight::Flight;
 use core_obeys::the_product_obeys;
 use jcr_law::JcrLaw;
 use jcr_run::{SessionRun, Turn, read};
+use jcr_steps::is_read;
 use jcr_trans::{Command, SessionScript};
 use jr_path::{DeepCopy, List};
 use jr_rev::Revision;
