@@ -6,5 +6,3 @@ mod OnTheWay
 mod Referring
 pub mod Unread
 mod Unwritten
-mod Whole
-mod Following

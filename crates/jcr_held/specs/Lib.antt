@@ -2,11 +2,9 @@ pub mod Accepts
 pub mod Alike
 pub mod Begins
 pub mod Comes
-pub mod Follows
 pub mod Holds
 pub mod Looking
 pub mod References
 pub mod Sees
 pub mod Splits
 pub mod Unread
-pub mod Whole

@@ -19,7 +19,7 @@ ghost use Rattle.jcr_held.specs.Begins.{IsFirstCall, IsNewHeld};
 ghost use Rattle.jcr_held.specs.Holds.{Holds};
 ghost use Rattle.jcr_held.specs.declared.references.References.TheVariants as references;
 
-use crate::held_part::HeldPart;
+use jr_known::HeldPart;
 use crate::looking::Place;
 use crate::references::References;
 use jcr_call::{NextCheckpoint, next_checkpoint, used};

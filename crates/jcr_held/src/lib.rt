@@ -5,7 +5,6 @@
 
 mod committing;
 mod held;
-mod held_part;
 mod laws;
 mod loading;
 mod looking;

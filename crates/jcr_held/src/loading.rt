@@ -16,7 +16,7 @@ ghost use Rattle.jcr_held.specs.References.{are_asked};
 ghost use Rattle.jcr_held.specs.Unread.{IsWanted, unread};
 
 use crate::Held;
-use crate::held_part::HeldPart;
+use jr_known::HeldPart;
 use crate::looking::{leave_needs, load_left};
 use crate::references::{References, ask};
 use jcr_call::commits;

@@ -11,7 +11,7 @@ ghost use Rattle.jcr_held.specs.Holds.{Holds, IsReady};
 ghost use Rattle.jcr_held.specs.Splits.{IsNextSplit};
 
 use crate::Held;
-use crate::held_part::HeldPart;
+use jr_known::HeldPart;
 use jcr_call::cause_text;
 use jr_items::{check_limits, no_item};
 use jr_path::{DeepCopy, Path};

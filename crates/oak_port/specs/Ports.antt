@@ -121,6 +121,12 @@ pub record OthersAlone (starts : Starts) (says : Says) (old new : Shown) (work :
 abbrev pub StaysSo : Starts → Says → Shown → Shown → Type 0
 StaysSo starts says old new = OthersAlone starts says old new old.work old.room
 
+-- of the paths at which the node at the base of the session isn't the one at a vector each is told
+abbrev pub TellsChanges : History → ℕ → (since : RevVec) → (told : List Path) → Type 0
+TellsChanges h s since told = (base : RevVec) (p : Path) → base_of h.past s ≡ Some base
+    → (Contains told p → ⊥)
+    → node_at (tree_at h.begin h.past base) p ≡ node_at (tree_at h.begin h.past since) p
+
 -- ---- what a step makes
 
 -- the tree at the base of a session

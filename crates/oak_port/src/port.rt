@@ -1,12 +1,13 @@
 // The calls of a world for one session.
-ghost use Rattle.std.specs.Prelude.{◌≡◌, ◌↔◌, ℕ, OnErr, OnOk, None, Some, IsSome, IsFalse, length};
+ghost use Rattle.std.specs.Prelude.{◌≡◌, ◌↔◌, ℕ, IfOk, IfSome, OnErr, OnOk, None, Some, IsSome, IsFalse, length};
 ghost use Rattle.std.specs.Option.{option_map};
 ghost use Rattle.oak_machine.specs.Sessions.{base_of, has_left, next_index};
 ghost use Rattle.oak_machine.specs.Laws.{after};
-ghost use Rattle.oak_port.specs.Ports.{Answers, HasRoom, Idle, IsAskedOf, IsAtRest, LastsLess, LastsOn, MayBegin, OthersAlone, Shown, Starting, StaysSo, Steps, end_told};
+ghost use Rattle.oak_port.specs.Ports.{Answers, HasRoom, Idle, IsAskedOf, IsAtRest, LastsLess, LastsOn, MayBegin, OthersAlone, Shown, Starting, StaysSo, Steps, TellsChanges, end_told};
 
 use crate::task::{StepOut, Task};
-use jr_rev::Pin;
+use jr_path::{List, Path};
+use jr_rev::{Pin, RevVec};
 use oak_machine::{Law, StepKind};
 use std::alloc::AllocError;
 
@@ -72,6 +73,19 @@ pub trait Port {
         ensures base { IsFalse (has_left (shown self.old).history.past (shown self.old).session)
             → option_map (λ pin. pin.base) result
             ≡ base_of (shown self.old).history.past (shown self.old).session }
+        ensures left { LastsOn (left self.old) (left self.new)
+            (shown self.old) (shown self.new) };
+
+    /// What changed between a vector and the session's base: paths, and among them each at which
+    /// the node at the base isn't the one at that vector. None where that isn't known: a cluster
+    /// node knows it of its own commits, back to the oldest base that it pins, and of no commits of
+    /// other nodes (Oak, DocumentNodeStore: its diff cache, which local commits fill). It is no step.
+    fn changed(&mut self, since: &RevVec) -> Result<Option<List<Path>>, AllocError>
+        ensures law { law self.new ≡ law self.old }
+        ensures same { StaysSo (Self.L.may_start (law self.old)) (Self.L.may_say (law self.old))
+            (shown self.old) (shown self.new) }
+        ensures told { IfOk result (λ told. IfSome told
+            (TellsChanges (shown self.new).history (shown self.new).session since.now)) }
         ensures left { LastsOn (left self.old) (left self.new)
             (shown self.old) (shown self.new) };
 

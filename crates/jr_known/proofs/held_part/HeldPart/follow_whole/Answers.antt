@@ -2,7 +2,7 @@ use Rattle.std.proofs.Common.{Some, refl, subst, sym}
 use Rattle.jr_tree.specs.Edits.{applied}
 use Rattle.jr_part.specs.Parts.{AgreesWith, Knowledge}
 use Rattle.std.proofs.lemmas.Bool.{false≢true}
-use Rattle.jcr_held.proofs.held_part.HeldPart.follow_whole.Goals as goal
+use Rattle.jr_known.proofs.held_part.HeldPart.follow_whole.Goals as goal
 
 pub returns-in-Ok : goal.returns-in-Ok
 returns-in-Ok c = record {

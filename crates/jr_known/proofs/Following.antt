@@ -5,7 +5,7 @@ use Rattle.std.proofs.lemmas.Bool.{false≢true}
 use Rattle.jr_rev.specs.declared.revision.Revision.{Revision}
 use Rattle.jr_tree.specs.declared.edit.Write.{Write}
 use Rattle.jr_part.specs.Parts.{Knowledge}
-use Rattle.jcr_held.specs.Follows.{FollowsEdit, FollowsOrLacks, is_known_still}
+use Rattle.jr_known.specs.Follows.{FollowsEdit, FollowsOrLacks, is_known_still}
 
 pub follows_known : (old new : Knowledge) (by : Revision) (ws : List Write) (r : Result Bool AllocError) → FollowsOrLacks old new by ws r → FollowsEdit old new by ws (is_known_still r)
 follows_known old new by ws (Ok is_whole) h = record { whole = h.whole; nothing = h.nothing; agrees = h.agrees }

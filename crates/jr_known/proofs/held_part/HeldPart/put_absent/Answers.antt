@@ -1,8 +1,8 @@
 use Rattle.std.proofs.Common.{is_some, sym, ap, ◌∙◌}
 use Rattle.jr_part.specs.Parts.{Knowledge}
 use Rattle.jr_tree.specs.Trees.{node_at}
-use Rattle.jcr_held.proofs.Whole.{whole_if_put}
-use Rattle.jcr_held.proofs.held_part.HeldPart.put_absent.Goals as goal
+use Rattle.jr_known.proofs.Whole.{whole_if_put}
+use Rattle.jr_known.proofs.held_part.HeldPart.put_absent.Goals as goal
 
 pub invariant_of-self : goal.invariant_of-self
 invariant_of-self c = λ noted. whole_if_put c.self.inside.part c.put_node.new.self c.args.path.now c.put_node.result

@@ -1,7 +1,7 @@
 use Rattle.std.proofs.Common.{Bool, subst, sym}
-use Rattle.jcr_held.specs.Follows.{FollowsEdit}
-use Rattle.jcr_held.proofs.Following.{follows_known}
-use Rattle.jcr_held.proofs.held_part.HeldPart.follow_if_memory.Goals as goal
+use Rattle.jr_known.specs.Follows.{FollowsEdit}
+use Rattle.jr_known.proofs.Following.{follows_known}
+use Rattle.jr_known.proofs.held_part.HeldPart.follow_if_memory.Goals as goal
 
 pub returns : goal.returns
 returns c =

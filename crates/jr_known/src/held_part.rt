@@ -1,12 +1,13 @@
 // The part of the tree at its base that a session has read.
-ghost use Rattle.std.specs.Prelude.{◌≡◌, IfOk, IsTrue, None, OnErr, OnOk, is_some};
+ghost use Rattle.std.specs.Prelude.{◌≡◌, IfOk, IfSome, IsTrue, None, OnErr, OnOk, is_some};
 ghost use Rattle.std.specs.FinMap.{is_sorted};
 ghost use Rattle.jr_path.specs.Names.{name_cmp, path_cmp};
 ghost use Rattle.jr_tree.specs.Trees.{IsTree, Nodes, node_at};
 ghost use Rattle.jr_part.specs.Parts.{AgreesWith, Lacks, LacksNothing, nothing_known, with_children, with_node};
 ghost use Rattle.jr_part.specs.declared.need.Need.TheVariants as need;
-ghost use Rattle.jcr_held.specs.Follows.{FollowsEdit, FollowsOrLacks, is_known_still};
+ghost use Rattle.jr_known.specs.Follows.{FollowsEdit, FollowsOrLacks, is_known_still};
 
+use crate::EarlierTree;
 use jr_part::{Need, Part, puts_agree};
 use jr_path::{List, Name, Path};
 use jr_rev::Revision;
@@ -16,7 +17,7 @@ use std::marker::Model;
 
 /// A part of the tree, with a note where nothing of the whole tree lacks, so that a command that
 /// asks for all of it goes over nothing. The note may be missing though nothing lacks.
-pub(crate) struct HeldPart {
+pub struct HeldPart {
     part: Part,
     is_whole: bool,
 }
@@ -31,7 +32,7 @@ impl Drop for HeldPart {
 
 impl Model for HeldPart {
     ghost use Rattle.jr_part.specs.Parts.{Knowledge};
-    ghost use Rattle.jcr_held.specs.Whole.{IsWholeIf};
+    ghost use Rattle.jr_known.specs.Whole.{IsWholeIf};
 
     ghost Value = { Knowledge };
 
@@ -41,8 +42,8 @@ impl Model for HeldPart {
 }
 
 impl HeldPart {
-    // Nothing is known. No memory is taken.
-    pub(crate) fn new(alloc: Global) -> HeldPart
+    /// Nothing is known. No memory is taken.
+    pub fn new(alloc: Global) -> HeldPart
         ensures { result ≡ nothing_known }
     {
         HeldPart {
@@ -51,15 +52,38 @@ impl HeldPart {
         }
     }
 
-    // The part of the tree, lent.
-    pub(crate) fn as_part(&self) -> &Part
+    /// What is known of the tree, without a note that it is the whole. No memory is taken.
+    pub fn of(part: Part) -> HeldPart
+        ensures { result ≡ part }
+    {
+        HeldPart {
+            part,
+            is_whole: false,
+        }
+    }
+
+    /// The whole tree, where it is noted that nothing of it lacks, with the paths that were told to
+    /// have changed since. No memory is taken.
+    pub fn into_earlier(self, told: List<Path>) -> Option<EarlierTree>
+        ensures { IfSome result (λ e. e ≡ record { part = self; told = told }) }
+    {
+        let HeldPart { part, is_whole } = self;
+        if is_whole {
+            Some(EarlierTree::of(part, told))
+        } else {
+            None
+        }
+    }
+
+    /// The part of the tree, lent.
+    pub fn as_part(&self) -> &Part
         ensures { result.now ≡ self.now }
     {
         &self.part
     }
 
-    // The tree, where nothing of it lacks.
-    pub(crate) fn whole(&self) -> &Tree
+    /// The tree, where nothing of it lacks.
+    pub fn whole(&self) -> &Tree
         requires { LacksNothing self.now need.All }
         ensures nodes { result.now ≡ self.now.nodes }
         ensures whole { (t : Nodes) → IsTree t → AgreesWith t self.now → result.now ≡ t }
@@ -67,16 +91,16 @@ impl HeldPart {
         self.part.whole()
     }
 
-    // The nodes of a part stand in path order. The call does nothing: callers learn the fact.
-    pub(crate) fn in_order(&self)
+    /// The nodes of a part stand in path order. The call does nothing: callers learn the fact.
+    pub fn in_order(&self)
         ensures nodes { IsTrue (is_sorted path_cmp self.now.nodes) }
     {
         self.part.in_order();
     }
 
-    // Puts the node at a path, or that none is there. A refusal leaves all as it was. Where no node
-    // was known to be there and none is, the note stays.
-    pub(crate) fn put_node(&mut self, path: &Path, node: Option<Node>) -> Result<(), AllocError>
+    /// Puts the node at a path, or that none is there. A refusal leaves all as it was. Where no node
+    /// was known to be there and none is, the note stays.
+    pub fn put_node(&mut self, path: &Path, node: Option<Node>) -> Result<(), AllocError>
         ensures ok { OnOk result (self.new ≡ with_node self.old path.now node) }
         ensures err { OnErr result (self.new ≡ self.old) }
     {
@@ -106,8 +130,8 @@ impl HeldPart {
         self.part.put_node(path, None)
     }
 
-    // Whether a node is known to be at a path.
-    pub(crate) fn has(&self, path: &Path) -> bool
+    /// Whether a node is known to be at a path.
+    pub fn has(&self, path: &Path) -> bool
         ensures { result ≡ is_some (node_at self.now.nodes path.now) }
     {
         match self.part.node(path) {
@@ -116,8 +140,8 @@ impl HeldPart {
         }
     }
 
-    // Puts the names of the children of the node at a path. A refusal leaves all as it was.
-    pub(crate) fn put_children(
+    /// Puts the names of the children of the node at a path. A refusal leaves all as it was.
+    pub fn put_children(
         &mut self,
         path: &Path,
         names: List<(Name, Option<Revision>)>,
@@ -130,8 +154,8 @@ impl HeldPart {
         self.part.put_children(path, names)
     }
 
-    // What lacks first of a need. The whole tree is gone over only where the note is missing.
-    pub(crate) fn lacks(&self, need: &Need) -> Result<Option<Need>, AllocError>
+    /// What lacks first of a need. The whole tree is gone over only where the note is missing.
+    pub fn lacks(&self, need: &Need) -> Result<Option<Need>, AllocError>
         ensures { IfOk result (Lacks self.now need.now) }
     {
         match need {
@@ -140,17 +164,17 @@ impl HeldPart {
         }
     }
 
-    // Nothing of the whole tree lacks, which is noted. What is known stays the same.
-    pub(crate) fn note_whole(&mut self)
+    /// Nothing of the whole tree lacks, which is noted. What is known stays the same.
+    pub fn note_whole(&mut self)
         requires { LacksNothing self.old need.All }
         ensures { self.new ≡ self.old }
     {
         self.is_whole = true;
     }
 
-    // Follows an edit by a revision, where the whole tree is known. Answers whether the whole tree
-    // is known still; else nothing is.
-    pub(crate) fn follow(&mut self, alloc: Global, edit: &Edit, by: Revision) -> bool
+    /// Follows an edit by a revision, where the whole tree is known. Answers whether the whole tree
+    /// is known still; else nothing is.
+    pub fn follow(&mut self, alloc: Global, edit: &Edit, by: Revision) -> bool
         ensures follows { FollowsEdit self.old self.new by edit.now.writes result }
         ensures order { IsTrue (is_sorted path_cmp self.new.nodes) }
     {
