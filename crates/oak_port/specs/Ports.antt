@@ -1,7 +1,7 @@
 -- What a session is told of a world: the history so far and what is being done for the session, and
 -- what a step makes of these.
 use Rattle.std.specs.Prelude.{◌≡◌, ◌≢◌, ◌↔◌, ◌⊎◌, ◌<◌, ◌≤◌, ℕ, Bool, true, false, ⊤, List, [], ◌∷◌}
-use Rattle.std.specs.Prelude.{reverse, slice_get, Option, None, Some, IfSome, IsTrue, IsFalse}
+use Rattle.std.specs.Prelude.{reverse, slice_get, Contains, Option, None, Some, IfSome, IsTrue, IsFalse}
 use Rattle.std.specs.Borrow.{GName}
 use Rattle.std.specs.Option.{option_map_or}
 use Rattle.jr_path.specs.declared.path.Item.{Item}
