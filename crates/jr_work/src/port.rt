@@ -1,7 +1,8 @@
 // The port of a session of a script, over a pass of the script's world.
 use crate::gate::{Gate, gated_step};
 use jcr_law::JcrLaw;
-use jr_rev::Pin;
+use jr_path::{List, Path};
+use jr_rev::{Pin, RevVec};
 use jr_shared::{SharedPort, Taken};
 use oak_machine::StepKind;
 use oak_port::{Port, StepOut, Task};
@@ -88,6 +89,10 @@ impl<'a, R: Wait, K: Took> Port for ScriptPort<'a, R, K> {
         self.port.pin()
     }
 
+    fn changed(&mut self, since: &RevVec) -> Result<Option<List<Path>>, AllocError> {
+        self.port.changed(since)
+    }
+
     fn stopped(&mut self, cluster: u32) -> Option<u64> {
         self.port.stopped(cluster)
     }
@@ -139,6 +144,10 @@ impl<'a, R: Wait, G: Gate, K: Took> Port for GatedPort<'a, R, G, K> {
 
     fn pin(&mut self) -> Option<Pin> {
         self.port.pin()
+    }
+
+    fn changed(&mut self, since: &RevVec) -> Result<Option<List<Path>>, AllocError> {
+        self.port.changed(since)
     }
 
     fn stopped(&mut self, cluster: u32) -> Option<u64> {
