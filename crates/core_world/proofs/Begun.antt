@@ -23,6 +23,7 @@ use Rattle.oak_node.specs.Memory.{NodeState, begun}
 use Rattle.core_clash.specs.Steps.{Reached}
 use Rattle.core_clash.proofs.Reach.{reached_sound}
 use Rattle.core_nodes.specs.Nodes.{ArePinsOf, IsMemoryOf}
+use Rattle.core_nodes.proofs.Changes.{begun_changes}
 use Rattle.core_nodes.proofs.Events.{begun_is, begun_pins}
 use Rattle.core_world.specs.Kept.{AreSessionsKept}
 use Rattle.core_world.specs.Start.{start_state, start_table}
@@ -80,6 +81,7 @@ start_kept starts says clusters sessions nodes = record {
     counted = length-map-range_with_len (λ k. begun k (start clusters)) 1 clusters;
     memory = λ k node. subst (λ (m : NodeState). IsMemoryOf None clusters [] k m) (sym (begun_at clusters k node)) (begun_is None clusters sessions nodes tt k node);
     pins = λ k node. subst (λ (m : NodeState). ArePinsOf sessions [] k m) (sym (begun_at clusters k node)) (begun_pins None clusters sessions k);
+    changes = λ k node. begun_changes k (memory_at (all_begun clusters 1 clusters) k);
   };
   readers = record { told = record { listed = λ p d h e i. absurd (subst (λ l. IsIn e l) (lists_none clusters (length sessions) p d h) i); former = λ p k f h. absurd (false≢true (ap is_some h)); there = λ p d h e i f had. absurd (false≢true (ap is_some had)); copies = λ p k f x h there. absurd (false≢true (ap is_some h)) }; above = λ s r h. absurd (false≢true (ap is_some h)); reads = λ s r h. absurd (false≢true (ap is_some h)); at_base = λ s r h. absurd (false≢true (ap is_some h)); pairs = λ s r h. absurd (false≢true (ap is_some h)) };
   observers = record { goes = λ s r h. absurd (false≢true (ap is_some h)); apart = λ s r h. absurd (false≢true (ap is_some h)); between = λ s r h. absurd (false≢true (ap is_some h)); tells = λ s r h. absurd (false≢true (ap is_some h)) };

@@ -5,7 +5,6 @@ use Rattle.std.specs.Option.{unwrap_or}
 use mathlib.Core.Bool.{false≢true}
 use Rattle.jr_rev.specs.declared.vector.RevVec.{RevVec}
 use Rattle.jr_tree.specs.Edits.{IsProper}
-use Rattle.oak_clash.specs.Clashes.{marked_paths}
 use Rattle.oak_machine.specs.Commits.{tree_at}
 use Rattle.oak_machine.specs.Laws.{AreOfWrites, HasBase, Starts, StartsProper}
 use Rattle.oak_machine.specs.Runs.{AreNodes, IsNode, any_said}
@@ -52,7 +51,7 @@ both_in : Kept begins
 both_in = login_keeps proper_starts any_said proper _ (login_keeps proper_starts any_said proper _ (start_kept proper_starts any_said 2 (1 ∷ 2 ∷ []) two_nodes) 0 refl refl refl) 1 refl refl refl
 
 both_drawn : Kept drawn
-both_drawn = draw_keeps proper_starts any_said proper _ (draw_keeps proper_starts any_said proper begins both_in 0 refl refl refl refl refl refl (edit 1) marks (λ v base. lawful_first v) (λ o h. absurd (false≢true h)) (marked_paths marks)) 1 refl refl refl refl refl refl (edit 2) marks (λ v base. lawful_second v) (λ o h. absurd (false≢true h)) (marked_paths marks)
+both_drawn = draw_keeps proper_starts any_said proper _ (draw_keeps proper_starts any_said proper begins both_in 0 refl refl refl refl refl refl (edit 1) marks (λ v base. lawful_first v) (λ o h. absurd (false≢true h))) 1 refl refl refl refl refl refl (edit 2) marks (λ v base. lawful_second v) (λ o h. absurd (false≢true h))
 
 both_wrote : Kept wrote
 both_wrote = write_keeps proper_starts any_said proper _ (write_keeps proper_starts any_said proper drawn both_drawn 1 _ refl refl refl [] [] refl refl) 0 _ refl refl refl [] [] refl refl

@@ -3,12 +3,12 @@ use Rattle.std.proofs.Common.{◌≡◌, ℕ, ◌≤◌, Bool, true, false, cond
 use Rattle.std.specs.Prelude.{slice_get}
 use Rattle.std.specs.Option.{option_map_or, unwrap_or}
 use mathlib.Core.Bool.{false≢true}
-use Rattle.jr_path.specs.declared.path.Path.{Path}
 use Rattle.jr_rev.specs.declared.revision.Revision.{Revision}
 use Rattle.jr_rev.specs.declared.vector.Pin.{Pin}
 use Rattle.jr_rev.specs.declared.vector.RevVec.{RevVec}
 use Rattle.jr_rev.specs.Revisions.{is_before}
 use Rattle.jr_tree.specs.declared.edit.Edit.{Edit}
+use Rattle.oak_clash.specs.Clashes.{marked_paths}
 use Rattle.oak_clash.specs.declared.mark.MarkAt.{MarkAt}
 use Rattle.oak_machine.specs.declared.event.Draw.{Draw}
 use Rattle.oak_machine.specs.declared.event.Event.{Event}
@@ -126,14 +126,14 @@ module _ (starts : Starts) (says : Says) (proper : StartsProper starts) (w : Sta
         halted = λ q stopped drawing. kept.working.halted q stopped (was_drawn d w.past q (apart q stopped) drawing);
       }
 
-      pub draw_keeps : (paths : List Path) → AreSessionsKept starts says (after_draw w s edit marks paths)
-      draw_keeps paths = record {
+      pub draw_keeps : AreSessionsKept starts says (after_draw w s edit marks (marked_paths marks))
+      draw_keeps = record {
         nodes = kept.nodes;
         run = run;
         committing = draw_commits starts says proper w.clusters w.sessions w.begin kept.nodes w.past w.table w.running kept.committing d run bounded;
         working = working;
-        memories = subst (λ (k : ℕ). AreMemories w.begin w.clusters w.sessions (event.Draw d ∷ w.past) (with_memory w.memories k (after_notes d.revision (with_draw (memory_at w.memories k) d.revision) paths))) same_node
-            (draw_memories starts says w.clusters w.sessions w.begin kept.nodes w.past w.memories kept.memories d run (ap (λ k. next_draw (memory_at w.memories k)) (sym same_node)) paths);
+        memories = subst (λ (k : ℕ). AreMemories w.begin w.clusters w.sessions (event.Draw d ∷ w.past) (with_memory w.memories k (after_notes d.revision (with_draw (memory_at w.memories k) d.revision) (marked_paths marks)))) same_node
+            (draw_memories starts says w.clusters w.sessions w.begin kept.nodes w.past w.memories kept.memories d run (ap (λ k. next_draw (memory_at w.memories k)) (sym same_node)));
         readers = reads_calm starts says proper w kept (event.Draw d) (λ q. refl) refl (λ q r h. refl);
         observers = observes_calm starts says proper w kept (event.Draw d) run (λ k. refl) (λ q. refl) refl (λ q r h. refl) (with_session w.running s (Some (beginning d)))
             (draw_commits starts says proper w.clusters w.sessions w.begin kept.nodes w.past w.table w.running kept.committing d run bounded);

@@ -7,6 +7,7 @@ use Rattle.jr_path.specs.declared.path.Path.{Path}
 use Rattle.jr_path.specs.Lists.{Text}
 use Rattle.jr_rev.specs.declared.vector.Pin.{Pin}
 use Rattle.jr_tree.specs.declared.edit.Edit.{Edit}
+use Rattle.oak_clash.specs.Clashes.{marked_paths}
 use Rattle.oak_clash.specs.declared.mark.MarkAt.{MarkAt}
 use Rattle.oak_commit.specs.Clashing.{Met}
 use Rattle.oak_machine.specs.declared.event.Event.{Event}
@@ -89,8 +90,8 @@ module _ (starts : Starts) (says : Says) (proper : StartsProper starts) (w : Sta
   pub unnotice_whole : (s : ℕ) → AreLayersKept starts says (with_observer w s None)
   unnotice_whole s = record { sessions = unnotice_keeps starts says proper w kept.sessions s; root = kept.root; settings = kept.settings }
 
-  pub draw_whole : (s : ℕ) (edit : Edit) (marks : List MarkAt) (paths : List Path) → IsFalse (is_stopped_under w.sessions w.past s) → IsTrue (has_login w.past s) → IsFalse (has_left w.past s) → IsFalse (is_attached w.past s) → w.running s ≡ None → starts (history_in w) s edit marks → SeesBounded w.past (base_in w s) → AreLayersKept starts says (after_draw w s edit marks paths)
-  draw_whole s edit marks paths on login stays detached none lawful bounded = record { sessions = draw_keeps starts says proper w kept.sessions s (node_alive starts says proper w kept.sessions s (session_there starts says proper w kept.sessions s login) on) login stays on detached none edit marks lawful bounded paths; root = root_quiet w.clusters w.begin w.past w.table (event.Draw (draw_in w s edit marks)) refl kept.root; settings = settings_quiet w.sessions w.past w.table w.table (event.Draw (draw_in w s edit marks)) refl refl kept.settings }
+  pub draw_whole : (s : ℕ) (edit : Edit) (marks : List MarkAt) → IsFalse (is_stopped_under w.sessions w.past s) → IsTrue (has_login w.past s) → IsFalse (has_left w.past s) → IsFalse (is_attached w.past s) → w.running s ≡ None → starts (history_in w) s edit marks → SeesBounded w.past (base_in w s) → AreLayersKept starts says (after_draw w s edit marks (marked_paths marks))
+  draw_whole s edit marks on login stays detached none lawful bounded = record { sessions = draw_keeps starts says proper w kept.sessions s (node_alive starts says proper w kept.sessions s (session_there starts says proper w kept.sessions s login) on) login stays on detached none edit marks lawful bounded; root = root_quiet w.clusters w.begin w.past w.table (event.Draw (draw_in w s edit marks)) refl kept.root; settings = settings_quiet w.sessions w.past w.table w.table (event.Draw (draw_in w s edit marks)) refl refl kept.settings }
 
   pub write_whole : (s : ℕ) (x : Running) (p : Path) (rest : List Path) → w.running s ≡ Some x → IsFalse x.committed → IsFalse x.writer.undoing → x.writer.due ≡ [] → x.writer.left ≡ p ∷ rest → AreLayersKept starts says (after_write w s x p rest)
   write_whole s x p rest here uncommitted going unmet next = record { sessions = write_keeps starts says proper w kept.sessions s x here uncommitted going p rest unmet next; root = write_rooted w kept.root s x p rest; settings = write_set w kept.settings s x p }

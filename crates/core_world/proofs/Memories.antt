@@ -13,6 +13,7 @@ use Rattle.jr_path.specs.declared.path.Path.{Path}
 use Rattle.jr_rev.specs.declared.revision.Revision.{Revision}
 use Rattle.jr_rev.specs.declared.vector.RevVec.{RevVec}
 use Rattle.jr_rev.specs.Vectors.{no_entries, sees, start_of}
+use Rattle.oak_clash.specs.Clashes.{marked_paths}
 use Rattle.oak_machine.specs.declared.event.Draw.{Draw}
 use Rattle.oak_machine.specs.declared.event.Event.{Event}
 use Rattle.oak_machine.specs.declared.event.Event.TheVariants as event
@@ -27,7 +28,7 @@ use Rattle.oak_node.specs.Notes.{with_note, without_seen}
 use Rattle.oak_node.specs.Pins.{pin_now, pin_of, with_pin}
 use Rattle.oak_node.proofs.Noting.{drawn_last}
 use Rattle.oak_node.proofs.Places.{insert_sorted, remove_sorted}
-use Rattle.core_nodes.specs.Nodes.{ArePinsOf, IsMemoryOf, IsOnRoot, base_of_pin, cursor_owner, is_of_node, leaves_memory, leaves_pins, without_session}
+use Rattle.core_nodes.specs.Nodes.{ArePinsOf, IsMemoryOf, IsOnRoot, KeepsChanges, base_of_pin, cursor_owner, draws_nothing, is_of_node, leaves_memory, leaves_pins, without_session}
 use Rattle.oak_machine.specs.Heads.{local}
 use Rattle.core_read.proofs.Latest.{at_most_trans}
 use Rattle.core_heads.proofs.Below.{raised_stands}
@@ -35,6 +36,7 @@ use Rattle.core_heads.proofs.Entries.{raised_length, raised_sees, seen_raised}
 use Rattle.core_heads.proofs.Locals.{head_own}
 use Rattle.core_heads.proofs.Runs.{sound_run}
 use Rattle.jr_rev.specs.Revisions.{is_at_most}
+use Rattle.core_nodes.proofs.Changes.{apart_changes, drawn_changes, dropped_changes}
 use Rattle.core_nodes.proofs.Learning.{learn_run}
 use Rattle.core_nodes.proofs.Events.{apart_run, draw_run, drop_kept, end_run, leave_run, login_run, note_kept, refresh_run}
 use Rattle.core_nodes.proofs.Pins.{cursor_put, pins_kept}
@@ -65,16 +67,24 @@ at_memory P ms k m j lk hk lj here there = by (j == k) refl
     by true h = subst (λ (n : ℕ). P n (memory_at (with_memory ms k m) n)) (sym (same_number j k h)) (subst (P k) (sym (set_here ms k m lk hk)) here)
     by false h = subst (P j) (sym (set_there ms k m j lk lj h)) (there h)
 
+-- an event that leaves the memory of a cluster node draws nothing of the node
+draws_none : (k : ℕ) (e : Event) → leaves_memory k e ≡ true → draws_nothing k e ≡ true
+draws_none k (event.Draw d) leaves = leaves
+draws_none k e leaves = refl
+
 module _ (starts : Starts) (says : Says) (clusters : ℕ) (sessions : List ℕ) (begin : Begin) (nodes : AreNodes clusters sessions) (past : Past) (ms : List NodeState) (are : AreMemories begin clusters sessions past ms) where
   -- a step on the memory of cluster node k
   pub step_on : (k : ℕ) → IsNode clusters k → (m : NodeState) (later : Past) → IsMemoryOf begin clusters later k m → ArePinsOf sessions later k m
       → ((j : ℕ) → IsNode clusters j → (j == k) ≡ false → IsMemoryOf begin clusters later j (memory_at ms j))
       → ((j : ℕ) → IsNode clusters j → (j == k) ≡ false → ArePinsOf sessions later j (memory_at ms j))
+      → KeepsChanges later k m
+      → ((j : ℕ) → IsNode clusters j → (j == k) ≡ false → KeepsChanges later j (memory_at ms j))
       → AreMemories begin clusters sessions later (with_memory ms k m)
-  step_on k node m later memory pins memories all_pins = record {
+  step_on k node m later memory pins memories all_pins changes all_changes = record {
     counted = length-set ms (k - 1) m ∙ are.counted;
     memory = λ j of. at_memory (λ i x. IsMemoryOf begin clusters later i x) ms k m j node.0 within of.0 memory (memories j of);
     pins = λ j of. at_memory (λ i x. ArePinsOf sessions later i x) ms k m j node.0 within of.0 pins (all_pins j of);
+    changes = λ j of. at_memory (λ i x. KeepsChanges later i x) ms k m j node.0 within of.0 changes (all_changes j of);
   }
     where
       within : k ≤ length ms
@@ -86,6 +96,7 @@ module _ (starts : Starts) (says : Says) (clusters : ℕ) (sessions : List ℕ) 
     counted = are.counted;
     memory = λ j of. apart_run begin starts says clusters sessions nodes e past j (memory_at ms j) run (leaves j) (are.memory j of);
     pins = λ j of. pins_kept sessions past j (memory_at ms j) (are.pins j of) e (leaves_all j);
+    changes = λ j of. apart_changes past e j (memory_at ms j) (draws_none j e (leaves j)) (are.changes j of);
   }
 
   -- ---- the pin of a session
@@ -109,6 +120,8 @@ module _ (starts : Starts) (says : Says) (clusters : ℕ) (sessions : List ℕ) 
         (login_run begin starts says clusters sessions nodes past k (memory_at ms k) (are.memory k node) (are.pins k node) s v run on)
         (λ j of h. apart_run begin starts says clusters sessions nodes (event.Login s v) past j (memory_at ms j) run refl (are.memory j of))
         (λ j of h. pins_kept sessions past j (memory_at ms j) (are.pins j of) (event.Login s v) (of_other j h))
+        (are.changes k node)
+        (λ j of h. are.changes j of)
 
     pub refresh_memories : (v : RevVec) → IsRunOf starts says clusters sessions begin (event.Refresh s v ∷ past) → has_left past s ≡ false → AreMemories begin clusters sessions (event.Refresh s v ∷ past) (with_memory ms k (pinned (memory_at ms k) s))
     refresh_memories v run stays = step_on k node (pinned (memory_at ms k) s) (event.Refresh s v ∷ past)
@@ -117,6 +130,8 @@ module _ (starts : Starts) (says : Says) (clusters : ℕ) (sessions : List ℕ) 
         (refresh_run begin starts says clusters sessions nodes past k (memory_at ms k) (are.memory k node) (are.pins k node) s v run on stays)
         (λ j of h. apart_run begin starts says clusters sessions nodes (event.Refresh s v) past j (memory_at ms j) run refl (are.memory j of))
         (λ j of h. pins_kept sessions past j (memory_at ms j) (are.pins j of) (event.Refresh s v) (of_other j h))
+        (are.changes k node)
+        (λ j of h. are.changes j of)
 
     pub leave_memories : slice_get sessions (cursor_owner s) ≡ None → IsRunOf starts says clusters sessions begin (event.Went s kind.End ∷ past) → AreMemories begin clusters sessions (event.Went s kind.End ∷ past) (with_memory ms k (without_session (memory_at ms k) s))
     leave_memories none run = step_on k node (without_session (memory_at ms k) s) (event.Went s kind.End ∷ past)
@@ -125,6 +140,8 @@ module _ (starts : Starts) (says : Says) (clusters : ℕ) (sessions : List ℕ) 
         (leave_run begin clusters sessions past k (memory_at ms k) (are.memory k node) (are.pins k node) s on none)
         (λ j of h. apart_run begin starts says clusters sessions nodes (event.Went s kind.End) past j (memory_at ms j) run refl (are.memory j of))
         (λ j of h. pins_kept sessions past j (memory_at ms j) (are.pins j of) (event.Went s kind.End) (of_other j h))
+        (are.changes k node)
+        (λ j of h. are.changes j of)
 
     pub observe_memories : slice_get sessions (cursor_owner s) ≡ None → (pin : Pin) → pin_of (memory_at ms k) s ≡ Some pin → IsRunOf starts says clusters sessions begin (event.Went s kind.Pin ∷ past) → AreMemories begin clusters sessions (event.Went s kind.Pin ∷ past) (with_memory ms k (with_pin (memory_at ms k) (cursor_owner s) pin))
     observe_memories none pin has run = step_on k node (with_pin (memory_at ms k) (cursor_owner s) pin) (event.Went s kind.Pin ∷ past)
@@ -133,6 +150,8 @@ module _ (starts : Starts) (says : Says) (clusters : ℕ) (sessions : List ℕ) 
         (cursor_put sessions past k (memory_at ms k) (are.pins k node) s pin on none has)
         (λ j of h. apart_run begin starts says clusters sessions nodes (event.Went s kind.Pin) past j (memory_at ms j) run refl (are.memory j of))
         (λ j of h. pins_kept sessions past j (memory_at ms j) (are.pins j of) (event.Went s kind.Pin) (of_other j h))
+        (are.changes k node)
+        (λ j of h. are.changes j of)
 
   -- ---- draws and ends
 
@@ -158,16 +177,19 @@ module _ (starts : Starts) (says : Says) (clusters : ℕ) (sessions : List ℕ) 
       by false e = refl
       by true e = absurd (other_number j k h (sym (same_number k j e)))
 
-  pub draw_memories : (d : Draw) → IsRunOf starts says clusters sessions begin (event.Draw d ∷ past) → d.revision ≡ next_draw (memory_at ms d.revision.cluster) → (paths : List Path)
-      → AreMemories begin clusters sessions (event.Draw d ∷ past) (with_memory ms d.revision.cluster (after_notes d.revision (with_draw (memory_at ms d.revision.cluster) d.revision) paths))
-  draw_memories d run next paths =
+  pub draw_memories : (d : Draw) → IsRunOf starts says clusters sessions begin (event.Draw d ∷ past) → d.revision ≡ next_draw (memory_at ms d.revision.cluster)
+      → AreMemories begin clusters sessions (event.Draw d ∷ past) (with_memory ms d.revision.cluster (after_notes d.revision (with_draw (memory_at ms d.revision.cluster) d.revision) (marked_paths d.marks)))
+  draw_memories d run next =
       let k = d.revision.cluster in
+      let paths = marked_paths d.marks in
       let node : IsNode clusters k = nodes.node d.session k run.0.cluster in
       step_on k node (after_notes d.revision (with_draw (memory_at ms k) d.revision) paths) (event.Draw d ∷ past)
       (notes_memory (event.Draw d ∷ past) k d.revision paths (with_draw (memory_at ms k) d.revision) (drawn_last (memory_at ms k) d.revision next) (subst (λ (r : Revision). IsMemoryOf begin clusters (event.Draw d ∷ past) k (with_draw (memory_at ms k) r)) (sym next) (draw_run begin starts says clusters sessions nodes d past run (memory_at ms k) (are.memory k node))))
       (notes_pins (event.Draw d ∷ past) k d.revision paths _ (same_pins (event.Draw d ∷ past) k (memory_at ms k) (with_draw (memory_at ms k) d.revision) refl (pins_kept sessions past k (memory_at ms k) (are.pins k node) (event.Draw d) refl)))
       (λ j of h. apart_run begin starts says clusters sessions nodes (event.Draw d) past j (memory_at ms j) run (apart_node j k h) (are.memory j of))
       (λ j of h. pins_kept sessions past j (memory_at ms j) (are.pins j of) (event.Draw d) refl)
+      (drawn_changes past d (memory_at ms k) (are.changes k node))
+      (λ j of h. apart_changes past (event.Draw d) j (memory_at ms j) (apart_node j k h) (are.changes j of))
 
   pub end_memories : (r : Revision) → IsNode clusters r.cluster → IsRunOf starts says clusters sessions begin (event.End r ∷ past) → AreMemories begin clusters sessions (event.End r ∷ past) (with_memory ms r.cluster (finished (memory_at ms r.cluster) r))
   end_memories r node run =
@@ -176,6 +198,8 @@ module _ (starts : Starts) (says : Says) (clusters : ℕ) (sessions : List ℕ) 
       (same_pins (event.End r ∷ past) r.cluster (memory_at ms r.cluster) (finished (memory_at ms r.cluster) r) refl (pins_kept sessions past r.cluster (memory_at ms r.cluster) (are.pins r.cluster node) (event.End r) refl))
       (λ j of h. apart_run begin starts says clusters sessions nodes (event.End r) past j (memory_at ms j) run (apart_node j r.cluster h) (are.memory j of))
       (λ j of h. pins_kept sessions past j (memory_at ms j) (are.pins j of) (event.End r) refl)
+      (are.changes r.cluster node)
+      (λ j of h. are.changes j of)
 
   -- ---- what a node learns
 
@@ -189,7 +213,9 @@ module _ (starts : Starts) (says : Says) (clusters : ℕ) (sessions : List ℕ) 
         step_on k node m (event.In k m.head ∷ past) learns.1
             (same_pins (event.In k m.head ∷ past) k (memory_at ms k) m refl (pins_kept sessions past k (memory_at ms k) (are.pins k node) (event.In k m.head) refl))
             (λ j of h. apart_run begin starts says clusters sessions nodes (event.In k m.head) past j (memory_at ms j) learns.0 (apart_node j k h) (are.memory j of))
-            (λ j of h. pins_kept sessions past j (memory_at ms j) (are.pins j of) (event.In k m.head) refl),
+            (λ j of h. pins_kept sessions past j (memory_at ms j) (are.pins j of) (event.In k m.head) refl)
+            (are.changes k node)
+            (λ j of h. are.changes j of),
       )
 
   -- a step of a session that takes the notes that its node's head sees
@@ -201,6 +227,8 @@ module _ (starts : Starts) (says : Says) (clusters : ℕ) (sessions : List ℕ) 
       (same_pins (e ∷ past) k (memory_at ms k) (without_seen (memory_at ms k)) refl (pins_kept sessions past k (memory_at ms k) (are.pins k node) e refl))
       (λ j of h. apart_run begin starts says clusters sessions nodes e past j (memory_at ms j) run refl (are.memory j of))
       (λ j of h. pins_kept sessions past j (memory_at ms j) (are.pins j of) e refl)
+      (dropped_changes past k (memory_at ms k) (are.memory k node).memory (are.changes k node))
+      (λ j of h. are.changes j of)
 
   -- a node that learns how far its own sweep went, which is at most its local revision
   pub swept_memories : (s k : ℕ) → IsNode clusters k → (r : Revision) → r.cluster ≡ k → is_at_most r (local begin past k) ≡ true → IsRunOf starts says clusters sessions begin (event.Went s kind.Learn ∷ past)
@@ -239,6 +267,8 @@ module _ (starts : Starts) (says : Says) (clusters : ℕ) (sessions : List ℕ) 
       (same_pins (e ∷ past) k m (swept_to m r) refl (pins_kept sessions past k m (are.pins k node) e refl))
       (λ j on h. apart_run begin starts says clusters sessions nodes e past j (memory_at ms j) run refl (are.memory j on))
       (λ j on h. pins_kept sessions past j (memory_at ms j) (are.pins j on) e refl)
+      (are.changes k node)
+      (λ j on h. are.changes j on)
     where
       own : (x : Revision) → (sees (memory_at ms k).sweep x ≡ true) ⊎ ((x.cluster ≡ r.cluster) × (is_at_most x r ≡ true)) → sees (memory_at ms k).head x ≡ true
       own x (inl a) = (are.memory k node).sweep.below x a

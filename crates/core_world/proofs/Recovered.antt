@@ -46,6 +46,7 @@ use Rattle.core_clash.proofs.Basics.{decide, not_both, same_revision, some_of, w
 use Rattle.core_clash.proofs.Finished.{finish_keeps}
 use Rattle.core_clash.proofs.Undone.{drop_keeps}
 use Rattle.core_nodes.specs.Nodes.{after_ends, after_recovery}
+use Rattle.core_nodes.proofs.Changes.{recovered_changes, recovered_past}
 use Rattle.core_nodes.proofs.Lists.{reverse_in}
 use Rattle.core_nodes.proofs.Recovering.{ends_before, none_flies, recovered_pins, recovered_pins_apart, recovery_apart, recovery_run}
 use Rattle.core_world.specs.Held.{holding_in}
@@ -289,7 +290,9 @@ module _ (starts : Starts) (says : Says) (proper : StartsProper starts) (w : Sta
           (recovery_run w.begin starts says w.clusters w.sessions kept.nodes k node w.past (memory_at w.memories k) kept.run stopped (kept.memories.memory k node)).1
           (recovered_pins w.sessions w.past k (memory_at w.memories k))
           (λ j on h. recovery_apart w.begin starts says w.clusters w.sessions kept.nodes w.past k j (memory_at w.memories j) runs (turned j h) (kept.memories.memory j on))
-          (λ j on h. recovered_pins_apart w.sessions w.past k j (memory_at w.memories j) (turned j h) (kept.memories.pins j on));
+          (λ j on h. recovered_pins_apart w.sessions w.past k j (memory_at w.memories j) (turned j h) (kept.memories.pins j on))
+          (recovered_changes w.past k (memory_at w.memories k) (kept.memories.changes k node))
+          (λ j on h. recovered_past w.past k j (memory_at w.memories j) (kept.memories.changes j on));
       readers = works.readers;
       observers = works.observers;
     }

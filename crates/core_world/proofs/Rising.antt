@@ -28,7 +28,7 @@ use Rattle.jr_rev.specs.declared.vector.RevVec.{RevVec}
 use Rattle.jr_rev.specs.Revisions.{is_at_most, is_before}
 use Rattle.jr_rev.specs.Vectors.{is_below}
 use Rattle.jr_tree.specs.declared.edit.Edit.{Edit}
-use Rattle.oak_clash.specs.Clashes.{commit_root}
+use Rattle.oak_clash.specs.Clashes.{commit_root, marked_paths}
 use Rattle.oak_clash.specs.declared.mark.MarkAt.{MarkAt}
 use Rattle.oak_commit.specs.Clashing.{Met, mark_op}
 use Rattle.oak_commit.specs.Writing.{last_op, write_op}
@@ -145,11 +145,12 @@ module _ (starts : Starts) (says : Says) (proper : StartsProper starts) (w : Sta
 
   -- ---- commits
 
-  pub draw_rises : (s : ℕ) (edit : Edit) (marks : List MarkAt) (paths : List Path) → is_stopped_under w.sessions w.past s ≡ false → has_login w.past s ≡ true → has_left w.past s ≡ false → is_attached w.past s ≡ false → w.running s ≡ None → starts (history_in w) s edit marks → SeesBounded w.past (base_in w s) → Rises (after_draw w s edit marks paths)
-  draw_rises s edit marks paths on login stays detached none lawful bounded =
+  pub draw_rises : (s : ℕ) (edit : Edit) (marks : List MarkAt) → is_stopped_under w.sessions w.past s ≡ false → has_login w.past s ≡ true → has_left w.past s ≡ false → is_attached w.past s ≡ false → w.running s ≡ None → starts (history_in w) s edit marks → SeesBounded w.past (base_in w s) → Rises (after_draw w s edit marks (marked_paths marks))
+  draw_rises s edit marks on login stays detached none lawful bounded =
       let here = session_there starts says proper w kept.sessions s login in
       let r : Revision = (draw_in w s edit marks).revision in
-      on_memory s here (after_draw w s edit marks paths) (draw_whole starts says proper w kept s edit marks paths on login stays detached none lawful bounded) (event.Draw (draw_in w s edit marks) ∷ []) refl refl refl refl
+      let paths = marked_paths marks in
+      on_memory s here (after_draw w s edit marks paths) (draw_whole starts says proper w kept s edit marks on login stays detached none lawful bounded) (event.Draw (draw_in w s edit marks) ∷ []) refl refl refl refl
       (on_session starts says proper w kept s here (after_notes r (Rattle.oak_node.specs.Heads.with_draw (memory_of w s) r) paths) (draw_step (memory_of w s) r paths)) refl
 
   module _ (s : ℕ) (x : Running) (here : w.running s ≡ Some x) where

@@ -125,6 +125,8 @@ module _ (starts : Starts) (says : Says) (proper : StartsProper starts) (w : Sta
         (let has = kept.memories.pins k node in record { bases = has.bases; pairs = has.pairs })
         (λ j on h. apart_run w.begin starts says w.clusters w.sessions kept.nodes (event.Stop k) w.past j (memory_at w.memories j) run (ap not (turned k j h)) (kept.memories.memory j on))
         (λ j on h. pins_kept w.sessions w.past j (memory_at w.memories j) (kept.memories.pins j on) (event.Stop k) refl)
+        (kept.memories.changes k node)
+        (λ j on h. kept.memories.changes j on)
 
     readers : AreReading (origin w) (event.Stop k ∷ w.past) w.table w.formers (without_node w.sessions k w.reading)
     readers =

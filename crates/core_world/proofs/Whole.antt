@@ -16,6 +16,7 @@ use Rattle.jr_rev.specs.declared.revision.Revision.{Revision}
 use Rattle.jr_rev.specs.declared.vector.Pin.{Pin}
 use Rattle.jr_rev.specs.declared.vector.RevVec.{RevVec}
 use Rattle.jr_tree.specs.declared.edit.Edit.{Edit}
+use Rattle.oak_clash.specs.Clashes.{marked_paths}
 use Rattle.oak_clash.specs.declared.mark.MarkAt.{MarkAt}
 use Rattle.oak_commit.specs.Clashing.{Met}
 use Rattle.oak_doc.specs.declared.document.Document.{Document}
@@ -424,10 +425,10 @@ module _ (starts : Starts) (says : Says) (proper : StartsProper starts) (w : Sta
   pub changes_whole : (s : ℕ) (r : ChangesReader) (o : List CommitChanges) → w.observing s ≡ Some r → r.step ≡ observed.Done o → o ≡ changes_between w.begin w.past r.from r.pin.base
   changes_whole s r o here ends = changes_given starts says proper w kept.sessions s r here o ends
 
-  pub draw_whole : (s : ℕ) (edit : Edit) (marks : List MarkAt) (paths : List Path) → IsFalse (is_stopped_under w.sessions w.past s) → IsTrue (has_login w.past s) → IsFalse (has_left w.past s) → IsFalse (is_attached w.past s) → w.running s ≡ None → starts (history_in w) s edit marks → IsKept starts says (after_draw w s edit marks paths)
-  draw_whole s edit marks paths on login stays detached none lawful = goes (after_draw w s edit marks paths) refl refl (draw_layers starts says proper w layers s edit marks paths on login stays detached none lawful (base_above s on login stays)) (λ r. refl) (λ r. refl)
-      (draw_rises starts says proper w layers s edit marks paths on login stays detached none lawful (base_above s on login stays))
-      (drawn_pinned starts says proper w layers kept.pinned s (session_there starts says proper w kept.sessions s login) (draw_in w s edit marks).revision paths (after_draw w s edit marks paths).past (after_draw w s edit marks paths).running (λ q. refl))
+  pub draw_whole : (s : ℕ) (edit : Edit) (marks : List MarkAt) → IsFalse (is_stopped_under w.sessions w.past s) → IsTrue (has_login w.past s) → IsFalse (has_left w.past s) → IsFalse (is_attached w.past s) → w.running s ≡ None → starts (history_in w) s edit marks → IsKept starts says (after_draw w s edit marks (marked_paths marks))
+  draw_whole s edit marks on login stays detached none lawful = goes (after_draw w s edit marks (marked_paths marks)) refl refl (draw_layers starts says proper w layers s edit marks on login stays detached none lawful (base_above s on login stays)) (λ r. refl) (λ r. refl)
+      (draw_rises starts says proper w layers s edit marks on login stays detached none lawful (base_above s on login stays))
+      (drawn_pinned starts says proper w layers kept.pinned s (session_there starts says proper w kept.sessions s login) (draw_in w s edit marks).revision (marked_paths marks) (after_draw w s edit marks (marked_paths marks)).past (after_draw w s edit marks (marked_paths marks)).running (λ q. refl))
 
   -- a bound that is at most what is held is at most the pair at which a session reads
   actor_below : (m t : RevVec) → IsBelowAll (record { base = m; sweep = t }) (holding_in w) → (s : ℕ) (pin : Pin) → has_login w.past s ≡ true → actor_pin w s ≡ Some pin → IsPairBelow (record { base = m; sweep = t }) pin

@@ -32,7 +32,7 @@ use Rattle.oak_store.specs.Tables.{Table}
 use Rattle.core_clash.specs.Core.{IsCleared}
 use Rattle.core_clash.specs.Sessions.{IsTheirs, Running}
 use Rattle.core_clash.specs.Sound.{Sound}
-use Rattle.core_nodes.specs.Nodes.{cursor_owner, ArePinsOf, IsMemoryOf, IsOnRoot, IsPair, base_of_pin}
+use Rattle.core_nodes.specs.Nodes.{cursor_owner, ArePinsOf, IsMemoryOf, IsOnRoot, IsPair, KeepsChanges, base_of_pin}
 use Rattle.core_keep.specs.Formers.{AreFormers, Formers}
 use Rattle.core_watch.specs.Reading.{ReadsTree}
 use Rattle.core_changes.specs.Observing.{IsObserving}
@@ -86,12 +86,14 @@ pub record AreAtWork (sessions : List ℕ) (past : Past) (running : ℕ → Opti
 -- ---- memories
 
 -- there is a memory for each cluster node, which is that of the past, with the pins of the node's
--- sessions
+-- sessions, and with what the node's draws changed
 pub record AreMemories (begin : Begin) (clusters : ℕ) (sessions : List ℕ) (past : Past)
     (memories : List NodeState) : Type 0 where
   pub counted : length memories ≡ clusters
   pub memory : (k : ℕ) → IsNode clusters k → IsMemoryOf begin clusters past k (memory_at memories k)
   pub pins : (k : ℕ) → IsNode clusters k → ArePinsOf sessions past k (memory_at memories k)
+  -- what the draws of the node marked is noted as changed, as far back as the memory says
+  pub changes : (k : ℕ) → IsNode clusters k → KeepsChanges past k (memory_at memories k)
 
 -- ---- readers
 

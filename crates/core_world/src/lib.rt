@@ -8,6 +8,7 @@ ghost use Rattle.std.specs.Option.{option_map_or};
 ghost use Rattle.jr_path.specs.declared.name.Name.{Name};
 ghost use Rattle.jr_rev.specs.Revisions.{is_before, is_same};
 ghost use Rattle.jr_rev.specs.Vectors.{sees, start_of, greatest, no_entries};
+ghost use Rattle.oak_clash.specs.Clashes.{marked_paths};
 ghost use Rattle.oak_clash.specs.declared.mark.Mark.TheVariants as mark;
 ghost use Rattle.oak_commit.specs.Clashing.{has_mark, marked, noted};
 ghost use Rattle.oak_clash.specs.declared.mark.Mark.{Mark};
@@ -161,17 +162,18 @@ pub fn sessions_keep_the_world<L: Law>(law: &L)
         (w : State) (s : ℕ) → kept w → kept (with_reader w s None) }
 {}
 
-/// Each step of a commit keeps the world: the draw of an edit that the law lets start; the write of
-/// the next document, also where memory is then refused for what is met there, and the mark of the
-/// next collision, of a committer that neither has committed nor undoes; its last write, where
-/// nothing is left; its turn to undoing for want of memory; the undoing of a document; and the end
-/// of its revision.
+/// Each step of a commit keeps the world: the draw of an edit that the law lets start, with which
+/// the paths that it marks are noted; the write of the next document, also where memory is then
+/// refused for what is met there, and the mark of the next collision, of a committer that neither
+/// has committed nor undoes; its last write, where nothing is left; its turn to undoing for want of
+/// memory; the undoing of a document; and the end of its revision.
 pub fn commits_keep_the_world<L: Law>(law: &L)
     ensures draw { let kept = IsKept (L.may_start law.now) (L.may_say law.now) in
-        (w : State) (s : ℕ) (edit : Edit) (marks : List MarkAt) (paths : List Path) → kept w
+        (w : State) (s : ℕ) (edit : Edit) (marks : List MarkAt) → kept w
         → IsFalse (is_stopped_under w.sessions w.past s) → IsTrue (has_login w.past s)
         → IsFalse (has_left w.past s) → IsFalse (is_attached w.past s) → w.running s ≡ None
-        → L.may_start law.now (history_in w) s edit marks → kept (after_draw w s edit marks paths) }
+        → L.may_start law.now (history_in w) s edit marks
+        → kept (after_draw w s edit marks (marked_paths marks)) }
     ensures write { let kept = IsKept (L.may_start law.now) (L.may_say law.now) in
         (w : State) (s : ℕ) (x : Running) (p : Path) (rest : List Path) → kept w
         → w.running s ≡ Some x → IsFalse x.committed → IsFalse x.writer.undoing → x.writer.due ≡ []
@@ -423,11 +425,12 @@ pub fn what_is_held_rises<L: Law>(law: &L)
     ensures reader { (w : State) (s : ℕ) (r : Option Reader)
         → IsHoldingStep (holding_in w) (holding_in (with_reader w s r)) }
     ensures draw { let kept = IsKept (L.may_start law.now) (L.may_say law.now) in
-        (w : State) (s : ℕ) (edit : Edit) (marks : List MarkAt) (paths : List Path) → kept w
+        (w : State) (s : ℕ) (edit : Edit) (marks : List MarkAt) → kept w
         → IsFalse (is_stopped_under w.sessions w.past s) → IsTrue (has_login w.past s)
         → IsFalse (has_left w.past s) → IsFalse (is_attached w.past s) → w.running s ≡ None
         → L.may_start law.now (history_in w) s edit marks
-        → IsHoldingStep (holding_in w) (holding_in (after_draw w s edit marks paths)) }
+        → IsHoldingStep (holding_in w)
+        (holding_in (after_draw w s edit marks (marked_paths marks))) }
     ensures write { let kept = IsKept (L.may_start law.now) (L.may_say law.now) in
         (w : State) (s : ℕ) (x : Running) (p : Path) (rest : List Path) → kept w
         → w.running s ≡ Some x → IsFalse x.committed → IsFalse x.writer.undoing → x.writer.due ≡ []

@@ -3,7 +3,7 @@ use Rattle.core_world.proofs.commits_keep_the_world.Goals as goal
 use Rattle.core_world.proofs.Whole.{draw_whole, finish_whole, last_whole, mark_whole, undo_whole, want_whole, write_in_want_whole, write_whole}
 
 pub returns-clause-draw : goal.returns-clause-draw
-returns-clause-draw g c = λ w s edit marks paths kept on login stays detached none lawful. draw_whole (g.L.Law.may_start c.args.law.now) (g.L.Law.may_say c.args.law.now) (g.L.Law.proper c.args.law.now) w kept s edit marks paths on login stays detached none lawful
+returns-clause-draw g c = λ w s edit marks kept on login stays detached none lawful. draw_whole (g.L.Law.may_start c.args.law.now) (g.L.Law.may_say c.args.law.now) (g.L.Law.proper c.args.law.now) w kept s edit marks on login stays detached none lawful
 
 pub returns-clause-write : goal.returns-clause-write
 returns-clause-write g c = λ w s x p rest kept here uncommitted going unmet next. write_whole (g.L.Law.may_start c.args.law.now) (g.L.Law.may_say c.args.law.now) (g.L.Law.proper c.args.law.now) w kept s x p rest here uncommitted going unmet next

@@ -27,7 +27,7 @@ pub returns-clause-reader : goal.returns-clause-reader
 returns-clause-reader g c = λ w s r. still_holding (holding_in w)
 
 pub returns-clause-draw : goal.returns-clause-draw
-returns-clause-draw g c = λ w s edit marks paths kept on login stays detached none lawful. draw_rises (g.L.Law.may_start c.args.law.now) (g.L.Law.may_say c.args.law.now) (g.L.Law.proper c.args.law.now) w (layers_of (g.L.Law.may_start c.args.law.now) (g.L.Law.may_say c.args.law.now) w kept) s edit marks paths on login stays detached none lawful (base_above (g.L.Law.may_start c.args.law.now) (g.L.Law.may_say c.args.law.now) (g.L.Law.proper c.args.law.now) w kept s on login stays)
+returns-clause-draw g c = λ w s edit marks kept on login stays detached none lawful. draw_rises (g.L.Law.may_start c.args.law.now) (g.L.Law.may_say c.args.law.now) (g.L.Law.proper c.args.law.now) w (layers_of (g.L.Law.may_start c.args.law.now) (g.L.Law.may_say c.args.law.now) w kept) s edit marks on login stays detached none lawful (base_above (g.L.Law.may_start c.args.law.now) (g.L.Law.may_say c.args.law.now) (g.L.Law.proper c.args.law.now) w kept s on login stays)
 
 pub returns-clause-write : goal.returns-clause-write
 returns-clause-write g c = λ w s x p rest kept here uncommitted going unmet next. write_rises (g.L.Law.may_start c.args.law.now) (g.L.Law.may_say c.args.law.now) (g.L.Law.proper c.args.law.now) w (layers_of (g.L.Law.may_start c.args.law.now) (g.L.Law.may_say c.args.law.now) w kept) s x here uncommitted going p rest unmet next
