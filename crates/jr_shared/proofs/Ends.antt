@@ -27,7 +27,7 @@ both false b p q = absurd (false≢true p)
 
 -- ---- one event
 
-pub tell_end : (h : History) (s : ℕ) (e : Event) → MayTell h s e → may_end h.past s e ≡ true
+tell_end : (h : History) (s : ℕ) (e : Event) → MayTell h s e → may_end h.past s e ≡ true
 tell_end h s (event.Split t path o) m = both (t == s) (has_login h.past t && is_split_end o) m.own (both (has_login h.past t) (is_split_end o) m.follows.0 m.follows.1)
 tell_end h s (event.Collected t c) m =
     let skips : list_all (λ skip. is_skip skip.1 skip.2) c.skipped ≡ true = list_all-from_AllPass (λ skip. is_skip skip.1 skip.2) c.skipped m.follows.skips in

@@ -210,7 +210,7 @@ none_between s past Either own mine others theirs a b h = alike_ended s past own
 
 -- ---- whose it is
 
-pub not_theirs : (t s q : ℕ) → (t == s) ≡ true → (q == s) ≡ false → (t == q) ≡ false
+not_theirs : (t s q : ℕ) → (t == s) ≡ true → (q == s) ≡ false → (t == q) ≡ false
 not_theirs t s q own apart = subst (λ (n : ℕ). (n == q) ≡ false) (sym (same_number t s own)) (flipped q s apart)
 
 revision_apart : (s q : ℕ) (o : Option Draw) → option_map_or (λ d. d.session == s) o false ≡ true → (q == s) ≡ false → option_map_or (λ d. d.session == q) o false ≡ false

@@ -1,13 +1,15 @@
 -- What a port over a pass tells of a call that was made under one hold.
-use Rattle.std.proofs.Common.{◌≡◌, ◌≢◌, ◌↔◌, ◌⊎◌, inl, inr, ℕ, ◌+◌, ◌<◌, true, false, Option, Some, None, Result, Ok, Err, [], ◌∷◌, ◌++◌, length, is_some, refl, sym, ap, subst, ◌∙◌, arith, length-append}
-use Rattle.std.specs.Prelude.{◌==◌, IfSome, reverse, slice_get}
+use Rattle.std.proofs.Common.{◌≡◌, ◌≢◌, ◌↔◌, ◌⊎◌, inl, inr, ℕ, ◌+◌, ◌<◌, true, false, Option, Some, None, Result, Ok, Err, List, [], ◌∷◌, ◌++◌, length, is_some, refl, sym, ap, subst, ◌∙◌, arith, length-append}
+use Rattle.std.specs.Prelude.{◌==◌, IfOk, IfSome, reverse, slice_get}
 use Rattle.std.specs.Borrow.{GName}
 use Rattle.std.specs.Map.{lookup}
 use Rattle.std.specs.Option.{option_and_then, option_map, option_map_or, unwrap_or}
 use Rattle.std.specs.declared.alloc.AllocError.{AllocError}
 use Rattle.std.proofs.lemmas.List.{append_assoc, reverse-reverse}
+use Rattle.jr_path.specs.declared.path.Path.{Path}
 use Rattle.jr_path.specs.Lists.{Text}
 use Rattle.jr_rev.specs.declared.vector.Pin.{Pin}
+use Rattle.jr_rev.specs.declared.vector.RevVec.{RevVec}
 use Rattle.oak_machine.specs.declared.event.Event.TheVariants as event
 use Rattle.oak_machine.specs.declared.event.StepKind.{StepKind}
 use Rattle.oak_machine.specs.declared.event.StepKind.TheVariants as kind
@@ -19,7 +21,7 @@ use Rattle.oak_machine.specs.Sessions.{base_of, has_left}
 use Rattle.core_world.specs.States.{State, actor_pin, memory_of}
 use Rattle.oak_port.specs.declared.task.StepOut.{StepOut}
 use Rattle.oak_port.specs.declared.task.Task.{Task}
-use Rattle.oak_port.specs.Ports.{ActedAlone, AreOfStep, Answers, Grows, Idle, IsAtRest as IsShownAtRest, IsWait, Makes, OthersAlone, ReadsAsDue, SplitsAsDue, Starting, StaysSo, Steps, Work as Shows, end_told, is_by_due, is_due}
+use Rattle.oak_port.specs.Ports.{ActedAlone, AreOfStep, Answers, Grows, Idle, IsAtRest as IsShownAtRest, IsWait, Makes, OthersAlone, ReadsAsDue, SplitsAsDue, Starting, StaysSo, Steps, TellsChanges, Work as Shows, end_told, is_by_due, is_due}
 use Rattle.oak_step.specs.declared.work.Work.{Work}
 use Rattle.oak_step.specs.declared.work.Work.TheVariants as work
 use Rattle.oak_world.specs.Left.{left_in, steps_left}
@@ -32,7 +34,7 @@ use Rattle.oak_world.proofs.States.{actor_set}
 use Rattle.seat_lock.specs.declared.rule.Round.TheVariants as round
 use Rattle.jr_shared.specs.declared.locked.WorldFrame.{WorldFrame}
 use Rattle.jr_shared.specs.Meanings.{Owned, frame_of, journal_of, owned_of, steady_of}
-use Rattle.jr_shared.specs.Holds.{DueIs, IsTold, IsToldOf, PassKnown, OneHold, PinIs, Reserved, Stepped, actor_by, has_seat, owned_by, seat_by}
+use Rattle.jr_shared.specs.Holds.{ChangesAre, DueIs, IsTold, IsToldOf, PassKnown, OneHold, PinIs, Reserved, Stepped, actor_by, has_seat, owned_by, seat_by}
 use Rattle.jr_shared.specs.Seen.{history_by, law_by, left_by, shown_through, state_by}
 use Rattle.jr_shared.proofs.Acts.{step_grows}
 use Rattle.jr_shared.proofs.Got
@@ -207,6 +209,9 @@ module _ {L : Type 0} (law : Ghosts L) (old new : PassKnown L) (s : ℕ) (made :
 
       pub pin_is : (r : Option Pin) → PinIs got s r left → has_left (reverse old.seen) s ≡ false → option_map (λ pin. pin.base) r ≡ base_of (reverse old.seen) s
       pin_is r p stays = p.base (Got.left_got law old got h.got_is s seat told ∙ stays) ∙ Got.base_got law old got h.got_is s seat told
+
+      pub changes_are : (since : RevVec) (r : Result (Option (List Path)) AllocError) → ChangesAre got s since r left → IfOk r (λ o. IfSome o (TellsChanges (history_by new) s since))
+      changes_are since r c = subst (λ (x : History). IfOk r (λ o. IfSome o (TellsChanges x s since))) (sym (history_new ∙ ap (λ (w : WorldOf L). live w.history) c.same)) c.told
 
       -- where no event was added, none was before
       none_added : live left.history ≡ live got.history → history_by new ≡ history_by old → more ≡ []

@@ -1,6 +1,6 @@
 -- What a pass of a world knows, and what a call of the world under one hold of the lock makes of
 -- both.
-use Rattle.std.specs.Prelude.{◌≡◌, ◌≢◌, ◌↔◌, ◌⊎◌, ◌<◌, ◌==◌, ℕ, ◌++◌, Bool, true, [], length, map, is_some, reverse, IfSome, IsFalse, IsSome, IsTrue, OnErr, OnOk, Option, Some, Result}
+use Rattle.std.specs.Prelude.{◌≡◌, ◌≢◌, ◌↔◌, ◌⊎◌, ◌<◌, ◌==◌, ℕ, ◌++◌, Bool, true, List, [], length, map, is_some, reverse, IfOk, IfSome, IsFalse, IsSome, IsTrue, OnErr, OnOk, Option, Some, Result}
 use Rattle.std.specs.Borrow.{GName}
 use Rattle.std.specs.List.{range_with_len}
 use Rattle.std.specs.Map.{lookup}
@@ -9,7 +9,9 @@ use Rattle.std.specs.declared.alloc.AllocError.{AllocError}
 use mathlib.Core.List.{IsPrefix}
 use Rattle.oak_machine.specs.declared.event.Event.{Event}
 use Rattle.oak_machine.specs.declared.law.Law.{Ghosts}
+use Rattle.jr_path.specs.declared.path.Path.{Path}
 use Rattle.jr_rev.specs.declared.vector.Pin.{Pin}
+use Rattle.jr_rev.specs.declared.vector.RevVec.{RevVec}
 use Rattle.oak_machine.specs.declared.event.StepKind.{StepKind}
 use Rattle.oak_machine.specs.Asked.{AreAsked}
 use Rattle.oak_machine.specs.History.{Past}
@@ -19,7 +21,7 @@ use Rattle.core_world.specs.Kept.{IsKept}
 use Rattle.core_world.specs.States.{actor_pin}
 use Rattle.oak_port.specs.declared.task.StepOut.{StepOut}
 use Rattle.oak_port.specs.declared.task.Task.{Task}
-use Rattle.oak_port.specs.Ports.{IsWait, Steps}
+use Rattle.oak_port.specs.Ports.{IsWait, Steps, TellsChanges}
 use Rattle.oak_step.specs.declared.work.Work.{Work}
 use Rattle.oak_step.specs.declared.work.Work.TheVariants as work
 use Rattle.oak_world.specs.Ends.{MayTell}
@@ -171,6 +173,13 @@ module _ {L : Type 0} where
     pub pin : r ≡ actor_pin (state_of w) s
     pub base : IsFalse (has_left w.history.past s)
         → option_map (λ pin. pin.base) r ≡ base_of w.history.past s
+
+  -- what changed between a vector and the session's base was told, where that is known, and the world
+  -- is as it was
+  pub record ChangesAre (w : WorldOf L) (s : ℕ) (since : RevVec)
+      (r : Result (Option (List Path)) AllocError) (u : WorldOf L) : Type 0 where
+    pub same : u ≡ w
+    pub told : IfOk r (λ told. IfSome told (TellsChanges (live w.history) s since))
 
   -- a number of bytes, and a place of the journal, are kept for its next reply; where memory is
   -- refused nothing changes

@@ -7,7 +7,8 @@ ghost use Rattle.jr_shared.specs.Seen.{law_by, left_by, shown_through};
 
 use crate::locked::{LockedWorld, SessionPart, WorldFrame};
 use crate::shared::SharedWorld;
-use jr_rev::Pin;
+use jr_path::{List, Path};
+use jr_rev::{Pin, RevVec};
 use oak_machine::{Event, Law, StepKind};
 use oak_port::{Port, StepOut, Task};
 use oak_world::World;
@@ -125,6 +126,10 @@ impl<'a, R: Wait, L: Law + Drop, J: Taken<L>> Port for SharedPort<'a, R, L, J> {
 
     fn pin(&mut self) -> Option<Pin> {
         self.shared.pin(self.rt, self.pass, self.actor)
+    }
+
+    fn changed(&mut self, since: &RevVec) -> Result<Option<List<Path>>, AllocError> {
+        self.shared.changed(self.rt, self.pass, self.actor, since)
     }
 
     // No task stops a cluster node yet.

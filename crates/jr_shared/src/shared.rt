@@ -8,11 +8,12 @@ ghost use Rattle.oak_world.specs.Worlds.{IsAtRest as IsWorkAtRest, said_in, told
 ghost use Rattle.seat_lock.specs.Passes.{HasFrame, HasPart, IsAtRest, IsOf, seen_of, view_of, weight_of};
 ghost use Rattle.seat_lock.specs.Views.{handed, is_one_of, joined, kept_back};
 ghost use Rattle.jr_shared.specs.Meanings.{frame_of, journal_of, owned_of};
-ghost use Rattle.jr_shared.specs.Holds.{Begun, DueIs, HasLaw, IsTold, IsWhole, OneHold, PinIs, Reserved, Stepped, actor_by, first_known, has_seat, owned_by};
+ghost use Rattle.jr_shared.specs.Holds.{Begun, ChangesAre, DueIs, HasLaw, IsTold, IsWhole, OneHold, PinIs, Reserved, Stepped, actor_by, first_known, has_seat, owned_by};
 ghost use Rattle.jr_shared.specs.Seen.{history_by};
 
 use crate::locked::{LockedWorld, is_whole};
-use jr_rev::Pin;
+use jr_path::{List, Path};
+use jr_rev::{Pin, RevVec};
 use oak_machine::{Law, StepKind};
 use oak_port::{StepOut, Task};
 use oak_world::World;
@@ -171,6 +172,28 @@ impl<L: Law + Drop> SharedWorld<L> {
         let pin = hold.value.world.pin(actor);
         self.lock.release(pass, hold);
         pin
+    }
+
+    /// What changed between a vector and the base of a session of the pass: paths, and among them
+    /// each at which the node at the base isn't the one at that vector. None where that isn't known.
+    pub fn changed<R: Wait>(
+        &self,
+        rt: &R,
+        pass: &mut Pass<LockedWorld<L>>,
+        actor: u32,
+        since: &RevVec,
+    ) -> Result<Option<List<Path>>, AllocError>
+        requires own { IsOf self.now.lock pass.old }
+        requires seat { IsTrue (has_seat (view_of pass.old) actor) }
+        ensures own { IsOf self.now.lock pass.new }
+        ensures hold { OneHold L.Law (view_of pass.old) (view_of pass.new) actor
+            (λ got left. ChangesAre got actor since.now result left) }
+    {
+        let hold = self.lock.acquire(rt, pass);
+        is_whole(&hold.value.world);
+        let changed = hold.value.world.changed(actor, since);
+        self.lock.release(pass, hold);
+        changed
     }
 
     /// The position in the journal, from 0, of the stop of the cluster node of that number; None

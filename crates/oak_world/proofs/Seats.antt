@@ -120,3 +120,7 @@ module _ (starts : Starts) (says : Says) (proper : StartsProper starts) {L : Typ
       ap (λ (b : Bool). cond b (reader_pin t s) (pin_of m s)) (sym (ap (λ (b : ActorState). b.attached) (actor_there actors s a a seat_there seat)) ∙ is.attached s)
       ∙ (ap (λ (n : NodeState). cond (is_attached (reverse j.events.list) s) (reader_pin t s) (pin_of n s)) (sym (memory_of_is starts says proper law j t ms actors is s (ap is_some on_node_there) k on_node_there m m at))
       ∙ ap (λ (x : WorldOf L). actor_pin (state_of x) s) same)
+
+  -- the memory of its node
+  pub its_memory : (m : NodeState) → m ≡ get_or ms (k - 1) m → m ≡ memory_of (state_of w) s
+  its_memory m at = sym (memory_of_is starts says proper law j t ms actors is s (ap is_some on_node_there) k on_node_there m m at) ∙ ap (λ (x : WorldOf L). memory_of (state_of x) s) same

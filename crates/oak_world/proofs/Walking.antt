@@ -535,14 +535,14 @@ module _ (starts : Starts) (says : Says) (proper : StartsProper starts) (writes 
   draw_step edit marks come apart_now lawful idle = record {
     own = event.Draw (draw_in w s edit marks) ∷ [];
     grown = refl;
-    kept = draw_whole starts says proper w kept s edit marks (marked_paths marks) on_now come.login come.stays apart_now idle lawful;
+    kept = draw_whole starts says proper w kept s edit marks on_now come.login come.stays apart_now idle lawful;
     may = at_rest _ (begun (next_draw (memory_of w s)) (base_in w s) edit marks) (record { login = come.login; stays = come.stays }) refl refl refl;
     apart = apart_one w.past s (event.Draw (draw_in w s edit marks)) (λ q k. flipped q s k);
     attached = refl;
     unstopped = λ q k. k;
     changes = untouched w _ refl refl;
     numbers = numbers_stay w.table;
-    holds = draw_rises starts says proper w layers s edit marks (marked_paths marks) on_now come.login come.stays apart_now idle lawful (base_above starts says proper w kept s on_now come.login come.stays);
+    holds = draw_rises starts says proper w layers s edit marks on_now come.login come.stays apart_now idle lawful (base_above starts says proper w kept s on_now come.login come.stays);
     tells = (draw_in w s edit marks, record { session = refl; edit_is = refl; marks_are = refl }, refl, refl, refl);
     of_step = kind_told kind.Draw (s == s) (number_itself s);
     as_due = refl;

@@ -8,4 +8,5 @@ pub mod Seen
 pub mod Clashes
 pub mod Left
 pub mod Pairs
+pub mod Changes
 pub mod Ends

@@ -3,6 +3,7 @@
 #![tactic(auto)]
 
 mod actor;
+mod changes;
 mod port;
 mod start;
 mod world;

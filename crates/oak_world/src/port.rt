@@ -4,7 +4,8 @@ ghost use Rattle.oak_world.specs.Left.{left_in};
 ghost use Rattle.oak_world.specs.Seen.{shown_at};
 
 use crate::World;
-use jr_rev::Pin;
+use jr_path::{List, Path};
+use jr_rev::{Pin, RevVec};
 use oak_machine::{Law, StepKind};
 use oak_port::{Port, StepOut, Task};
 use std::alloc::AllocError;
@@ -55,6 +56,11 @@ impl<'a, L: Law + Drop> Port for SoloPort<'a, L> {
     fn pin(&mut self) -> Option<Pin> {
         self.world.is_kept();
         self.world.pin(self.actor)
+    }
+
+    fn changed(&mut self, since: &RevVec) -> Result<Option<List<Path>>, AllocError> {
+        self.world.is_kept();
+        self.world.changed(self.actor, since)
     }
 
     // No task stops a cluster node yet.

@@ -1,5 +1,5 @@
 // A world under a law.
-ghost use Rattle.std.specs.Prelude.{ℕ, IfOk, IsFalse, IsSome, IsTrue, None, OnErr, OnOk, Some, is_some, length, map, slice_get, ◌-◌, ◌<◌, ◌^◌, ◌↔◌, ◌≡◌, ◌≤◌, ◌⊎◌};
+ghost use Rattle.std.specs.Prelude.{ℕ, IfOk, IfSome, IsFalse, IsSome, IsTrue, None, OnErr, OnOk, Some, is_some, length, map, slice_get, ◌-◌, ◌<◌, ◌^◌, ◌↔◌, ◌≡◌, ◌≤◌, ◌⊎◌};
 ghost use Rattle.std.specs.Borrow.{GName};
 ghost use Rattle.std.specs.List.{range_with_len};
 ghost use Rattle.std.specs.Option.{option_map};
@@ -17,7 +17,7 @@ ghost use Rattle.oak_machine.specs.Runs.{AreNodes, IsNode, IsRun};
 ghost use Rattle.oak_machine.specs.Sessions.{base_of, has_left, kept_checkpoint};
 ghost use Rattle.oak_node.specs.Memory.{begun};
 ghost use Rattle.oak_node.specs.Pins.{pin_of};
-ghost use Rattle.oak_port.specs.Ports.{IsAskedOf, IsWait, MayBegin, Steps};
+ghost use Rattle.oak_port.specs.Ports.{IsAskedOf, IsWait, MayBegin, Steps, TellsChanges};
 ghost use Rattle.oak_read.specs.Meaning.{documents_in, found_node};
 ghost use Rattle.core_clash.specs.Sound.{Cause};
 ghost use Rattle.core_nodes.specs.Nodes.{base_of_pin, kept_base};
@@ -38,8 +38,9 @@ ghost use Rattle.oak_world.specs.Steps.{HasReplyPlace, IsIdle, IsResting, Plays,
 ghost use Rattle.oak_world.specs.Worlds.{IsAtRest, actor_in, live, said_in, start_world, state_of, with_formers, with_reply, with_work, work_in};
 
 use crate::actor::{Actor, Room, step_actor};
+use crate::changes::changed_up_to;
 use crate::start::start_documents;
-use jr_path::List;
+use jr_path::{List, Path};
 use jr_rev::{Pin, RevVec};
 use oak_machine::{Event, Events, Journal, Law, StepKind};
 use oak_node::NodeMem;
@@ -228,6 +229,23 @@ impl<L: Law + Drop> World<L> {
         let memory = &self.memories[node as usize - 1];
         let seat = &self.actors[actor as usize];
         seat.pin(&self.table, memory, actor)
+    }
+
+    /// What changed between a vector and the session's base: paths, and among them each at which
+    /// the node at the base isn't the one at that vector. None where that isn't known: a cluster
+    /// node knows it of its own commits, back to the oldest base that it pins, and of no commits of
+    /// other nodes (Oak, DocumentNodeStore: its diff cache, which local commits fill).
+    pub fn changed(&self, actor: u32, since: &RevVec) -> Result<Option<List<Path>>, AllocError>
+        requires { IsTrue (is_some (slice_get self.now.history.sessions actor)) }
+        ensures { IfOk result (λ told. IfSome told
+            (TellsChanges (live self.now.history) actor since.now)) }
+    {
+        let node = self.node(actor);
+        let memory = &self.memories[node as usize - 1];
+        match self.pin(actor) {
+            Some(pin) => changed_up_to(self.alloc, memory, since, &pin.base),
+            None => Ok(None),
+        }
     }
 
     /// Each pair that is held shows the journal's tree; its vector is settled and closed, and at
