@@ -1,2 +1,6 @@
 mod Following
+mod Listing
+mod Reading
+mod Renewing
+mod Stands
 mod Whole
