@@ -1,3 +1,4 @@
 pub mod Earlier
 pub mod Follows
+pub mod Renewal
 pub mod Whole

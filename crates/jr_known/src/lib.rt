@@ -2,8 +2,10 @@
 //! earlier base while what changed since is read (JSR 283, 10.11 Saving).
 #![tactic(auto)]
 
+mod child_names;
 mod earlier;
 mod held_part;
+mod renewal;
 
 pub use earlier::EarlierTree;
 pub use held_part::HeldPart;
