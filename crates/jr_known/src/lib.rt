@@ -4,6 +4,7 @@
 
 mod child_names;
 mod earlier;
+mod gone;
 mod held_part;
 mod renewal;
 
