@@ -9,7 +9,7 @@ use Rattle.jr_tree.specs.declared.tree.Node.{Node}
 use Rattle.jr_tree.specs.Trees.{Nodes, node_at}
 use Rattle.jr_part.specs.Parts.{Knowledge, known_at}
 
--- it is known that no node is at p
+-- no node is at p, as is known
 abbrev pub is_gone : Knowledge → Path → Bool
 is_gone fresh p = option_map_or (λ (answer : Option Node). is_none answer) (known_at fresh p) false
 
