@@ -69,8 +69,8 @@ impl EarlierTree {
         path_at(self.told.as_slice(), self.read)
     }
 
-    /// The new tree, once each told path is read: the node there is in the place of the earlier one, and
-    /// in the list of the children of the node above. Nothing of it lacks.
+    /// The new tree, once each told path is read: the node there is in the place of the earlier
+    /// one, and in the list of the children of the node above. Nothing of it lacks.
     pub fn renew(self, fresh: &Part) -> Result<Part, AllocError>
         requires { AreKnown fresh.now self.told }
         ensures agrees { (t : Nodes) → IsTree t → IsEarlierThan t self → AgreesWith t fresh.now

@@ -11,8 +11,8 @@ use jr_path::{DeepCopy, Path};
 use jr_tree::{Tree, changes};
 use std::alloc::{AllocError, Global};
 
-// Of the whole earlier tree what is gone at told paths goes. The new tree still is what is left, but
-// at told paths. A refusal leaves nothing known.
+// Of the whole earlier tree what is gone at told paths goes. The new tree still is what is left,
+// but at told paths.
 pub(crate) fn leave_gone(
     part: &mut Part,
     alloc: Global,
