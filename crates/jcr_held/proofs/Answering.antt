@@ -47,6 +47,7 @@ holds_own c x h = record {
   tokens = h.tokens;
   cursor = h.cursor;
   view = h.view;
+  earlier = h.earlier;
   references = h.references;
 }
 
@@ -59,6 +60,7 @@ holds_counted c x state ok drew m h = record {
   tokens = h.tokens;
   cursor = h.cursor;
   view = h.view;
+  earlier = h.earlier;
   references = h.references;
 }
 
@@ -73,6 +75,7 @@ observed c x p deep mask h = record {
   tokens = h.tokens;
   cursor = ap (λ (w : Who). Some (record { at = w.base; filter = record { path = p; deep = deep; mask = mask } })) h.who;
   view = h.view;
+  earlier = h.earlier;
   references = h.references;
 }
 
@@ -223,6 +226,7 @@ module _ (enough : (types : List TypeDef) (who : Who) (t : Nodes) (k : Knowledge
     cursor = holds.cursor;
     view = subst (λ (b : Bool). HoldsView (with_state c (viewed e c.state)) x.part (with_steps x.part.nodes x.pending o.steps) b)
         (sym settled) view_after;
+    earlier = holds.earlier;
     references = holds.references;
   }
 

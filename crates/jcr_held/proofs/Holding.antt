@@ -1,5 +1,5 @@
 -- What is held is what the law says still, while it changes.
-use Rattle.std.proofs.Common.{◌≡◌, Bool, true, false, cond, List, [], ◌∷◌, Option, Some, is_some, refl, sym, ap, ◌∙◌, subst}
+use Rattle.std.proofs.Common.{◌≡◌, Bool, true, false, cond, List, [], ◌∷◌, Option, None, Some, IfSome, is_some, refl, sym, ap, ◌∙◌, subst}
 use Rattle.std.specs.Prelude.{slice_get}
 use Rattle.std.specs.Option.{unwrap_or}
 use Rattle.std.specs.List.{All}
@@ -14,6 +14,7 @@ use Rattle.jr_tree.specs.declared.shared.Who.{Who}
 use Rattle.jr_tree.specs.declared.tree.Node.{Node}
 use Rattle.jr_tree.specs.Edits.{changes}
 use Rattle.jr_tree.specs.Trees.{IsTree, Nodes, dated_children_of, node_at}
+use Rattle.jr_known.specs.Earlier.{Earlier, IsEarlierThan, SameButAt}
 use Rattle.jr_part.specs.Parts.{AgreesWith, ChildNames, Knowledge, LacksNothing, nothing_known, with_children, with_node}
 use Rattle.jr_part.specs.declared.need.Need.{Need}
 use Rattle.jr_part.specs.declared.need.Need.TheVariants as need
@@ -35,7 +36,7 @@ use Rattle.jcr_law.specs.Calls.{call_moved}
 use Rattle.jcr_call.specs.Footings.{RefusesAlike}
 use Rattle.jcr_held.specs.declared.held.Held.{Held}
 use Rattle.jcr_held.specs.Alike.{AreAlike, moved_to}
-use Rattle.jcr_held.specs.Holds.{Holds, HoldsView, IsReady, asks_for}
+use Rattle.jcr_held.specs.Holds.{Holds, HoldsEarlier, HoldsView, IsReady, asks_for}
 use Rattle.jcr_held.specs.References.{HoldsReferences, are_named, references_by}
 use Rattle.jcr_held.specs.declared.references.References.{References}
 use Rattle.jcr_held.specs.declared.references.References.TheVariants as references
@@ -52,6 +53,7 @@ holds_alike c x y a h = record {
   view = subst (λ (k : Knowledge). HoldsView c k y.pending y.is_kept) (sym a.part)
       (subst (λ (p : Changed). HoldsView c x.part p y.is_kept) (sym a.pending)
       (subst (λ (b : Bool). HoldsView c x.part x.pending b) (sym a.is_kept) h.view));
+  earlier = subst (HoldsEarlier c.base) (sym a.earlier) h.earlier;
   references = subst (HoldsReferences c.base) (sym a.references) h.references;
 }
 
@@ -84,8 +86,38 @@ holds_moved c x v t h settled tree = record {
   tokens = h.tokens;
   cursor = h.cursor;
   view = (nothing_part t tree, ap (tree_again t) (pending_changes c x settled h));
+  earlier = tt;
   references = tt;
 }
+
+-- what is taken along is the whole tree at the earlier base, with the paths that were told
+earlier_holds : (c : Call) (x : Held) (t : Nodes) (told : Option (List Path)) (e : Option Earlier) → Holds c x → x.is_kept ≡ false
+    → IfSome e (λ e. e.part ≡ x.part) → IfSome e (λ e. told ≡ Some e.told) → IfSome told (λ ps. SameButAt ps c.base t) → HoldsEarlier t e
+earlier_holds c x t told None h settled part is same = tt
+earlier_holds c x t told (Some e) h settled part is same =
+    let v : HoldsView c x.part x.pending false = view_settled c x settled h in
+    record {
+      old = c.base;
+      tree = v.0.tree;
+      agrees = subst (λ (k : Knowledge). AgreesWith c.base k) (sym part) v.0.agrees;
+      same = subst (λ (o : Option (List Path)). IfSome o (λ ps. SameButAt ps c.base t)) is same;
+    }
+
+pub holds_along : (c : Call) (x : Held) (v : RevVec) (t : Nodes) (told : Option (List Path)) (e : Option Earlier) → Holds c x → x.is_kept ≡ false → IsTree t
+    → IfSome e (λ e. e.part ≡ x.part) → IfSome e (λ e. told ≡ Some e.told) → IfSome told (λ ps. SameButAt ps c.base t)
+    → Holds (call_moved c v t) (record (moved_to x v) { earlier = e })
+holds_along c x v t told e h settled tree part is same =
+    let moved = holds_moved c x v t h settled tree in
+    record {
+      types = moved.types;
+      who = moved.who;
+      ids = moved.ids;
+      tokens = moved.tokens;
+      cursor = moved.cursor;
+      view = moved.view;
+      earlier = earlier_holds c x t told e h settled part is same;
+      references = moved.references;
+    }
 
 -- what is known of the tree that the base moves to, of which each REFERENCE names a node
 pub holds_moved_knowing : (c : Call) (x : Held) (v : RevVec) (t : Nodes) (k : Knowledge) → Holds c x → x.is_kept ≡ false → IsTree t → is_sorted path_cmp k.nodes ≡ true → (AgreesWith c.base x.part → AgreesWith t k) → ReferencesOk t
@@ -99,8 +131,30 @@ holds_moved_knowing c x v t k h settled tree order agrees refers =
       tokens = moved.tokens;
       cursor = moved.cursor;
       view = (record { tree = tree; order = order; agrees = agrees (view_settled c x settled h).0.agrees; over = nothing_over t }, moved.view.1);
+      earlier = tt;
       references = refers;
     }
+
+-- the earlier tree goes
+pub holds_without : (c : Call) (x : Held) → Holds c x → Holds c (record x { earlier = None })
+holds_without c x h = record {
+  types = h.types;
+  who = h.who;
+  ids = h.ids;
+  tokens = h.tokens;
+  cursor = h.cursor;
+  view = h.view;
+  earlier = tt;
+  references = h.references;
+}
+
+-- the tree of a call that something is held of is one
+pub base_tree : (c : Call) (x : Held) → Holds c x → IsTree c.base
+base_tree c x h = by x.is_kept h.view
+  where
+    by : (b : Bool) → HoldsView c x.part x.pending b → IsTree c.base
+    by false v = v.0.tree
+    by true v = v.0.tree
 
 -- ---- more is known of the tree at the base
 
@@ -123,8 +177,17 @@ holds_known c x more order agrees h = record {
   tokens = h.tokens;
   cursor = h.cursor;
   view = view_known c x.part more x.pending x.is_kept order agrees h.view;
+  earlier = h.earlier;
   references = h.references;
 }
+
+-- what is made of the earlier tree, and of what was read since
+pub holds_renewed : (c : Call) (x : Held) (e : Earlier) (k : Knowledge) → is_sorted path_cmp k.nodes ≡ true
+    → ((t : Nodes) → IsTree t → IsEarlierThan t e → AgreesWith t x.part → AgreesWith t k) → x.earlier ≡ Some e → Holds c x
+    → Holds c (record x { part = k; earlier = None })
+holds_renewed c x e k order agrees is h =
+    holds_without c (record x { part = k })
+    (holds_known c x k order (λ here. agrees c.base (base_tree c x h) (subst (HoldsEarlier c.base) is h.earlier) here) h)
 
 pub holds_node : (c : Call) (x : Held) (p : Path) (node : Option Node)
     → is_sorted path_cmp (with_node x.part p node).nodes ≡ true → node ≡ node_at c.base p → Holds c x
@@ -161,6 +224,7 @@ module _ (over : (t : Nodes) (k : Knowledge) (ws : List Write) → IsPartOf t k 
     tokens = h.tokens;
     cursor = h.cursor;
     view = view_again c x.part x.pending x.is_kept kept known h.view;
+    earlier = h.earlier;
     references = h.references;
   }
 
@@ -244,6 +308,7 @@ holds_asked c x u r settled whole told h =
       tokens = h.tokens;
       cursor = h.cursor;
       view = h.view;
+      earlier = h.earlier;
       references = subst (HoldsReferences c.base) (sym is) (told_so c.base (dangling c.base) refl);
     }
 

@@ -41,7 +41,8 @@ use Rattle.jcr_call.specs.declared.coming.Coming.TheVariants as coming
 use Rattle.jcr_held.specs.declared.held.Held.{Held}
 use Rattle.jcr_held.specs.Accepts.{AcceptsAs, cursor_behind}
 use Rattle.jcr_held.specs.Comes.{ComesTo}
-use Rattle.jcr_held.specs.Holds.{Holds, HoldsView}
+use Rattle.jcr_held.specs.Holds.{Holds}
+use Rattle.jcr_held.proofs.Holding.{base_tree}
 
 -- ---- a path is among those from it upwards
 
@@ -214,14 +215,6 @@ refuses : (o : Option Refusal) (text : List ℕ) → option_map no_text o ≡ So
 refuses None text h ok = none-some _ h
 refuses (Some r) text h ok =
     true≢false (sym ok ∙ sym (ap (λ (o : Option (List ℕ)). option_map_or is_ok_text o false) h))
-
--- the tree of a call that something is held of is one
-pub base_tree : (c : Call) (x : Held) → Holds c x → IsTree c.base
-base_tree c x h = by x.is_kept h.view
-  where
-    by : (b : Bool) → HoldsView c x.part x.pending b → IsTree c.base
-    by false v = v.0.tree
-    by true v = v.0.tree
 
 pub said_fits : (c : Call) (x : Held) (m : Command) (text : String Global) → Holds c x → ComesTo c m (coming.Said text)
     → is_ok_text (string_bytes text) ≡ true → AcceptsAs x None c m

@@ -1,5 +1,5 @@
 -- What is held, whatever is left to be looked at by loading.
-use Rattle.std.specs.Prelude.{◌≡◌, ℕ, ◌+◌, IsTrue, min, true}
+use Rattle.std.specs.Prelude.{◌≡◌, ◌⊎◌, ℕ, ◌+◌, None, IsTrue, min, true}
 use Rattle.jr_rev.specs.declared.vector.RevVec.{RevVec}
 use Rattle.jr_part.specs.Parts.{nothing_known}
 use Rattle.jcr_held.specs.References.{are_asked}
@@ -11,6 +11,7 @@ pub record AreAlike (x y : Held) : Type 0 where
   pub types : y.types ≡ x.types
   pub who : y.who ≡ x.who
   pub part : y.part ≡ x.part
+  pub earlier : y.earlier ≡ x.earlier
   pub pending : y.pending ≡ x.pending
   pub is_kept : y.is_kept ≡ x.is_kept
   pub references : y.references ≡ x.references
@@ -18,21 +19,30 @@ pub record AreAlike (x y : Held) : Type 0 where
   pub cursor : y.cursor ≡ x.cursor
 
 -- only what is pending changes, and whether it is kept from an earlier base; of the references of
--- the tree at the base it may be asked, where it wasn't yet
+-- the tree at the base it may be asked, where it wasn't yet; and the earlier tree may go, of which what
+-- is known of the tree at the base is made then
 pub record Readies (old new : Held) : Type 0 where
   pub types : new.types ≡ old.types
   pub who : new.who ≡ old.who
-  pub part : new.part ≡ old.part
+  pub part : new.earlier ≡ old.earlier → new.part ≡ old.part
+  pub earlier : (new.earlier ≡ None) ⊎ (new.earlier ≡ old.earlier)
   pub references : IsTrue (are_asked old.references) → new.references ≡ old.references
   pub tokens : new.tokens ≡ old.tokens
   pub cursor : new.cursor ≡ old.cursor
 
--- the base is at a vector, of whose tree nothing is known, nor of its references; what is pending
--- is kept
+-- the earlier tree may go, and what is known of the tree at the base is made of it then
+pub record CatchesUp (old new : Held) : Type 0 where
+  pub same : AreAlike (record old { part = new.part; earlier = new.earlier }) new
+  pub part : new.earlier ≡ old.earlier → new.part ≡ old.part
+  pub earlier : (new.earlier ≡ None) ⊎ (new.earlier ≡ old.earlier)
+
+-- the base is at a vector, of whose tree nothing is known, nor of its references, nor of one at an
+-- earlier base; what is pending is kept
 abbrev pub moved_to : Held → RevVec → Held
 moved_to x v = record x {
   who = record x.who { base = v };
   part = nothing_known;
+  earlier = None;
   is_kept = true;
   references = references.Unasked;
 }

@@ -11,6 +11,7 @@ use Rattle.jcr_held.specs.declared.held.Held.{Held}
 pub record IsNewHeld (x : Held) : Type 0 where
   pub ids : x.who.ids ≡ 0
   pub known : x.part ≡ nothing_known
+  pub earlier : x.earlier ≡ None
   pub pending : x.pending ≡ []
   pub settled : x.is_kept ≡ false
   pub tokens : x.tokens ≡ []

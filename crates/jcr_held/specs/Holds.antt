@@ -1,6 +1,8 @@
 -- What a session holds at its base, as the law has it.
-use Rattle.std.specs.Prelude.{◌≡◌, Bool, true, false, cond, List, [], ◌∷◌, IsTrue}
+use Rattle.std.specs.Prelude.{◌≡◌, ◌⊎◌, Bool, true, false, cond, List, [], ◌∷◌, Option, None, Some, IsTrue, ⊤}
 use Rattle.std.specs.List.{All}
+use Rattle.jr_tree.specs.Trees.{Nodes}
+use Rattle.jr_known.specs.Earlier.{Earlier, IsEarlierThan}
 use Rattle.jr_part.specs.Parts.{Knowledge, LacksNothing}
 use Rattle.jr_part.specs.declared.need.Need.{Need}
 use Rattle.jr_part.specs.declared.need.Need.TheVariants as need
@@ -24,6 +26,12 @@ HoldsView c k pending false =
 HoldsView c k pending true =
     IsPartOf c.base k [] × (tree_again c.base (edit_of pending) ≡ c.state.view)
 
+-- what is known of the whole tree at an earlier base, where that is held, is so of one that differs
+-- from this one at the told paths alone
+abbrev pub HoldsEarlier : Nodes → Option Earlier → Type 0
+HoldsEarlier t None = ⊤
+HoldsEarlier t (Some e) = IsEarlierThan t e
+
 -- what a session holds is what its next command is run with
 pub record Holds (c : Call) (x : Held) : Type 0 where
   pub types : x.types ≡ c.types
@@ -32,6 +40,7 @@ pub record Holds (c : Call) (x : Held) : Type 0 where
   pub tokens : x.tokens ≡ c.state.tokens
   pub cursor : x.cursor ≡ c.state.cursor
   pub view : HoldsView c x.part x.pending x.is_kept
+  pub earlier : HoldsEarlier c.base x.earlier
   pub references : HoldsReferences c.base x.references
 
 -- the command reads the view, or the tree at the base, or commits; a split reads its node there;
@@ -45,6 +54,10 @@ asks_for x (command.Observe p deep mask) = []
 asks_for x command.Events = []
 asks_for x (command.Split p) = need.Node p ∷ []
 asks_for x m = cond (is_viewed m) (needs_of x.who x.part x.pending m) (need.All ∷ [])
+
+-- no earlier tree is to be caught up with before these needs are looked at
+abbrev pub HasCaughtUpFor : Held → List Need → Type 0
+HasCaughtUpFor x needs = (x.earlier ≡ None) ⊎ (needs ≡ [])
 
 -- what is kept is made again, and nothing lacks of what the command asks for
 pub record IsReady (x : Held) (m : Command) : Type 0 where

@@ -1,10 +1,11 @@
 // What a session holds between its commands.
-ghost use Rattle.std.specs.Prelude.{◌≡◌, IfOk, IsFalse, IsTrue, None, OnErr, OnOk, Some, false, option_map, true};
+ghost use Rattle.std.specs.Prelude.{◌≡◌, IfOk, IfSome, IsFalse, IsTrue, None, OnErr, OnOk, Some, false, option_map, true};
 ghost use Rattle.std.specs.Option.{unwrap_or};
 ghost use Rattle.std.specs.FinMap.{is_sorted};
 ghost use Rattle.jr_path.specs.Names.{name_cmp};
 ghost use Rattle.jr_tree.specs.Edits.{IsProper, applied};
 ghost use Rattle.jr_tree.specs.Trees.{IsTree, Nodes, dated_children_of, node_at};
+ghost use Rattle.jr_known.specs.Earlier.{SameButAt};
 ghost use Rattle.jr_part.specs.Parts.{LacksNothing, nothing_known, with_children, with_node};
 ghost use Rattle.jr_part.specs.declared.need.Need.TheVariants as need;
 ghost use Rattle.jcr_ref.specs.References.{ReferencesOk};
@@ -19,7 +20,6 @@ ghost use Rattle.jcr_held.specs.Begins.{IsFirstCall, IsNewHeld};
 ghost use Rattle.jcr_held.specs.Holds.{Holds};
 ghost use Rattle.jcr_held.specs.declared.references.References.TheVariants as references;
 
-use jr_known::HeldPart;
 use crate::looking::Place;
 use crate::references::References;
 use jcr_call::{NextCheckpoint, next_checkpoint, used};
@@ -27,11 +27,13 @@ use jcr_law::Cursor;
 use jcr_ref::MAX_IDS;
 use jcr_trans::Command;
 use jcr_view::Pending;
+use jr_known::{EarlierTree, HeldPart};
 use jr_path::{List, Name, Path, Text};
 use jr_rev::{RevVec, Revision};
 use jr_tree::{Edit, Node, Who};
 use jr_types::Registry;
 use std::alloc::{AllocError, Global};
+use std::mem::replace;
 
 /// What a session holds between its commands: the node types, who it is, what it has read of the
 /// tree at its base, what is pending over that, its lock tokens, and its cursor over the changes
@@ -41,6 +43,8 @@ pub struct Held {
     pub(crate) types: Registry,
     pub(crate) who: Who,
     pub(crate) part: HeldPart,
+    // The whole tree at an earlier base, while what changed since is read.
+    pub(crate) earlier: Option<EarlierTree>,
     pub(crate) pending: Pending,
     // What is pending is over an earlier base, and is to be made again over this one.
     pub(crate) is_kept: bool,
@@ -61,6 +65,7 @@ impl Drop for Held {
             types,
             who: _,
             part,
+            earlier,
             pending,
             is_kept: _,
             references: _,
@@ -70,6 +75,7 @@ impl Drop for Held {
         } = self;
         drop(types);
         drop(part);
+        drop(earlier);
         drop(pending);
         drop(tokens);
         drop(cursor);
@@ -100,6 +106,7 @@ impl Held {
                 base,
             },
             part: HeldPart::new(alloc),
+            earlier: None,
             pending: Pending::new(alloc),
             is_kept: false,
             references: References::Unasked,
@@ -128,9 +135,42 @@ impl Held {
     {
         self.who.base = base;
         self.part = HeldPart::new(self.alloc);
+        self.earlier = None;
         self.is_kept = true;
         self.references = References::Unasked;
         self.left.clear();
+    }
+
+    /// Moves the base as `move_to` does, to a vector at which the tree is the one at the old base
+    /// but at these paths, if any are told. The whole tree, where it is known, is kept until the
+    /// nodes at these paths are read, so that nothing else is loaded again (JSR 283, 10.11.4
+    /// Refresh). No memory is taken.
+    pub fn move_along(&mut self, base: RevVec, told: Option<List<Path>>)
+        ensures moved { (c : Call) (t : Nodes) → Holds c self.old → IsFalse self.old.is_kept
+            → IsTree t → IfSome told (λ paths. SameButAt paths c.base t)
+            → Holds (call_moved c base t) self.new }
+        ensures same { AreAlike (record (moved_to self.old base) {
+          earlier = self.new.earlier;
+        }) self.new }
+    {
+        let earlier = self.take_earlier(told);
+        self.move_to(base);
+        self.earlier = earlier;
+    }
+
+    // Takes the whole tree with the paths that are told, where both are known and none is held from
+    // a base before; else nothing is taken that is of use.
+    fn take_earlier(&mut self, told: Option<List<Path>>) -> Option<EarlierTree>
+        ensures part { IfSome result (λ e. e.part ≡ self.old.part) }
+        ensures told { IfSome result (λ e. told ≡ Some e.told) }
+        ensures same { self.new ≡ record self.old { part = self.new.part } }
+    {
+        match (&self.earlier, told) {
+            (None, Some(told)) => {
+                replace(&mut self.part, HeldPart::new(self.alloc)).into_earlier(told)
+            }
+            (Some(_), _) | (None, None) => None,
+        }
     }
 
     /// Moves the base to a vector at which the tree is the one at the old base with an edit, as an
@@ -152,6 +192,7 @@ impl Held {
         }) self.new }
     {
         self.who.base = base;
+        self.earlier = None;
         self.is_kept = true;
         self.references = References::Named;
         self.left.clear();

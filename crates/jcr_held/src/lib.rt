@@ -3,6 +3,7 @@
 //! has drawn (JSR 283, 10.11 Saving; 12 Observation; 17.5 Lock Token).
 #![tactic(auto)]
 
+mod catching_up;
 mod committing;
 mod held;
 mod laws;

@@ -10,18 +10,18 @@ ghost use Rattle.jcr_view.specs.Outcomes.{is_viewed};
 ghost use Rattle.jcr_view.specs.Rounds.{is_of_one_node};
 ghost use Rattle.jcr_law.specs.State.{Call};
 ghost use Rattle.jcr_held.specs.Alike.{AreAlike, Readies};
-ghost use Rattle.jcr_held.specs.Holds.{HasAskedOfReferences, Holds, IsReady, asks_for};
+ghost use Rattle.jcr_held.specs.Holds.{HasAskedOfReferences, HasCaughtUpFor, Holds, IsReady, asks_for};
 ghost use Rattle.jcr_held.specs.Looking.{IsLackingOf, places_for};
 ghost use Rattle.jcr_held.specs.References.{are_asked};
 ghost use Rattle.jcr_held.specs.Unread.{IsWanted, unread};
 
 use crate::Held;
-use jr_known::HeldPart;
 use crate::looking::{leave_needs, load_left};
 use crate::references::{References, ask};
 use jcr_call::commits;
 use jcr_trans::Command;
 use jcr_view::{each_round_learns, is_viewed, rebases_count};
+use jr_known::HeldPart;
 use jr_part::Need;
 use jr_path::{DeepCopy, Path};
 use std::alloc::{AllocError, Global};
@@ -51,13 +51,16 @@ impl Held {
         }
     }
 
-    // What to read next of what is left to be looked at.
+    // What to read next of what is left to be looked at: nothing, while an earlier tree is held.
     fn load_on(&mut self) -> Result<Option<Need>, AllocError>
         ensures one { IfOk result (λ load. IfSome load (λ n. IsTrue (is_of_one_node n))) }
         ensures same { AreAlike self.old self.new }
         ensures wanted { (c : Call) (m : Command) → Holds c self.old
             → IfOk result (λ load. IfSome load (IsWanted c self.new m)) }
     {
+        if self.earlier.is_some() {
+            return Ok(None);
+        }
         load_left(
             self.part.as_part(),
             &self.pending,
@@ -97,6 +100,25 @@ impl Held {
             return Ok(None);
         }
         let needs = self.pending.needs_to_rebase()?;
+        match self.catch_up_for(needs.as_slice())? {
+            Some(load) => Ok(Some(load)),
+            None => self.load_again(needs),
+        }
+    }
+
+    // What to read next of the needs of what is kept; None where that is made again.
+    fn load_again(&mut self, needs: Vec<Need>) -> Result<Option<Need>, AllocError>
+        requires kept { IsTrue self.old.is_kept }
+        requires needs { needs.items ≡ needs_to_rebase (edit_of self.old.pending) }
+        requires caught { HasCaughtUpFor self.old needs.items }
+        ensures settled { IfOk result (λ load. load ≡ None → IsFalse self.new.is_kept) }
+        ensures one { IfOk result (λ load. IfSome load (λ n. IsTrue (is_of_one_node n))) }
+        ensures holds { (c : Call) → Holds c self.old → Holds c self.new }
+        ensures others { Readies self.old self.new }
+        ensures wanted { (c : Call) (m : Command) → Holds c self.old
+            → IfOk result (λ load. IfSome load (IsWanted c self.new m)) }
+        ensures fewer { (c : Call) (m : Command) → unread c self.new m ≤ unread c self.old m }
+    {
         match self.load_of(needs)? {
             Some(load) => Ok(Some(load)),
             None => self.make_again(),
@@ -123,6 +145,25 @@ impl Held {
     // What to read next of what a command asks for, where nothing is kept from an earlier base.
     fn load_for(&mut self, command: &Command) -> Result<Option<Need>, AllocError>
         requires settled { IsFalse self.old.is_kept }
+        ensures ready { IfOk result (λ load. load ≡ None → IsReady self.new command.now) }
+        ensures asked { IfOk result (λ load. load ≡ None → HasAskedOfReferences self.new command.now) }
+        ensures one { IfOk result (λ load. IfSome load (λ n. IsTrue (is_of_one_node n))) }
+        ensures holds { (c : Call) → Holds c self.old → Holds c self.new }
+        ensures others { Readies self.old self.new }
+        ensures wanted { (c : Call) → Holds c self.old
+            → IfOk result (λ load. IfSome load (IsWanted c self.new command.now)) }
+        ensures fewer { (c : Call) (m : Command) → unread c self.new m ≤ unread c self.old m }
+    {
+        match self.catch_up_before(command)? {
+            Some(load) => Ok(Some(load)),
+            None => self.load_asked(command),
+        }
+    }
+
+    // What to read next of what a command asks for, where no earlier tree is to be caught up with.
+    fn load_asked(&mut self, command: &Command) -> Result<Option<Need>, AllocError>
+        requires settled { IsFalse self.old.is_kept }
+        requires caught { HasCaughtUpFor self.old (asks_for self.old command.now) }
         ensures ready { IfOk result (λ load. load ≡ None → IsReady self.new command.now) }
         ensures asked { IfOk result (λ load. load ≡ None → HasAskedOfReferences self.new command.now) }
         ensures one { IfOk result (λ load. IfSome load (λ n. IsTrue (is_of_one_node n))) }
@@ -186,7 +227,7 @@ impl Held {
     }
 
     // What a command asks for.
-    fn asked(&self, command: &Command) -> Result<Vec<Need>, AllocError>
+    pub(crate) fn asked(&self, command: &Command) -> Result<Vec<Need>, AllocError>
         ensures { IfOk result (λ needs. needs.items ≡ asks_for self.now command.now) }
     {
         match command {

@@ -16,6 +16,7 @@ returns-clause-holds c = λ d h settled proper refers.
       types = refl;
       who = refl;
       part = refl;
+      earlier = refl;
       pending = refl;
       is_kept = refl;
       references = refl;

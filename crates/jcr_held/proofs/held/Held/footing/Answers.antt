@@ -1,7 +1,6 @@
 use Rattle.std.proofs.Common.{Bool, true, subst, sym}
 use Rattle.jcr_call.specs.Footings.{RefusesAlike}
-use Rattle.jcr_held.proofs.Holding.{refused_alike}
-use Rattle.jcr_held.proofs.Unwritten.{base_tree}
+use Rattle.jcr_held.proofs.Holding.{base_tree, refused_alike}
 use Rattle.jcr_held.proofs.held.Held.footing.Goals as goal
 
 pub returns-clause-assured : goal.returns-clause-assured

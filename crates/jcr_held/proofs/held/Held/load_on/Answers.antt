@@ -1,4 +1,4 @@
-use Rattle.std.proofs.Common.{refl, subst}
+use Rattle.std.proofs.Common.{refl, rules, subst}
 use Rattle.std.specs.Prelude.{IfOk, IfSome}
 use Rattle.jr_part.specs.Parts.{Knowledge}
 use Rattle.jcr_held.specs.Looking.{IsMetFirst}
@@ -11,10 +11,11 @@ returns-clause-wanted c = λ d m h.
       types = refl;
       who = refl;
       part = refl;
+      earlier = refl;
       pending = refl;
       is_kept = refl;
       references = refl;
       tokens = refl;
       cursor = refl;
-    }) h c.load_left.result
+    }) (search rules) h c.load_left.result
     (subst (λ (k : Knowledge). IfOk c.load_left.result (λ load. IfSome load (IsMetFirst k c.args.self.now.pending c.args.self.now.is_kept))) c.as_part.ensures c.load_left.ensures)

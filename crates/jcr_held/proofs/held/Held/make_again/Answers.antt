@@ -14,4 +14,4 @@ returns-clause-holds c = λ d h.
 
 pub returns-clause-fewer : goal.returns-clause-fewer
 returns-clause-fewer c = λ d m.
-    no_more_settled d c.args.self.now (record c.args.self.now { pending = c.rebase.new.self; is_kept = false }) m refl refl
+    no_more_settled d c.args.self.now c.rebase.new.self m

@@ -10,6 +10,7 @@ returns-clause-moved c = λ d t h settled tree.
       types = refl;
       who = refl;
       part = c.new.ensures;
+      earlier = refl;
       pending = refl;
       is_kept = refl;
       references = refl;

@@ -1,13 +1,13 @@
-use Rattle.std.proofs.Common.{◌≡◌, arith, rules, true}
+use Rattle.std.proofs.Common.{arith}
 use Rattle.jcr_held.specs.Looking.{IsLackingOf}
 use Rattle.jcr_held.proofs.Holding.{again_known, holds_alike}
 use Rattle.jcr_held.proofs.OnTheWay.{of_some}
 use Rattle.jcr_held.proofs.Unread.{kept_wanted, no_more_alike}
-use Rattle.jcr_held.proofs.held.Held.load_kept.Goals as goal
+use Rattle.jcr_held.proofs.held.Held.load_again.Goals as goal
 
 pub make_again-requires-clause-known : goal.make_again-requires-clause-known
 make_again-requires-clause-known c =
-    again_known c.args.self.now c.load_of.new.self c.in_ok-needs.needs.items c.load_of.ensures.same c.in_ok-needs.ensures
+    again_known c.args.self.now c.load_of.new.self c.args.needs.items c.load_of.ensures.same c.requires.needs
     (c.in_ok-load.ensures.known c.in-None.is)
 
 pub returns-in-None-clause-holds : goal.returns-in-None-clause-holds
@@ -16,10 +16,9 @@ returns-in-None-clause-holds c = λ d h.
 
 pub returns-in-Some-clause-wanted : goal.returns-in-Some-clause-wanted
 returns-in-Some-clause-wanted c = λ d m h.
-    let kept : c.args.self.now.is_kept ≡ true = search rules in
-    kept_wanted d c.args.self.now c.load_of.new.self m c.in_ok-needs.needs.items c.in-Some.load
-    c.load_of.ensures.same kept c.in_ok-needs.ensures h
-    (of_some (IsLackingOf c.load_of.new.self.part c.in_ok-needs.needs.items) _ c.in-Some.load c.in-Some.is c.in_ok-load.ensures.lacks)
+    kept_wanted d c.args.self.now c.load_of.new.self m c.args.needs.items c.in-Some.load
+    c.load_of.ensures.same c.requires.kept c.requires.needs c.requires.caught h
+    (of_some (IsLackingOf c.load_of.new.self.part c.args.needs.items) _ c.in-Some.load c.in-Some.is c.in_ok-load.ensures.lacks)
 
 pub returns-in-None-clause-fewer : goal.returns-in-None-clause-fewer
 returns-in-None-clause-fewer c = λ d m.
