@@ -14,7 +14,7 @@ use Rattle.jr_tree.specs.declared.shared.Who.{Who}
 use Rattle.jr_tree.specs.declared.tree.Node.{Node}
 use Rattle.jr_tree.specs.Edits.{changes}
 use Rattle.jr_tree.specs.Trees.{IsTree, Nodes, dated_children_of, node_at}
-use Rattle.jr_known.specs.Earlier.{Earlier, IsEarlierThan, SameButAt}
+use Rattle.jr_known.specs.Earlier.{Earlier, SameButAt}
 use Rattle.jr_part.specs.Parts.{AgreesWith, ChildNames, Knowledge, LacksNothing, nothing_known, with_children, with_node}
 use Rattle.jr_part.specs.declared.need.Need.{Need}
 use Rattle.jr_part.specs.declared.need.Need.TheVariants as need
@@ -135,19 +135,6 @@ holds_moved_knowing c x v t k h settled tree order agrees refers =
       references = refers;
     }
 
--- the earlier tree goes
-pub holds_without : (c : Call) (x : Held) → Holds c x → Holds c (record x { earlier = None })
-holds_without c x h = record {
-  types = h.types;
-  who = h.who;
-  ids = h.ids;
-  tokens = h.tokens;
-  cursor = h.cursor;
-  view = h.view;
-  earlier = tt;
-  references = h.references;
-}
-
 -- the tree of a call that something is held of is one
 pub base_tree : (c : Call) (x : Held) → Holds c x → IsTree c.base
 base_tree c x h = by x.is_kept h.view
@@ -180,14 +167,6 @@ holds_known c x more order agrees h = record {
   earlier = h.earlier;
   references = h.references;
 }
-
--- what is made of the earlier tree, and of what was read since
-pub holds_renewed : (c : Call) (x : Held) (e : Earlier) (k : Knowledge) → is_sorted path_cmp k.nodes ≡ true
-    → ((t : Nodes) → IsTree t → IsEarlierThan t e → AgreesWith t x.part → AgreesWith t k) → x.earlier ≡ Some e → Holds c x
-    → Holds c (record x { part = k; earlier = None })
-holds_renewed c x e k order agrees is h =
-    holds_without c (record x { part = k })
-    (holds_known c x k order (λ here. agrees c.base (base_tree c x h) (subst (HoldsEarlier c.base) is h.earlier) here) h)
 
 pub holds_node : (c : Call) (x : Held) (p : Path) (node : Option Node)
     → is_sorted path_cmp (with_node x.part p node).nodes ≡ true → node ≡ node_at c.base p → Holds c x

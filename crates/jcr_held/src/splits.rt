@@ -11,9 +11,9 @@ ghost use Rattle.jcr_held.specs.Holds.{Holds, IsReady};
 ghost use Rattle.jcr_held.specs.Splits.{IsNextSplit};
 
 use crate::Held;
-use jr_known::HeldPart;
 use jcr_call::cause_text;
 use jr_items::{check_limits, no_item};
+use jr_known::HeldPart;
 use jr_path::{DeepCopy, Path};
 use jr_tree::Refusal;
 use std::alloc::{AllocError, Global};

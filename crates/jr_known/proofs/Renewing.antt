@@ -1,5 +1,5 @@
 -- What is known of an earlier tree becomes what is known of the new one, a told path at a time.
-use Rattle.std.proofs.Common.{◌≡◌, ℕ, zero, suc, ◌<◌, Bool, true, false, cond, Some, None, Option, List, [], ◌∷◌, ◌++◌, length, is_some, refl, sym, ap, ◌∙◌, subst, arith}
+use Rattle.std.proofs.Common.{◌≡◌, zero, suc, Bool, true, false, cond, Some, None, Option, List, [], ◌∷◌, ◌++◌, is_some, refl, sym, ap, ◌∙◌, subst, arith}
 use Rattle.std.specs.Prelude.{Contains}
 use Rattle.std.specs.BTreeMap.{is_at}
 use Rattle.std.specs.FinMap.{is_sorted}
@@ -17,13 +17,11 @@ use Rattle.jr_tree.specs.declared.tree.Node.{Node}
 use Rattle.jr_tree.specs.Trees.{IsTree, Nodes, dated_children_of, node_at}
 use Rattle.jr_tree.proofs.Entries.{lookup-remove, same_lists}
 use Rattle.jr_tree.proofs.Pointwise.{same_path}
-use Rattle.jr_part.specs.declared.need.Need.TheVariants as need
-use Rattle.jr_part.specs.Parts.{AgreesWith, ChildNames, HaveRisingNames, Knowledge, LacksNothing, is_absent, known_at, list_at, with_children, with_node}
+use Rattle.jr_part.specs.Parts.{AgreesWith, ChildNames, HaveRisingNames, Knowledge, is_absent, list_at, with_children, with_node}
 use Rattle.jr_part.proofs.Children.{children_sorted}
 use Rattle.jr_part.proofs.Named.{named_child, none_without}
 use Rattle.jr_part.proofs.Puts.{children_agree}
-use Rattle.jr_part.proofs.Whole.{tree_whole}
-use Rattle.jr_known.specs.Earlier.{Earlier, IsEarlierThan, SameButAt}
+use Rattle.jr_known.specs.Earlier.{SameButAt}
 use Rattle.jr_known.specs.Renewal.{IsRenewedBut, ListsChild, born_in, with_list_begun}
 
 none_of : {X : Type 0} (o : Option X) → is_some o ≡ false → o ≡ None
@@ -37,7 +35,7 @@ out_of_both p q left apart out (zero, within, is) =
     false≢true (sym apart ∙ (ap (λ (x : Path). eq_by_cmp path_cmp q x) is ∙ (eq_by_cmp_equiv path_total).refl q))
 out_of_both p q left apart out (suc i, within, is) = out (i, omega arith, is)
 
-none_left : (q : Path) → Contains {X = Path} [] q → ⊥
+pub none_left : (q : Path) → Contains {X = Path} [] q → ⊥
 none_left q c = absurd (let within = c.1 in omega arith)
 
 -- ---- at the start
@@ -52,11 +50,11 @@ module _ (old : Nodes) (tree : IsTree old) where
           let none : node_at old p ≡ None = ap (λ (es : Nodes). node_at es p) (sym same) ∙ none_of (node_at k.nodes p) h in
           (same, subst (λ (ns : ChildNames). AgreesWith old (with_children k p ns)) (none_without p old tree none) (children_agree old k p agrees))
 
-  begun_all : (ps : List Path) (k : Knowledge) → k.nodes ≡ old → AgreesWith old k → ((fold with_list_begun k ps).nodes ≡ old) × AgreesWith old (fold with_list_begun k ps)
+  pub begun_all : (ps : List Path) (k : Knowledge) → k.nodes ≡ old → AgreesWith old k → ((fold with_list_begun k ps).nodes ≡ old) × AgreesWith old (fold with_list_begun k ps)
   begun_all [] k same agrees = (same, agrees)
   begun_all (p ∷ ps) k same agrees = let one = begun_one k p same agrees in begun_all ps (with_list_begun k p) one.0 one.1
 
-starts : (told : List Path) (old t : Nodes) (k : Knowledge) → k.nodes ≡ old → AgreesWith old k → SameButAt told old t → IsRenewedBut t told k
+pub starts : (told : List Path) (old t : Nodes) (k : Knowledge) → k.nodes ≡ old → AgreesWith old k → SameButAt told old t → IsRenewedBut t told k
 starts told old t k nodes agrees same = record {
   nodes = λ p out. ap (λ (es : Nodes). node_at es p) nodes ∙ sym (same p out);
   named = λ p n names known out.
@@ -65,11 +63,11 @@ starts told old t k nodes agrees same = record {
 
 -- ---- a step
 
-node_put : (k : Knowledge) (p q : Path) (o : Option Node) → is_sorted path_cmp k.nodes ≡ true → node_at (with_node k p o).nodes q ≡ cond (eq_by_cmp path_cmp q p) o (node_at k.nodes q)
+pub node_put : (k : Knowledge) (p q : Path) (o : Option Node) → is_sorted path_cmp k.nodes ≡ true → node_at (with_node k p o).nodes q ≡ cond (eq_by_cmp path_cmp q p) o (node_at k.nodes q)
 node_put k p q (Some node) sorted = lookup-insert_entry path_cmp path_total q p node k.nodes
 node_put k p q None sorted = lookup-remove path_cmp path_total q p k.nodes sorted
 
-lists_put : (k : Knowledge) (p : Path) (o : Option Node) → (with_node k p o).lists ≡ k.lists
+pub lists_put : (k : Knowledge) (p : Path) (o : Option Node) → (with_node k p o).lists ≡ k.lists
 lists_put k p (Some node) = refl
 lists_put k p None = refl
 
@@ -104,18 +102,10 @@ answered None true answer h = sym (ap (λ x. unwrap_or x None) h)
 answered None false answer h = absurd (false≢true (ap is_some h))
 answered (Some x) b answer h = sym (ap (λ y. unwrap_or y None) h)
 
-renewed : (t : Nodes) (k : Knowledge) → IsTree t → HaveRisingNames k.lists → IsRenewedBut t [] k → AgreesWith t k
+pub renewed : (t : Nodes) (k : Knowledge) → IsTree t → HaveRisingNames k.lists → IsRenewedBut t [] k → AgreesWith t k
 renewed t k tree rising now = record {
   nodes = λ p answer h. answered (node_at k.nodes p) (is_absent k p) answer h ∙ now.nodes p (none_left p);
   lists = λ p names h.
       same_lists name_cmp nat_list_cmp_total name_exact names (dated_children_of t p) (rising p names h) (children_sorted p t tree.paths)
       (λ n. now.named p n names h (none_left (p ++ n ∷ [])) ∙ sym (named_child p n t));
 }
-
-module _ (k begun new : Knowledge) (told : List Path) (begins : begun ≡ fold with_list_begun k told) where
-  pub renewed_whole : is_sorted path_cmp k.nodes ≡ true → LacksNothing k need.All → HaveRisingNames new.lists
-      → (t : Nodes) → IsTree t → IsEarlierThan t (record { part = k; told = told }) → (IsRenewedBut t told begun → IsRenewedBut t [] new) → AgreesWith t new
-  renewed_whole sorted nothing rising t tree e renews =
-      let same : k.nodes ≡ e.old = tree_whole k sorted nothing e.old e.tree e.agrees in
-      let all = begun_all e.old e.tree told k same e.agrees in
-      renewed t new tree rising (renews (subst (λ (x : Knowledge). IsRenewedBut t told x) (sym begins) (starts told e.old t (fold with_list_begun k told) all.0 all.1 e.same)))

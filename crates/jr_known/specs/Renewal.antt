@@ -1,5 +1,5 @@
 -- What is known of an earlier tree, while it becomes what is known of the new one.
-use Rattle.std.specs.Prelude.{◌≡◌, ◌∷◌, ◌++◌, [], List, Contains, Option, Some, None, cond, is_some}
+use Rattle.std.specs.Prelude.{◌≡◌, ◌∷◌, ◌++◌, [], List, Contains, Option, Some, None, cond, is_some, IsTrue}
 use Rattle.std.specs.BTreeMap.{is_at}
 use Rattle.std.specs.Map.{lookup}
 use Rattle.std.specs.Option.{option_map}
@@ -41,3 +41,8 @@ pub record IsRenewedBut (t : Nodes) (left : List Path) (k : Knowledge) : Type 0 
   pub named : (p : Path) (n : Name) (names : ChildNames) → list_at k p ≡ Some names
       → (Contains left (p ++ n ∷ []) → ⊥)
       → lookup (is_at (name_cmp n)) names ≡ born_in (node_at t (p ++ n ∷ []))
+
+-- the children of each node that is there, and of each told path, are known
+pub record AreListed (told : List Path) (k : Knowledge) : Type 0 where
+  pub there : (p : Path) → IsTrue (is_some (node_at k.nodes p)) → IsTrue (is_some (list_at k p))
+  pub changed : (p : Path) → Contains told p → IsTrue (is_some (list_at k p))

@@ -68,12 +68,14 @@ impl EarlierTree {
         path_at(self.told.as_slice(), self.read)
     }
 
-    /// The part of the new tree that is known once each told path is read: the node there is in the
-    /// place of the earlier one, and in the list of the children of the node above.
+    /// The new tree, once each told path is read: the node there is in the place of the earlier one, and
+    /// in the list of the children of the node above. Nothing of it lacks.
     pub fn renew(self, fresh: &Part) -> Result<Part, AllocError>
         requires { AreKnown fresh.now self.told }
-        ensures { (t : Nodes) → IsTree t → IsEarlierThan t self → AgreesWith t fresh.now
+        ensures agrees { (t : Nodes) → IsTree t → IsEarlierThan t self → AgreesWith t fresh.now
             → IfOk result (AgreesWith t) }
+        ensures whole { (t : Nodes) → IsTree t → IsEarlierThan t self → AgreesWith t fresh.now
+            → IfOk result (λ part. LacksNothing part need.All) }
     {
         let EarlierTree {
             mut part,

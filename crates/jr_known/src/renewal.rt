@@ -1,11 +1,11 @@
 // What is known of an earlier tree becomes what is known of the new one, a told path at a time.
-ghost use Rattle.std.specs.Prelude.{◌≡◌, ◌∷◌, ◌++◌, [], IfOk, IsTrue, None, OnOk, Some, is_some};
+ghost use Rattle.std.specs.Prelude.{◌≡◌, ◌∷◌, ◌++◌, [], Contains, IfOk, IsTrue, None, OnOk, Some, is_some};
 ghost use Rattle.std.specs.List.{fold};
 ghost use Rattle.jr_tree.specs.Trees.{Nodes, node_at};
 ghost use Rattle.jr_path.specs.declared.path.Path.{Path};
 ghost use Rattle.jr_part.specs.Parts.{AgreesWith, known_at};
 ghost use Rattle.jr_known.specs.Earlier.{AreKnown};
-ghost use Rattle.jr_known.specs.Renewal.{IsRenewedBut, ListsChild, born_in, with_list_begun};
+ghost use Rattle.jr_known.specs.Renewal.{AreListed, IsRenewedBut, ListsChild, born_in, with_list_begun};
 
 use crate::child_names::renamed;
 use jr_part::Part;
@@ -50,8 +50,9 @@ pub(crate) fn renew_all(
     fresh: &Part,
 ) -> Result<(), AllocError>
     requires { AreKnown fresh.now told.now }
-    ensures { (t : Nodes) → AgreesWith t fresh.now → IsRenewedBut t told.now part.old
+    ensures renewed { (t : Nodes) → AgreesWith t fresh.now → IsRenewedBut t told.now part.old
         → OnOk result (IsRenewedBut t [] part.new) }
+    ensures listed { AreListed told.now part.old → OnOk result (AreListed told.now part.new) }
 {
     for path in told {
         renew_at(part, alloc, path, fresh)?;
@@ -62,8 +63,10 @@ pub(crate) fn renew_all(
 // The node at a path is put, and its name in the list of the node above; or both go.
 fn renew_at(part: &mut Part, alloc: Global, path: &Path, fresh: &Part) -> Result<(), AllocError>
     requires { IsTrue (is_some (known_at fresh.now path.now)) }
-    ensures { (t : Nodes) (left : _) → AgreesWith t fresh.now
+    ensures renewed { (t : Nodes) (left : _) → AgreesWith t fresh.now
         → IsRenewedBut t (path.now ∷ left) part.old → OnOk result (IsRenewedBut t left part.new) }
+    ensures listed { (told : _) → Contains told path.now → AreListed told part.old
+        → OnOk result (AreListed told part.new) }
 {
     let node = known_node(fresh, path)?;
     list_above(part, alloc, path, born_in(&node))?;

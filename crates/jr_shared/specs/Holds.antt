@@ -174,8 +174,8 @@ module _ {L : Type 0} where
     pub base : IsFalse (has_left w.history.past s)
         → option_map (λ pin. pin.base) r ≡ base_of w.history.past s
 
-  -- what changed between a vector and the session's base was told, where that is known, and the world
-  -- is as it was
+  -- what changed between a vector and the session's base was told, where that is known, and the
+  -- world is as it was
   pub record ChangesAre (w : WorldOf L) (s : ℕ) (since : RevVec)
       (r : Result (Option (List Path)) AllocError) (u : WorldOf L) : Type 0 where
     pub same : u ≡ w

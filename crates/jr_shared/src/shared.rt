@@ -175,7 +175,8 @@ impl<L: Law + Drop> SharedWorld<L> {
     }
 
     /// What changed between a vector and the base of a session of the pass: paths, and among them
-    /// each at which the node at the base isn't the one at that vector. None where that isn't known.
+    /// each at which the node at the base isn't the one at that vector. None where that isn't
+    /// known.
     pub fn changed<R: Wait>(
         &self,
         rt: &R,

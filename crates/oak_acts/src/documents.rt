@@ -59,8 +59,8 @@ pub fn ask(
     }
 }
 
-/// An update with its event, and what is answered to it. An update that is refused for another cause
-/// than memory changes nothing, and has its event too.
+/// An update with its event, and what is answered to it. An update that is refused for another
+/// cause than memory changes nothing, and has its event too.
 pub fn change(
     table: &mut DocTable,
     events: &mut Events,

@@ -6,8 +6,8 @@ ghost use Rattle.oak_alone.specs.Quiet.{OwnTurnsAreQuiet};
 
 use oak_machine::Law;
 
-/// A split of a session ends as over documents at rest, and makes of them what it says, while nobody
-/// else adds an event.
+/// A split of a session ends as over documents at rest, and makes of them what it says, while
+/// nobody else adds an event.
 pub fn splits_alone<L: Law>(law: &L)
     ensures { SplitsAlone (L.may_start law.now) (L.may_say law.now) L }
 {}

@@ -79,7 +79,8 @@ pub trait Port {
     /// What changed between a vector and the session's base: paths, and among them each at which
     /// the node at the base isn't the one at that vector. None where that isn't known: a cluster
     /// node knows it of its own commits, back to the oldest base that it pins, and of no commits of
-    /// other nodes (Oak, DocumentNodeStore: its diff cache, which local commits fill). It is no step.
+    /// other nodes (Oak, DocumentNodeStore: its diff cache, which local commits fill). Asking is no
+    /// step.
     fn changed(&mut self, since: &RevVec) -> Result<Option<List<Path>>, AllocError>
         ensures law { law self.new ≡ law self.old }
         ensures same { StaysSo (Self.L.may_start (law self.old)) (Self.L.may_say (law self.old))
@@ -111,8 +112,8 @@ pub trait Port {
         ensures left { LastsOn (left self.old) (left self.new)
             (shown self.old) (shown self.new) };
 
-    /// Says the session's next reply, and before it how a split or a collection ended, where that is
-    /// to be told. The reply has a place, and so saying takes no memory.
+    /// Says the session's next reply, and before it how a split or a collection ended, where that
+    /// is to be told. The reply has a place, and so saying takes no memory.
     fn say(&mut self, index: u32, text: &str)
         requires idle { IsAtRest (shown self.old).work }
         requires place { HasRoom (shown self.old).room (length text.now) }

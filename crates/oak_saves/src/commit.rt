@@ -25,8 +25,8 @@ use oak_store::DocTable;
 use std::alloc::{AllocError, Global};
 
 /// The draw of an edit with its marks, at the base of session `s`: the paths of the marked nodes
-/// are noted with it, and the journal keeps places for all that the commit appends from then on, but
-/// for its marks. Where memory is refused nothing changes, and edit and marks are dropped.
+/// are noted with it, and the journal keeps places for all that the commit appends from then on,
+/// but for its marks. Where memory is refused nothing changes, and edit and marks are dropped.
 pub fn begin(
     alloc: Global,
     memory: &mut NodeMem,

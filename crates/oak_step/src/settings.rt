@@ -35,7 +35,8 @@ pub(crate) fn checkpoint(
     requires pinned { IsSome (pin_of memory.now s) }
     requires table { IsTable table.old.documents }
     ensures made { (k : ℕ) → KeepsUp (stepping s k (parts table.old memory.now events.old.list))
-        (upkeep.Checkpoint name.now) (parts table.new memory.now events.new.list) result.0 result.1 }
+        (upkeep.Checkpoint name.now) (parts table.new memory.now events.new.list)
+        result.0 result.1 }
     ensures places { events.new.places ≡ events.old.places }
     ensures order { IsTable table.new.documents }
 {

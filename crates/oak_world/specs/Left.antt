@@ -179,8 +179,8 @@ updates_left t c =
     (writes_left c.revision c.base c.edit.writes c.marks c.writer.left) c.writer.due c.roots t
     + length c.writer.written + length c.writer.left + 4
 
--- a commit has left, before its commit point, its look, and then its updates with the marks that are
--- to come; behind that its end, and the move of the base
+-- a commit has left, before its commit point, its look, and then its updates with the marks that
+-- are to come; behind that its end, and the move of the base
 abbrev pub commit_left : Table → Committing → Option CommitEnd → ℕ
 commit_left t c None = looks_left c.looking + updates_left t (once_looked t c)
 commit_left t c (Some e) = suc (suc (length c.writer.written))

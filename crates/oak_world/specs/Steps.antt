@@ -169,8 +169,8 @@ MakesBackRead s w b u v (answers.Ready (ends.Learnt x)) =
 MakesBackRead s w b u v answers.Memory = (u ≡ w) × (v ≡ work.Rest)
 MakesBackRead s w b u v _ = ⊥
 
--- a sweep that stands in a stage reads the root or passes over a document, which changes nothing; or
--- once it has asked for each, it tells the root how far it goes
+-- a sweep that stands in a stage reads the root or passes over a document, which changes nothing;
+-- or once it has asked for each, it tells the root how far it goes
 abbrev pub PassesTo : ℕ → State → Sweeper → Swept → State → Type 0
 PassesTo s w x swept.Root u = u ≡ after_went w s kind.Sweep
 PassesTo s w x swept.Document u = u ≡ after_went w s kind.Sweep

@@ -111,8 +111,8 @@ impl Actor {
         Ok(())
     }
 
-    // Begins what the session does now. A split or a collection keeps a place of the journal for how
-    // it ends. Where memory is refused nothing changes.
+    // Begins what the session does now. A split or a collection keeps a place of the journal for
+    // how it ends. Where memory is refused nothing changes.
     pub(crate) fn begin(&mut self, events: &mut Events, work: Work) -> Result<(), AllocError>
         requires needed { needed work ≤ cond (is_tidying work) 1 0 }
         requires placed { IsPlaced self.old }

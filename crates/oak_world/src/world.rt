@@ -167,8 +167,8 @@ impl<L: Law + Drop> World<L> {
         &self.journal
     }
 
-    /// All that `journal` tells of the world is so; and how a split or a collection has ended, where
-    /// that is to be told, may be told. The call does nothing: callers learn the facts.
+    /// All that `journal` tells of the world is so; and how a split or a collection has ended,
+    /// where that is to be told, may be told. The call does nothing: callers learn the facts.
     pub fn is_kept(&self)
         ensures run { IsRun (L.may_start self.now.law) (L.may_say self.now.law)
             (live self.now.history) }

@@ -1,4 +1,4 @@
-use Rattle.std.proofs.Common.{◌≡◌, Some, sym, ◌∙◌}
+use Rattle.std.proofs.Common.{sym, ◌∙◌}
 use Rattle.jr_known.proofs.Listing.{lists_at_child, lists_nameless, lists_topmost}
 use Rattle.jr_known.proofs.renewal.list_above.Goals as goal
 

@@ -2,7 +2,6 @@ use Rattle.std.proofs.Common.{◌≡◌, ◌∙◌, Contains, None, Some, ap, ar
 use Rattle.jr_path.specs.declared.path.Path.{Path}
 use Rattle.jr_part.specs.Parts.{Knowledge, known_at}
 use Rattle.jr_known.specs.Earlier.{Earlier}
-use Rattle.jcr_held.specs.declared.held.Held.{Held}
 use Rattle.jcr_held.proofs.OnTheWay.{of_some}
 use Rattle.jcr_held.proofs.Unread.{no_more_alike, told_wanted}
 use Rattle.jcr_held.proofs.held.Held.catch_up.Goals as goal

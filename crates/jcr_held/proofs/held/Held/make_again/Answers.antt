@@ -1,4 +1,4 @@
-use Rattle.std.proofs.Common.{false, refl, subst, sym, ap, ◌∙◌}
+use Rattle.std.proofs.Common.{false, subst, sym, ap, ◌∙◌}
 use Rattle.jr_part.specs.Parts.{Knowledge}
 use Rattle.jr_overlay.specs.Overlays.{Changed, edit_of}
 use Rattle.jcr_view.specs.Rebases.{rebased}

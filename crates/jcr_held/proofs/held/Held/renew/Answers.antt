@@ -12,8 +12,8 @@ pub returns-clause-fewer : goal.returns-clause-fewer
 returns-clause-fewer c = λ d m.
     elim c.match-take.branch [
       | in-Some+in_ok-renew w ↦ subst (λ (y : Held). unread d y m ≤ unread d c.args.self.now m) (sym w.self-is)
-        (let is : is_some c.args.self.now.earlier ≡ true = search rules in
-        no_more_renewed d c.args.self.now w.of.result c.take.new.self m is c.take.ensures.after)
+          (let is : is_some c.args.self.now.earlier ≡ true = search rules in
+          no_more_renewed d c.args.self.now w.of.result c.take.new.self m is c.take.ensures.after)
       | in_default w ↦ subst (λ (y : Held). unread d y m ≤ unread d c.args.self.now m) (sym w.self-is)
-        (no_more_without d c.args.self.now c.take.new.self m c.take.ensures.after)
+          (no_more_without d c.args.self.now c.take.new.self m c.take.ensures.after)
     ]

@@ -1,4 +1,4 @@
-use Rattle.std.proofs.Common.{◌≡◌, None, List, IfOk, slice_get, sym, ap, ◌∙◌, subst}
+use Rattle.std.proofs.Common.{◌≡◌, None, List, IfOk, slice_get, sym, ap, subst}
 use Rattle.jr_path.specs.declared.path.Path.{Path}
 use Rattle.jr_known.specs.Earlier.{AreKnown, Earlier}
 use Rattle.jr_known.proofs.Reading.{read_all}
