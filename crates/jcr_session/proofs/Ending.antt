@@ -211,12 +211,6 @@ module _ (law : JcrLaw) (p : Shown) (run : SessionRun) (r : Revision) (a : Pledg
   allowed : due_by here.for.command ≡ due.Commit
   allowed = (allowed_due run.attached here.for.command due.Commit (sym (due_at run here.for.command here.for.next) ∙ here.for.commits) refl).1
 
-  -- the base has moved to where the pin is
-  pub made_pin : (o : Option Pin) (pin : Pin) → o ≡ Some pin → (Rattle.oak_machine.specs.Sessions.has_left p.history.past p.session ≡ false → option_map (λ x. x.base) o ≡ base_of p.history.past p.session) → pin.base ≡ made.base
-  made_pin o pin is told =
-      ap (λ (x : Option RevVec). elim x [ Some v ↦ v | None ↦ pin.base ])
-      (sym (ap (option_map (λ (x : Pin). x.base)) is) ∙ (told stands.at.0.stays ∙ call_has_base law p.history.begin p.history.past p.session moved made.call))
-
   pub made_tree : IsTree made.tree
   made_tree = made.tree_is
 
@@ -277,9 +271,9 @@ module _ (law : JcrLaw) (p : Shown) (run : SessionRun) (r : Revision) (a : Pledg
   abbrev made_it : IsMadeFor law p.history p.session at_end.call r
   made_it = at_end.ended
 
-  -- the session has a base
-  pub made_base : {A : Type 0} (o : Option Pin) → o ≡ None → (Rattle.oak_machine.specs.Sessions.has_left p.history.past p.session ≡ false → option_map (λ x. x.base) o ≡ base_of p.history.past p.session) → A
-  made_base o none told = absurd (false≢true (ap is_some (sym (ap (option_map (λ (x : Pin). x.base)) none) ∙ (told stands.at.0.stays ∙ call_has_base law p.history.begin p.history.past p.session (call_moved at_end.call made_it.base made_it.tree) made_it.call))))
+  -- the base by the journal is that of the pin
+  pub pinned_base : (o : Option Pin) (pin : Pin) → o ≡ Some pin → (Rattle.oak_machine.specs.Sessions.has_left p.history.past p.session ≡ false → option_map (λ x. x.base) o ≡ base_of p.history.past p.session) → base_of p.history.past p.session ≡ Some pin.base
+  pinned_base o pin is told = sym (told stands.at.0.stays) ∙ ap (option_map (λ (x : Pin). x.base)) is
 
   -- the tree that the base moved to is the one before with the edit, where that commit alone lies between
   made_alone : IsNextAlone at_end.call.who.base made_it.base r → made_it.tree ≡ applied (Some r) at_end.call.base a.edit.writes
