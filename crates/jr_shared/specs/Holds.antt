@@ -24,6 +24,7 @@ use Rattle.oak_port.specs.declared.task.Task.{Task}
 use Rattle.oak_port.specs.Ports.{IsWait, Steps, TellsChanges}
 use Rattle.oak_step.specs.declared.work.Work.{Work}
 use Rattle.oak_step.specs.declared.work.Work.TheVariants as work
+use Rattle.oak_world.specs.Changes.{changes_known}
 use Rattle.oak_world.specs.Ends.{MayTell}
 use Rattle.oak_world.specs.Left.{left_in}
 use Rattle.oak_world.specs.Seen.{shown_at}
@@ -179,6 +180,7 @@ module _ {L : Type 0} where
   pub record ChangesAre (w : WorldOf L) (s : ℕ) (since : RevVec)
       (r : Result (Option (List Path)) AllocError) (u : WorldOf L) : Type 0 where
     pub same : u ≡ w
+    pub known : IfOk r (λ told. told ≡ changes_known (state_of w) s since)
     pub told : IfOk r (λ told. IfSome told (TellsChanges (live w.history) s since))
 
   -- a number of bytes, and a place of the journal, are kept for its next reply; where memory is

@@ -1,7 +1,7 @@
 -- What changed between a vector and the base of a session, by the memory of its cluster node.
 use mathlib.Core.Bool.{false≢true}
 use Rattle.std.proofs.Common.{◌≡◌, ℕ, Bool, true, false, not, ◌&&◌, cond, Option, Some, None, List, map, is_some, refl, sym, ap, subst, ◌∙◌, arith}
-use Rattle.std.specs.Prelude.{Contains, slice_get}
+use Rattle.std.specs.Prelude.{Contains, IfSome, option_map, slice_get}
 use Rattle.std.proofs.lemmas.List.{get_or-map, length-map}
 use Rattle.jr_path.specs.declared.path.Path.{Path}
 use Rattle.jr_rev.specs.declared.vector.Pin.{Pin}
@@ -22,7 +22,10 @@ use Rattle.core_world.specs.Kept.{IsKept}
 use Rattle.core_world.specs.States.{State, actor_pin, history_in, memory_of, node_of, reader_pin}
 use Rattle.core_world.proofs.Draws.{its_base}
 use Rattle.core_world.proofs.Lives.{its_node, node_alive}
-use Rattle.oak_world.specs.Changes.{IsToldUpTo}
+use Rattle.oak_node.specs.Changes.{changed_since}
+use Rattle.oak_node.specs.Memory.{NodeState}
+use Rattle.jr_rev.specs.Vectors.{is_below}
+use Rattle.oak_world.specs.Changes.{IsToldUpTo, told_up_to}
 use Rattle.oak_world.proofs.Attached.{reader_base}
 use Rattle.oak_world.proofs.Pinning.{actor_base}
 use Rattle.oak_world.proofs.StepsOf.{none_stopped}
@@ -32,6 +35,22 @@ noted_path : (notes : List Note) (note : Note) → Contains notes note → Conta
 noted_path notes note there =
     let f : Note → Path = λ n. n.path in
     (there.0, omega (arith, there.1, length-map notes f), get_or-map f notes there.0 note note.path there.1 ∙ ap f there.2)
+
+-- what is known to have changed is told of a base that the head sees
+pub told_is : (s : NodeState) (since base : RevVec) (told : List Path) → told_up_to s since base ≡ Some told → IsToldUpTo s since base told
+told_is s since base told = by (is_below since base) (is_below base s.head) (changed_since s since) refl refl refl
+  where
+    by : (a b : Bool) (o : Option (List Note)) → is_below since base ≡ a → is_below base s.head ≡ b → changed_since s since ≡ o
+        → cond (a && b) (option_map (map (λ note. note.path)) o) None ≡ Some told → IsToldUpTo s since base told
+    by true true (Some notes) above seen known is = record { above = above; seen = seen; notes = notes; known = known; paths = let e : Some (map (λ note. note.path) notes) ≡ Some told = is in cc }
+    by true true None above seen known is = absurd (false≢true (ap is_some is))
+    by true false o above seen known is = absurd (false≢true (ap is_some is))
+    by false b o above seen known is = absurd (false≢true (ap is_some is))
+
+-- what holds of each list that is told
+pub if_told : {P : List Path → Type 0} (o : Option (List Path)) → ((paths : List Path) → o ≡ Some paths → P paths) → IfSome o P
+if_told None holds = tt
+if_told (Some paths) holds = holds paths refl
 
 -- who has left has no base of its own
 left_none : {X : Type 0} (login left : Bool) (o : Option X) → left ≡ true → cond (login && not left) o None ≡ None

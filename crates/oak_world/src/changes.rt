@@ -1,6 +1,6 @@
 // What a cluster node knows of what changed between two vectors.
-ghost use Rattle.std.specs.Prelude.{IfOk, IfSome, map, ◌≡◌};
-ghost use Rattle.oak_world.specs.Changes.{IsToldUpTo};
+ghost use Rattle.std.specs.Prelude.{IfOk, map, ◌≡◌};
+ghost use Rattle.oak_world.specs.Changes.{told_up_to};
 
 use jr_path::{DeepCopy, List, Path};
 use jr_rev::RevVec;
@@ -15,7 +15,7 @@ pub(crate) fn changed_up_to(
     since: &RevVec,
     base: &RevVec,
 ) -> Result<Option<List<Path>>, AllocError>
-    ensures { IfOk result (λ told. IfSome told (IsToldUpTo memory.now since.now base.now)) }
+    ensures { IfOk result (λ told. told ≡ told_up_to memory.now since.now base.now) }
 {
     if !since.is_below(base) || !base.is_below(&memory.head()) {
         return Ok(None);

@@ -27,6 +27,7 @@ ghost use Rattle.core_world.specs.States.{actor_pin, memory_at, nodes_in, reader
 ghost use Rattle.core_clash.specs.Unclashing.{IsUnclashing};
 ghost use Rattle.oak_step.specs.declared.work.Work.{Work};
 ghost use Rattle.oak_step.specs.declared.work.Work.TheVariants.{Told};
+ghost use Rattle.oak_world.specs.Changes.{changes_known};
 ghost use Rattle.oak_world.specs.Clashes.{Wanted};
 ghost use Rattle.oak_world.specs.Ends.{MayTell};
 ghost use Rattle.oak_world.specs.Left.{left_in};
@@ -237,7 +238,8 @@ impl<L: Law + Drop> World<L> {
     /// other nodes (Oak, DocumentNodeStore: its diff cache, which local commits fill).
     pub fn changed(&self, actor: u32, since: &RevVec) -> Result<Option<List<Path>>, AllocError>
         requires { IsTrue (is_some (slice_get self.now.history.sessions actor)) }
-        ensures { IfOk result (λ told. IfSome told
+        ensures known { IfOk result (λ told. told ≡ changes_known (state_of self.now) actor since.now) }
+        ensures told { IfOk result (λ told. IfSome told
             (TellsChanges (live self.now.history) actor since.now)) }
     {
         let node = self.node(actor);

@@ -29,6 +29,6 @@ returns-clause-hold g c =
     let y = c.acquire-hold.result.value in
     one_hold g.L.Law (view_of c.args.pass.now) (view_of c.acquire-hold.new.pass) (view_of c.release.new.pass) c.args.actor _ x y
     (is_got g.L.Law (view_of c.args.pass.now) c.acquire-hold.result.value.world c.is_whole.ensures c.acquire-hold.ensures.frame c.acquire-hold.ensures.longer c.acquire-hold.ensures.parts c.acquire-hold.ensures.steady)
-    c.is_whole.ensures (record { same = refl; told = c.changed-changed.ensures })
+    c.is_whole.ensures (record { same = refl; known = c.changed-changed.ensures.known; told = c.changed-changed.ensures.told })
     (unmoved c.args.actor c.acquire-hold.result.value.world)
     c.acquire-hold.ensures.pass c.release.ensures.pass
