@@ -19,8 +19,8 @@ pub record AreAlike (x y : Held) : Type 0 where
   pub cursor : y.cursor ≡ x.cursor
 
 -- only what is pending changes, and whether it is kept from an earlier base; of the references of
--- the tree at the base it may be asked, where it wasn't yet; and the earlier tree may go, of which what
--- is known of the tree at the base is made then
+-- the tree at the base it may be asked, where it wasn't yet; and the earlier tree may go, of which
+-- what is known of the tree at the base is made then
 pub record Readies (old new : Held) : Type 0 where
   pub types : new.types ≡ old.types
   pub who : new.who ≡ old.who

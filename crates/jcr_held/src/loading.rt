@@ -31,12 +31,13 @@ impl Held {
     /// is run; None where all is known that it asks for, and nothing is kept from an earlier base.
     /// Commands that commit, and queries, ask for the whole tree (JSR 283, 6 Query; 10.11 Saving);
     /// `split` for its node; `head`, `refresh`, `attach`, `detach`, `observe` and `events` for
-    /// nothing. Before one that
-    /// commits, it is asked once at each base whether a REFERENCE dangles there, where that isn't
-    /// known (3.8.2 Referential Integrity).
+    /// nothing. Before one that commits, it is asked once at each base whether a REFERENCE dangles
+    /// there, where that isn't known (3.8.2 Referential Integrity). While an earlier tree is held,
+    /// the nodes at its told paths are read before anything else that is asked for.
     pub fn next_load(&mut self, command: &Command) -> Result<Option<Need>, AllocError>
         ensures ready { IfOk result (λ load. load ≡ None → IsReady self.new command.now) }
-        ensures asked { IfOk result (λ load. load ≡ None → HasAskedOfReferences self.new command.now) }
+        ensures asked { IfOk result (λ load. load ≡ None
+            → HasAskedOfReferences self.new command.now) }
         ensures one { IfOk result (λ load. IfSome load (λ n. IsTrue (is_of_one_node n))) }
         ensures holds { (c : Call) → Holds c self.old → Holds c self.new }
         ensures others { Readies self.old self.new }
@@ -72,7 +73,8 @@ impl Held {
     // What to read next where nothing is left to be looked at.
     fn load_anew(&mut self, command: &Command) -> Result<Option<Need>, AllocError>
         ensures ready { IfOk result (λ load. load ≡ None → IsReady self.new command.now) }
-        ensures asked { IfOk result (λ load. load ≡ None → HasAskedOfReferences self.new command.now) }
+        ensures asked { IfOk result (λ load. load ≡ None
+            → HasAskedOfReferences self.new command.now) }
         ensures one { IfOk result (λ load. IfSome load (λ n. IsTrue (is_of_one_node n))) }
         ensures holds { (c : Call) → Holds c self.old → Holds c self.new }
         ensures others { Readies self.old self.new }
@@ -146,7 +148,8 @@ impl Held {
     fn load_for(&mut self, command: &Command) -> Result<Option<Need>, AllocError>
         requires settled { IsFalse self.old.is_kept }
         ensures ready { IfOk result (λ load. load ≡ None → IsReady self.new command.now) }
-        ensures asked { IfOk result (λ load. load ≡ None → HasAskedOfReferences self.new command.now) }
+        ensures asked { IfOk result (λ load. load ≡ None
+            → HasAskedOfReferences self.new command.now) }
         ensures one { IfOk result (λ load. IfSome load (λ n. IsTrue (is_of_one_node n))) }
         ensures holds { (c : Call) → Holds c self.old → Holds c self.new }
         ensures others { Readies self.old self.new }
@@ -165,7 +168,8 @@ impl Held {
         requires settled { IsFalse self.old.is_kept }
         requires caught { HasCaughtUpFor self.old (asks_for self.old command.now) }
         ensures ready { IfOk result (λ load. load ≡ None → IsReady self.new command.now) }
-        ensures asked { IfOk result (λ load. load ≡ None → HasAskedOfReferences self.new command.now) }
+        ensures asked { IfOk result (λ load. load ≡ None
+            → HasAskedOfReferences self.new command.now) }
         ensures one { IfOk result (λ load. IfSome load (λ n. IsTrue (is_of_one_node n))) }
         ensures holds { (c : Call) → Holds c self.old → Holds c self.new }
         ensures others { Readies self.old self.new }

@@ -69,8 +69,8 @@ fn say_ended<P: Port<L = JcrLaw>>(
     }
 }
 
-// Where the base stands behind a commit: the vector there, the revision of the commit, and the paths
-// that changed since the base before, where they are told.
+// Where the base stands behind a commit: the vector there, the revision of the commit, and the
+// paths that changed since the base before, where they are told.
 #[derive(Drop)]
 pub(crate) struct Moved {
     pub(crate) vector: RevVec,

@@ -25,11 +25,11 @@ use std::alloc::AllocError;
 /// Makes a reading step, where one is due, also inside a commit, a split or a collection, and else
 /// exactly one counted step, or none where the session waits or has ended. Where memory is refused
 /// for a command, that command is answered so; where it is refused for the place of a reply, or for
-/// the login or the leave, the run ends. From the draw of a commit until its reply it never ends so,
-/// and draws no other: a commit that is made is answered. Nor does it end so once the base has moved
-/// for a refresh, an attach or a detach: a command that is answered by want of memory has left the
-/// base where it stood, but that a detach that is refused memory for its second step has moved it
-/// to the head. Nor does it end so once background work or a sweep has begun, or a checkpoint is
+/// the login or the leave, the run ends. From the draw of a commit until its reply it never ends
+/// so, and draws no other: a commit that is made is answered. Nor does it end so once the base has
+/// moved for a refresh, an attach or a detach: a command that is answered by want of memory has
+/// left the base where it stood, but that a detach that is refused memory for its second step has
+/// moved it to the head. Nor does it end so once background work or a sweep has begun, or a checkpoint is
 /// being made or released (Oak, DocumentNodeStore: "Background operations", "Sweep revision",
 /// "Checkpoints"), or once the cursor has moved (JSR 283, 12 Observation): they need nothing of
 /// the tree, and what their replies need is made before their first step. Nor does it end so once a

@@ -98,8 +98,8 @@ impl HeldPart {
         self.part.in_order();
     }
 
-    /// Puts the node at a path, or that none is there. A refusal leaves all as it was. Where no node
-    /// was known to be there and none is, the note stays.
+    /// Puts the node at a path, or that none is there. A refusal leaves all as it was. Where no
+    /// node was known to be there and none is, the note stays.
     pub fn put_node(&mut self, path: &Path, node: Option<Node>) -> Result<(), AllocError>
         ensures ok { OnOk result (self.new ≡ with_node self.old path.now node) }
         ensures err { OnErr result (self.new ≡ self.old) }

@@ -238,7 +238,8 @@ impl<L: Law + Drop> World<L> {
     /// other nodes (Oak, DocumentNodeStore: its diff cache, which local commits fill).
     pub fn changed(&self, actor: u32, since: &RevVec) -> Result<Option<List<Path>>, AllocError>
         requires { IsTrue (is_some (slice_get self.now.history.sessions actor)) }
-        ensures known { IfOk result (λ told. told ≡ changes_known (state_of self.now) actor since.now) }
+        ensures known { IfOk result (λ told.
+            told ≡ changes_known (state_of self.now) actor since.now) }
         ensures told { IfOk result (λ told. IfSome told
             (TellsChanges (live self.now.history) actor since.now)) }
     {
