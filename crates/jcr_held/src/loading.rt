@@ -9,7 +9,7 @@ ghost use Rattle.jcr_view.specs.Needs.{needs_of, needs_to_rebase};
 ghost use Rattle.jcr_view.specs.Outcomes.{is_viewed};
 ghost use Rattle.jcr_view.specs.Rounds.{is_of_one_node};
 ghost use Rattle.jcr_law.specs.State.{Call};
-ghost use Rattle.jcr_held.specs.Alike.{AreAlike, Readies};
+ghost use Rattle.jcr_held.specs.Alike.{AreAlike, IsWholeBehind, MakesAgain, Readies};
 ghost use Rattle.jcr_held.specs.Holds.{HasAskedOfReferences, HasCaughtUpFor, Holds, IsReady, asks_for};
 ghost use Rattle.jcr_held.specs.Looking.{IsLackingOf, places_for};
 ghost use Rattle.jcr_held.specs.References.{are_asked};
@@ -40,6 +40,8 @@ impl Held {
         ensures one { IfOk result (λ load. IfSome load (λ n. IsTrue (is_of_one_node n))) }
         ensures holds { (c : Call) → Holds c self.old → Holds c self.new }
         ensures others { Readies self.old self.new }
+        ensures whole { (c : Call) → Holds c self.old
+            → IfOk result (λ load. IsWholeBehind self.old self.new) }
         ensures wanted { (c : Call) → Holds c self.old
             → IfOk result (λ load. IfSome load (IsWanted c self.new command.now)) }
         ensures fewer { (c : Call) → Holds c self.old
@@ -76,6 +78,8 @@ impl Held {
         ensures one { IfOk result (λ load. IfSome load (λ n. IsTrue (is_of_one_node n))) }
         ensures holds { (c : Call) → Holds c self.old → Holds c self.new }
         ensures others { Readies self.old self.new }
+        ensures whole { (c : Call) → Holds c self.old
+            → IfOk result (λ load. IsWholeBehind self.old self.new) }
         ensures wanted { (c : Call) → Holds c self.old
             → IfOk result (λ load. IfSome load (IsWanted c self.new command.now)) }
         ensures fewer { (c : Call) (m : Command) → unread c self.new m ≤ unread c self.old m }
@@ -92,6 +96,8 @@ impl Held {
         ensures one { IfOk result (λ load. IfSome load (λ n. IsTrue (is_of_one_node n))) }
         ensures holds { (c : Call) → Holds c self.old → Holds c self.new }
         ensures others { Readies self.old self.new }
+        ensures whole { (c : Call) → Holds c self.old
+            → IfOk result (λ load. IsWholeBehind self.old self.new) }
         ensures wanted { (c : Call) (m : Command) → Holds c self.old
             → IfOk result (λ load. IfSome load (IsWanted c self.new m)) }
         ensures fewer { (c : Call) (m : Command) → unread c self.new m ≤ unread c self.old m }
@@ -114,7 +120,7 @@ impl Held {
         ensures settled { IfOk result (λ load. load ≡ None → IsFalse self.new.is_kept) }
         ensures one { IfOk result (λ load. IfSome load (λ n. IsTrue (is_of_one_node n))) }
         ensures holds { (c : Call) → Holds c self.old → Holds c self.new }
-        ensures others { Readies self.old self.new }
+        ensures others { MakesAgain self.old self.new }
         ensures wanted { (c : Call) (m : Command) → Holds c self.old
             → IfOk result (λ load. IfSome load (IsWanted c self.new m)) }
         ensures fewer { (c : Call) (m : Command) → unread c self.new m ≤ unread c self.old m }
@@ -133,7 +139,7 @@ impl Held {
         ensures none { IfOk result (λ load. load ≡ None) }
         ensures settled { OnOk result (IsFalse self.new.is_kept) }
         ensures holds { (c : Call) → Holds c self.old → Holds c self.new }
-        ensures others { Readies self.old self.new }
+        ensures others { MakesAgain self.old self.new }
         ensures fewer { (c : Call) (m : Command) → unread c self.new m ≤ unread c self.old m }
     {
         rebases_count();
@@ -150,6 +156,8 @@ impl Held {
         ensures one { IfOk result (λ load. IfSome load (λ n. IsTrue (is_of_one_node n))) }
         ensures holds { (c : Call) → Holds c self.old → Holds c self.new }
         ensures others { Readies self.old self.new }
+        ensures whole { (c : Call) → Holds c self.old
+            → IfOk result (λ load. IsWholeBehind self.old self.new) }
         ensures wanted { (c : Call) → Holds c self.old
             → IfOk result (λ load. IfSome load (IsWanted c self.new command.now)) }
         ensures fewer { (c : Call) (m : Command) → unread c self.new m ≤ unread c self.old m }
@@ -168,7 +176,7 @@ impl Held {
         ensures asked { IfOk result (λ load. load ≡ None → HasAskedOfReferences self.new command.now) }
         ensures one { IfOk result (λ load. IfSome load (λ n. IsTrue (is_of_one_node n))) }
         ensures holds { (c : Call) → Holds c self.old → Holds c self.new }
-        ensures others { Readies self.old self.new }
+        ensures others { MakesAgain self.old self.new }
         ensures wanted { (c : Call) → Holds c self.old
             → IfOk result (λ load. IfSome load (IsWanted c self.new command.now)) }
         ensures fewer { (c : Call) (m : Command) → unread c self.new m ≤ unread c self.old m }
@@ -188,7 +196,7 @@ impl Held {
         ensures ready { IsReady self.new command.now }
         ensures asked { OnOk result (HasAskedOfReferences self.new command.now) }
         ensures holds { (c : Call) → Holds c self.old → Holds c self.new }
-        ensures others { Readies self.old self.new }
+        ensures others { MakesAgain self.old self.new }
         ensures fewer { (c : Call) (m : Command) → unread c self.new m ≤ unread c self.old m }
     {
         if commits(command) {
