@@ -29,6 +29,7 @@ use std::alloc::{AllocError, Global};
 impl Held {
     /// What to read next of the tree at the base, a node or the children of one, before a command
     /// is run; None where all is known that it asks for, and nothing is kept from an earlier base.
+    /// While the tree at an earlier base is held, that is a node that was told to have changed since.
     /// Commands that commit, and queries, ask for the whole tree (JSR 283, 6 Query; 10.11 Saving);
     /// `split` for its node; `head`, `refresh`, `attach`, `detach`, `observe` and `events` for
     /// nothing. Before one that
