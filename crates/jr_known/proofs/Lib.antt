@@ -1,4 +1,8 @@
 mod Following
+mod GoneEdit
+mod GoneNodes
+mod Leaving
+mod LeftTree
 mod Listed
 mod Listing
 mod Reading

@@ -1,4 +1,5 @@
 pub mod Earlier
 pub mod Follows
+pub mod Gone
 pub mod Renewal
 pub mod Whole

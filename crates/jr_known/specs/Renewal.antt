@@ -26,16 +26,18 @@ with_child None n names = without_name n names
 abbrev pub with_list_begun : Knowledge → Path → Knowledge
 with_list_begun k p = cond (is_some (node_at k.nodes p)) k (with_children k p [])
 
--- among the children of the node above p, where they are known, the one at p stands as it is now, and
--- nothing else changed
-pub record ListsChild (old new : Knowledge) (p : Path) (born : Option (Option Revision)) : Type 0 where
+-- among the children of the node above p, where they are known, the one at p stands as it is now,
+-- and nothing else changed
+pub record ListsChild (old new : Knowledge) (p : Path)
+    (born : Option (Option Revision)) : Type 0 where
   pub nodes : new.nodes ≡ old.nodes
   pub known : (q : Path) → is_some (list_at new q) ≡ is_some (list_at old q)
   pub named : (q : Path) (n : Name) (before after : ChildNames) → list_at old q ≡ Some before
       → list_at new q ≡ Some after → lookup (is_at (name_cmp n)) after
       ≡ cond (eq_by_cmp path_cmp (q ++ n ∷ []) p) born (lookup (is_at (name_cmp n)) before)
 
--- what is known is the new tree's, but for the nodes at the paths that are left, and their names above
+-- what is known is the new tree's, but for the nodes at the paths that are left, and their names
+-- above
 pub record IsRenewedBut (t : Nodes) (left : List Path) (k : Knowledge) : Type 0 where
   pub nodes : (p : Path) → (Contains left p → ⊥) → node_at k.nodes p ≡ node_at t p
   pub named : (p : Path) (n : Name) (names : ChildNames) → list_at k p ≡ Some names

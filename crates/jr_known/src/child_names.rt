@@ -24,7 +24,8 @@ pub(crate) fn renamed(
     born: Option<Option<Revision>>,
 ) -> Result<Option<List<ChildName>>, AllocError>
     requires { IsTrue (is_sorted name_cmp names.now) }
-    ensures made { IfOk result (λ made. IfSome made (λ ns. ns ≡ with_child born name.now names.now)) }
+    ensures made { IfOk result (λ made. IfSome made (λ ns.
+        ns ≡ with_child born name.now names.now)) }
     ensures same { IfOk result (λ made. made ≡ None
         → lookup (is_at (name_cmp name.now)) names.now ≡ born) }
 {

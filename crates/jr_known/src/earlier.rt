@@ -5,6 +5,7 @@ ghost use Rattle.jr_part.specs.declared.need.Need.TheVariants as need;
 ghost use Rattle.jr_part.specs.Parts.{AgreesWith, LacksNothing, known_at};
 ghost use Rattle.jr_known.specs.Earlier.{AreKnown, IsEarlierThan};
 
+use crate::gone::leave_gone;
 use crate::renewal::{begin_lists, renew_all};
 use jr_part::Part;
 use jr_path::{DeepCopy, List, Path};
@@ -68,8 +69,8 @@ impl EarlierTree {
         path_at(self.told.as_slice(), self.read)
     }
 
-    /// The new tree, once each told path is read: the node there is in the place of the earlier one, and
-    /// in the list of the children of the node above. Nothing of it lacks.
+    /// The new tree, once each told path is read: the node there is in the place of the earlier
+    /// one, and in the list of the children of the node above. Nothing of it lacks.
     pub fn renew(self, fresh: &Part) -> Result<Part, AllocError>
         requires { AreKnown fresh.now self.told }
         ensures agrees { (t : Nodes) → IsTree t → IsEarlierThan t self → AgreesWith t fresh.now
@@ -83,6 +84,7 @@ impl EarlierTree {
             read: _,
         } = self;
         let alloc = *told.inner().allocator();
+        leave_gone(&mut part, alloc, told.as_slice(), fresh)?;
         part.in_order();
         begin_lists(&mut part, alloc, told.as_slice())?;
         renew_all(&mut part, alloc, told.as_slice(), fresh)?;

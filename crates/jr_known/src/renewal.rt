@@ -95,7 +95,8 @@ fn born_in(node: &Option<Node>) -> Option<Option<Revision>>
     }
 }
 
-// In the list of the node above a path, where it is known, the child at the path stands as it is now.
+// In the list of the node above a path, where it is known, the child at the path stands as it is
+// now.
 fn list_above(
     part: &mut Part,
     alloc: Global,
