@@ -30,7 +30,8 @@ pub record MakesAgain (old new : Held) : Type 0 where
   pub tokens : new.tokens ≡ old.tokens
   pub cursor : new.cursor ≡ old.cursor
 
--- beside that the earlier tree may go; of it what is known of the tree at the base is made then
+-- what is made again changes, as above; and the earlier tree may go, of which what is known of the
+-- tree at the base is made then
 pub record Readies (old new : Held) : Type 0 where
   pub types : new.types ≡ old.types
   pub who : new.who ≡ old.who
