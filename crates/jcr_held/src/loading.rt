@@ -29,7 +29,7 @@ use std::alloc::{AllocError, Global};
 impl Held {
     /// What to read next of the tree at the base, a node or the children of one, before a command
     /// is run; None where all is known that it asks for, and nothing is kept from an earlier base.
-    /// While the tree at an earlier base is held, that is a node that was told to have changed since.
+    /// While the tree at an earlier base is held, a node is read that was told to have changed.
     /// Commands that commit, and queries, ask for the whole tree (JSR 283, 6 Query; 10.11 Saving);
     /// `split` for its node; `head`, `refresh`, `attach`, `detach`, `observe` and `events` for
     /// nothing. Before one that
@@ -37,7 +37,8 @@ impl Held {
     /// known (3.8.2 Referential Integrity).
     pub fn next_load(&mut self, command: &Command) -> Result<Option<Need>, AllocError>
         ensures ready { IfOk result (λ load. load ≡ None → IsReady self.new command.now) }
-        ensures asked { IfOk result (λ load. load ≡ None → HasAskedOfReferences self.new command.now) }
+        ensures asked { IfOk result (λ load. load ≡ None
+            → HasAskedOfReferences self.new command.now) }
         ensures one { IfOk result (λ load. IfSome load (λ n. IsTrue (is_of_one_node n))) }
         ensures holds { (c : Call) → Holds c self.old → Holds c self.new }
         ensures others { Readies self.old self.new }
@@ -75,7 +76,8 @@ impl Held {
     // What to read next where nothing is left to be looked at.
     fn load_anew(&mut self, command: &Command) -> Result<Option<Need>, AllocError>
         ensures ready { IfOk result (λ load. load ≡ None → IsReady self.new command.now) }
-        ensures asked { IfOk result (λ load. load ≡ None → HasAskedOfReferences self.new command.now) }
+        ensures asked { IfOk result (λ load. load ≡ None
+            → HasAskedOfReferences self.new command.now) }
         ensures one { IfOk result (λ load. IfSome load (λ n. IsTrue (is_of_one_node n))) }
         ensures holds { (c : Call) → Holds c self.old → Holds c self.new }
         ensures others { Readies self.old self.new }
@@ -153,7 +155,8 @@ impl Held {
     fn load_for(&mut self, command: &Command) -> Result<Option<Need>, AllocError>
         requires settled { IsFalse self.old.is_kept }
         ensures ready { IfOk result (λ load. load ≡ None → IsReady self.new command.now) }
-        ensures asked { IfOk result (λ load. load ≡ None → HasAskedOfReferences self.new command.now) }
+        ensures asked { IfOk result (λ load. load ≡ None
+            → HasAskedOfReferences self.new command.now) }
         ensures one { IfOk result (λ load. IfSome load (λ n. IsTrue (is_of_one_node n))) }
         ensures holds { (c : Call) → Holds c self.old → Holds c self.new }
         ensures others { Readies self.old self.new }
@@ -174,7 +177,8 @@ impl Held {
         requires settled { IsFalse self.old.is_kept }
         requires caught { HasCaughtUpFor self.old (asks_for self.old command.now) }
         ensures ready { IfOk result (λ load. load ≡ None → IsReady self.new command.now) }
-        ensures asked { IfOk result (λ load. load ≡ None → HasAskedOfReferences self.new command.now) }
+        ensures asked { IfOk result (λ load. load ≡ None
+            → HasAskedOfReferences self.new command.now) }
         ensures one { IfOk result (λ load. IfSome load (λ n. IsTrue (is_of_one_node n))) }
         ensures holds { (c : Call) → Holds c self.old → Holds c self.new }
         ensures others { MakesAgain self.old self.new }
