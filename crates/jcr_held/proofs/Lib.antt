@@ -1,4 +1,5 @@
 mod Answering
+mod Behind
 mod Dangling
 mod Dues
 mod Holding

@@ -4,7 +4,7 @@ ghost use Rattle.jr_known.specs.Earlier.{AreKnown, Earlier};
 ghost use Rattle.jcr_trans.specs.declared.command.Command.{Command};
 ghost use Rattle.jcr_view.specs.Rounds.{is_of_one_node};
 ghost use Rattle.jcr_law.specs.State.{Call};
-ghost use Rattle.jcr_held.specs.Alike.{CatchesUp};
+ghost use Rattle.jcr_held.specs.Alike.{CatchesUp, IsWholeBehind};
 ghost use Rattle.jcr_held.specs.Holds.{HasCaughtUpFor, Holds, asks_for};
 ghost use Rattle.jcr_held.specs.Unread.{IsWanted, unread};
 
@@ -23,6 +23,8 @@ impl Held {
         ensures one { IfOk result (λ load. IfSome load (λ n. IsTrue (is_of_one_node n))) }
         ensures holds { (c : Call) → Holds c self.old → Holds c self.new }
         ensures others { CatchesUp self.old self.new }
+        ensures whole { (c : Call) → Holds c self.old
+            → IfOk result (λ load. IsWholeBehind self.old self.new) }
         ensures wanted { (c : Call) (m : Command)
             → IfOk result (λ load. IfSome load (IsWanted c self.new m)) }
         ensures fewer { (c : Call) (m : Command) → unread c self.new m ≤ unread c self.old m }
@@ -42,6 +44,8 @@ impl Held {
         ensures one { IfOk result (λ load. IfSome load (λ n. IsTrue (is_of_one_node n))) }
         ensures holds { (c : Call) → Holds c self.old → Holds c self.new }
         ensures others { CatchesUp self.old self.new }
+        ensures whole { (c : Call) → Holds c self.old
+            → IfOk result (λ load. IsWholeBehind self.old self.new) }
         ensures wanted { (c : Call) (m : Command)
             → IfOk result (λ load. IfSome load (IsWanted c self.new m)) }
         ensures fewer { (c : Call) (m : Command) → unread c self.new m ≤ unread c self.old m }
@@ -59,6 +63,8 @@ impl Held {
         ensures one { IfOk result (λ load. IfSome load (λ n. IsTrue (is_of_one_node n))) }
         ensures holds { (c : Call) → Holds c self.old → Holds c self.new }
         ensures others { CatchesUp self.old self.new }
+        ensures whole { (c : Call) → Holds c self.old
+            → IfOk result (λ load. IsWholeBehind self.old self.new) }
         ensures wanted { (c : Call) (m : Command)
             → IfOk result (λ load. IfSome load (IsWanted c self.new m)) }
         ensures fewer { (c : Call) (m : Command) → unread c self.new m ≤ unread c self.old m }
@@ -80,6 +86,8 @@ impl Held {
         ensures caught { self.new.earlier ≡ None }
         ensures holds { (c : Call) → Holds c self.old → Holds c self.new }
         ensures others { CatchesUp self.old self.new }
+        ensures whole { (c : Call) → Holds c self.old
+            → IfOk result (λ load. IsWholeBehind self.old self.new) }
         ensures fewer { (c : Call) (m : Command) → unread c self.new m ≤ unread c self.old m }
     {
         if let Some(earlier) = self.earlier.take() {

@@ -9,7 +9,7 @@ ghost use Rattle.jcr_view.specs.Needs.{needs_of, needs_to_rebase};
 ghost use Rattle.jcr_view.specs.Outcomes.{is_viewed};
 ghost use Rattle.jcr_view.specs.Rounds.{is_of_one_node};
 ghost use Rattle.jcr_law.specs.State.{Call};
-ghost use Rattle.jcr_held.specs.Alike.{AreAlike, Readies};
+ghost use Rattle.jcr_held.specs.Alike.{AreAlike, IsWholeBehind, MakesAgain, Readies};
 ghost use Rattle.jcr_held.specs.Holds.{HasAskedOfReferences, HasCaughtUpFor, Holds, IsReady, asks_for};
 ghost use Rattle.jcr_held.specs.Looking.{IsLackingOf, places_for};
 ghost use Rattle.jcr_held.specs.References.{are_asked};
@@ -41,6 +41,8 @@ impl Held {
         ensures one { IfOk result (λ load. IfSome load (λ n. IsTrue (is_of_one_node n))) }
         ensures holds { (c : Call) → Holds c self.old → Holds c self.new }
         ensures others { Readies self.old self.new }
+        ensures whole { (c : Call) → Holds c self.old
+            → IfOk result (λ load. IsWholeBehind self.old self.new) }
         ensures wanted { (c : Call) → Holds c self.old
             → IfOk result (λ load. IfSome load (IsWanted c self.new command.now)) }
         ensures fewer { (c : Call) → Holds c self.old
@@ -78,6 +80,8 @@ impl Held {
         ensures one { IfOk result (λ load. IfSome load (λ n. IsTrue (is_of_one_node n))) }
         ensures holds { (c : Call) → Holds c self.old → Holds c self.new }
         ensures others { Readies self.old self.new }
+        ensures whole { (c : Call) → Holds c self.old
+            → IfOk result (λ load. IsWholeBehind self.old self.new) }
         ensures wanted { (c : Call) → Holds c self.old
             → IfOk result (λ load. IfSome load (IsWanted c self.new command.now)) }
         ensures fewer { (c : Call) (m : Command) → unread c self.new m ≤ unread c self.old m }
@@ -94,6 +98,8 @@ impl Held {
         ensures one { IfOk result (λ load. IfSome load (λ n. IsTrue (is_of_one_node n))) }
         ensures holds { (c : Call) → Holds c self.old → Holds c self.new }
         ensures others { Readies self.old self.new }
+        ensures whole { (c : Call) → Holds c self.old
+            → IfOk result (λ load. IsWholeBehind self.old self.new) }
         ensures wanted { (c : Call) (m : Command) → Holds c self.old
             → IfOk result (λ load. IfSome load (IsWanted c self.new m)) }
         ensures fewer { (c : Call) (m : Command) → unread c self.new m ≤ unread c self.old m }
@@ -116,7 +122,7 @@ impl Held {
         ensures settled { IfOk result (λ load. load ≡ None → IsFalse self.new.is_kept) }
         ensures one { IfOk result (λ load. IfSome load (λ n. IsTrue (is_of_one_node n))) }
         ensures holds { (c : Call) → Holds c self.old → Holds c self.new }
-        ensures others { Readies self.old self.new }
+        ensures others { MakesAgain self.old self.new }
         ensures wanted { (c : Call) (m : Command) → Holds c self.old
             → IfOk result (λ load. IfSome load (IsWanted c self.new m)) }
         ensures fewer { (c : Call) (m : Command) → unread c self.new m ≤ unread c self.old m }
@@ -135,7 +141,7 @@ impl Held {
         ensures none { IfOk result (λ load. load ≡ None) }
         ensures settled { OnOk result (IsFalse self.new.is_kept) }
         ensures holds { (c : Call) → Holds c self.old → Holds c self.new }
-        ensures others { Readies self.old self.new }
+        ensures others { MakesAgain self.old self.new }
         ensures fewer { (c : Call) (m : Command) → unread c self.new m ≤ unread c self.old m }
     {
         rebases_count();
@@ -153,6 +159,8 @@ impl Held {
         ensures one { IfOk result (λ load. IfSome load (λ n. IsTrue (is_of_one_node n))) }
         ensures holds { (c : Call) → Holds c self.old → Holds c self.new }
         ensures others { Readies self.old self.new }
+        ensures whole { (c : Call) → Holds c self.old
+            → IfOk result (λ load. IsWholeBehind self.old self.new) }
         ensures wanted { (c : Call) → Holds c self.old
             → IfOk result (λ load. IfSome load (IsWanted c self.new command.now)) }
         ensures fewer { (c : Call) (m : Command) → unread c self.new m ≤ unread c self.old m }
@@ -172,7 +180,7 @@ impl Held {
             → HasAskedOfReferences self.new command.now) }
         ensures one { IfOk result (λ load. IfSome load (λ n. IsTrue (is_of_one_node n))) }
         ensures holds { (c : Call) → Holds c self.old → Holds c self.new }
-        ensures others { Readies self.old self.new }
+        ensures others { MakesAgain self.old self.new }
         ensures wanted { (c : Call) → Holds c self.old
             → IfOk result (λ load. IfSome load (IsWanted c self.new command.now)) }
         ensures fewer { (c : Call) (m : Command) → unread c self.new m ≤ unread c self.old m }
@@ -192,7 +200,7 @@ impl Held {
         ensures ready { IsReady self.new command.now }
         ensures asked { OnOk result (HasAskedOfReferences self.new command.now) }
         ensures holds { (c : Call) → Holds c self.old → Holds c self.new }
-        ensures others { Readies self.old self.new }
+        ensures others { MakesAgain self.old self.new }
         ensures fewer { (c : Call) (m : Command) → unread c self.new m ≤ unread c self.old m }
     {
         if commits(command) {

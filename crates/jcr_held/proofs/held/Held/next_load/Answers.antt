@@ -3,6 +3,8 @@ use Rattle.jcr_held.specs.Unread.{IsWanted}
 use Rattle.jcr_held.proofs.Holding.{holds_alike}
 use Rattle.jcr_held.proofs.OnTheWay.{of_some}
 use Rattle.jcr_held.proofs.Unread.{no_more_alike}
+use Rattle.jcr_held.specs.Alike.{IsWholeBehind}
+use Rattle.jcr_held.proofs.Behind.{of_ok, whole_alike}
 use Rattle.jcr_held.proofs.held.Held.next_load.Goals as goal
 
 pub returns-in-None-clause-holds : goal.returns-in-None-clause-holds
@@ -23,3 +25,9 @@ returns-in-None-clause-fewer c = λ d h.
     let first = no_more_alike d c.args.self.now c.load_on.new.self c.args.command.now c.load_on.ensures.same in
     let rest = c.load_anew.ensures.fewer d c.args.command.now in
     omega arith
+
+pub returns-in-None-clause-whole : goal.returns-in-None-clause-whole
+returns-in-None-clause-whole c = λ d h.
+    of_ok (IsWholeBehind c.load_on.new.self c.load_anew.new.self) (IsWholeBehind c.args.self.now c.load_anew.new.self) c.load_anew.result
+    (whole_alike c.args.self.now c.load_on.new.self c.load_anew.new.self c.load_on.ensures.same)
+    (c.load_anew.ensures.whole d (holds_alike d c.args.self.now c.load_on.new.self c.load_on.ensures.same h))
