@@ -1,12 +1,13 @@
 -- What a session answers once its commit has ended.
-use Rattle.std.proofs.Common.{◌≡◌, nat_lt, true, false, not, Some, None, Option, is_some, refl, sym, ap, ◌∙◌, subst}
-use Rattle.std.specs.Prelude.{option_map, slice_get, string_bytes, List, IfOk, IfSome, Result, Ok, Err}
+use Rattle.std.proofs.Common.{◌≡◌, ◌++◌, List, nat_lt, true, false, not, Some, None, Option, is_some, refl, sym, ap, ◌∙◌, subst}
+use Rattle.std.specs.Prelude.{IfSome, option_map, slice_get, string_bytes}
 use Rattle.std.specs.Option.{option_map_or}
 use Rattle.std.specs.declared.alloc.Global.{Global}
 use Rattle.std.specs.declared.string.String.{String}
 use mathlib.Core.Bool.{false≢true}
 use Rattle.jr_path.specs.declared.name.Name.{Name}
 use Rattle.jr_path.specs.declared.path.Item.{Item}
+use Rattle.jr_path.specs.declared.path.Path.{Path}
 use Rattle.jr_path.specs.Lists.{Text}
 use Rattle.jr_rev.specs.declared.revision.Revision.{Revision}
 use Rattle.jr_rev.specs.declared.vector.Pin.{Pin}
@@ -15,10 +16,12 @@ use Rattle.jr_tree.specs.declared.edit.Edit.{Edit}
 use Rattle.jr_tree.specs.declared.shared.Who.{Who}
 use Rattle.jr_tree.specs.Edits.{IsProper, applied}
 use Rattle.jr_tree.specs.Trees.{IsTree, Nodes, node_at}
+use Rattle.jr_known.specs.Earlier.{SameButAt}
 use Rattle.jr_items.specs.Refusals.{clash_refusal}
 use Rattle.oak_machine.specs.Commits.{draw_of, is_committed, is_ended, tree_at}
+use Rattle.oak_machine.specs.Laws.{after}
 use Rattle.oak_machine.specs.Sessions.{base_of, is_drawing}
-use Rattle.oak_port.specs.Ports.{HasRoom, Shown, OthersAlone, TellsChanges}
+use Rattle.oak_port.specs.Ports.{HasRoom, OthersAlone, Shown, TellsChanges}
 use Rattle.oak_commit.specs.declared.outcome.CommitEnd.{CommitEnd}
 use Rattle.oak_commit.specs.declared.outcome.CommitEnd.TheVariants as commit
 use Rattle.jcr_ref.specs.References.{ReferencesOk}
@@ -26,18 +29,10 @@ use Rattle.jcr_trans.specs.Answers.{ShowsRevision}
 use Rattle.jcr_trans.specs.Texts.{answer_text, memory_text}
 use Rattle.jcr_trans.specs.declared.command.Command.{Command}
 use Rattle.jcr_trans.specs.declared.command.Command.TheVariants as command
-use Rattle.std.specs.declared.alloc.AllocError.{AllocError}
-use Rattle.jr_path.specs.declared.path.Path.{Path}
-use Rattle.jr_known.specs.Earlier.{SameButAt}
-use Rattle.jcr_session.specs.declared.ends.Moved.{Moved}
-use Rattle.jcr_run.specs.declared.turn.Turn.{Turn}
-use Rattle.jcr_run.proofs.Calling.{stands_law, turned_law}
-use Rattle.jcr_run.proofs.Staying.{stands_waits}
-use Rattle.jcr_run.proofs.Turning.{has_turned_later, kept, never_ends}
-use Rattle.jcr_run.proofs.Waiting.{all_beside, by_waits, in_beside, shown_beside}
 use Rattle.jcr_law.specs.Since.{before_turn}
 use Rattle.jcr_law.specs.declared.law.JcrLaw.{JcrLaw}
 use Rattle.jcr_law.specs.Built.{Allowed}
+use Rattle.jcr_law.specs.Growing.{HasAllOf, seen_edits, trees_same}
 use Rattle.jcr_law.specs.Commits.{committed_answer, version_answer}
 use Rattle.jcr_law.specs.Law.{MaySay, clashed, committed, no_text}
 use Rattle.jcr_law.specs.Lasting.{says_of, starts_of}
@@ -59,8 +54,12 @@ use Rattle.jcr_run.specs.declared.next.Due.TheVariants as due
 use Rattle.jcr_run.specs.declared.run.Phase.TheVariants as phase
 use Rattle.jcr_run.specs.declared.run.SessionRun.{SessionRun}
 use Rattle.jcr_run.specs.Asked.{IsAsked, MayAnswer, MayForgo, Settles, has_drawn}
-use Rattle.jcr_session.specs.Begins.{HasClashed, SeesCommit, known_of}
-use Rattle.jcr_run.specs.Standing.{IsAtEnd, IsCalled, IsMadeFor, IsUnmade, Stands, due_by, HasCounted, IsBeside}
+use Rattle.jcr_session.specs.Begins.{HasClashed, SeesCommit}
+use Rattle.jcr_run.specs.Standing.{HasCounted, IsAtEnd, IsBeside, IsCalled, IsMadeFor, IsUnmade, Stands, due_by}
+use Rattle.jcr_run.specs.declared.turn.Turn.{Turn}
+use Rattle.jcr_run.proofs.Calling.{may_behind, stands_law, turned_behind_place}
+use Rattle.jcr_run.proofs.Staying.{stands_waits}
+use Rattle.jcr_run.proofs.Waiting.{all_beside, by_waits}
 use Rattle.jcr_session.proofs.Drawing.{commit_allowed, commit_detached}
 use Rattle.jcr_run.proofs.Cursors.{accepts_by, cursor_refused, cursor_settled}
 use Rattle.jcr_run.proofs.Lawful.{attached_still, forgo_answers, refused_text, says_allowed, says_idle, settled_asked, settled_attached, settled_leaves}
@@ -211,6 +210,12 @@ module _ (law : JcrLaw) (p : Shown) (run : SessionRun) (r : Revision) (a : Pledg
   allowed : due_by here.for.command ≡ due.Commit
   allowed = (allowed_due run.attached here.for.command due.Commit (sym (due_at run here.for.command here.for.next) ∙ here.for.commits) refl).1
 
+  -- the base has moved to where the pin is
+  pub made_pin : (o : Option Pin) (pin : Pin) → o ≡ Some pin → (Rattle.oak_machine.specs.Sessions.has_left p.history.past p.session ≡ false → option_map (λ x. x.base) o ≡ base_of p.history.past p.session) → pin.base ≡ made.base
+  made_pin o pin is told =
+      ap (λ (x : Option RevVec). elim x [ Some v ↦ v | None ↦ pin.base ])
+      (sym (ap (option_map (λ (x : Pin). x.base)) is) ∙ (told stands.at.0.stays ∙ call_has_base law p.history.begin p.history.past p.session moved made.call))
+
   pub made_tree : IsTree made.tree
   made_tree = made.tree_is
 
@@ -271,9 +276,42 @@ module _ (law : JcrLaw) (p : Shown) (run : SessionRun) (r : Revision) (a : Pledg
   abbrev made_it : IsMadeFor law p.history p.session at_end.call r
   made_it = at_end.ended
 
-  -- the base by the journal is that of the pin
-  pub pinned_base : (o : Option Pin) (pin : Pin) → o ≡ Some pin → (Rattle.oak_machine.specs.Sessions.has_left p.history.past p.session ≡ false → option_map (λ x. x.base) o ≡ base_of p.history.past p.session) → base_of p.history.past p.session ≡ Some pin.base
-  pinned_base o pin is told = sym (told stands.at.0.stays) ∙ ap (option_map (λ (x : Pin). x.base)) is
+  -- the session has a base
+  pub made_base : {A : Type 0} (o : Option Pin) → o ≡ None → (Rattle.oak_machine.specs.Sessions.has_left p.history.past p.session ≡ false → option_map (λ x. x.base) o ≡ base_of p.history.past p.session) → A
+  made_base o none told = absurd (false≢true (ap is_some (sym (ap (option_map (λ (x : Pin). x.base)) none) ∙ (told stands.at.0.stays ∙ call_has_base law p.history.begin p.history.past p.session (call_moved at_end.call made_it.base made_it.tree) made_it.call))))
+
+  -- the tree that the base moved to is that of the history there
+  moved_tree : made_it.tree ≡ tree_at p.history.begin p.history.past made_it.base
+  moved_tree = ap (λ (c : Call). c.base) (call_based law p.history.begin p.history.past p.session (call_moved at_end.call made_it.base made_it.tree) made_it.call)
+
+  -- the tree that is held was that of the history where the session drew
+  drawn_tree : tree_at p.history.begin p.history.past run.held.who.base ≡ at_end.call.base
+  drawn_tree = subst (λ (v : RevVec). tree_at p.history.begin p.history.past v ≡ at_end.call.base) (at_end.for.drew made_it.made made_it.draw).0 made_it.on
+
+  -- at paths that weren't told to have changed since, it is the one before
+  pub made_same : (paths : List Path) → TellsChanges p.history p.session run.held.who.base paths → SameButAt paths at_end.call.base made_it.tree
+  made_same paths tells path untold =
+      ap (λ (t : Nodes). node_at t path) moved_tree
+      ∙ (tells made_it.base path (call_has_base law p.history.begin p.history.past p.session (call_moved at_end.call made_it.base made_it.tree) made_it.call) untold
+      ∙ ap (λ (t : Nodes). node_at t path) drawn_tree)
+
+  -- what is told to have changed, once others have acted, was so before
+  module _ (q : Shown) (waits : OthersAlone (starts_of law) (says_of law) p q p.work p.room) where
+    abbrev beside : IsBeside law p q
+    beside = by_waits law p q p.work p.room waits
+
+    abbrev all : HasAllOf law p.history.begin p.session p.history.past (beside.others ++ p.history.past)
+    all = all_beside law p q beside stands.nodes
+
+    held_edits : seen_edits (beside.others ++ p.history.past) run.held.who.base ≡ seen_edits p.history.past run.held.who.base
+    held_edits = subst (λ (v : RevVec). seen_edits (beside.others ++ p.history.past) v ≡ seen_edits p.history.past v) (at_end.for.drew made_it.made made_it.draw).0 (all.draw_edits made_it.made made_it.draw)
+
+    pub told_before : (paths : List Path) → TellsChanges q.history q.session run.held.who.base paths → TellsChanges p.history p.session run.held.who.base paths
+    told_before paths tells v path is untold =
+        let there = subst (λ (n : _). TellsChanges (after beside.others p.history) n run.held.who.base paths) beside.session (subst (λ (h : _). TellsChanges h q.session run.held.who.base paths) beside.grows.grown tells) in
+        sym (ap (λ (t : Nodes). node_at t path) (trees_same p.history.begin p.history.past (beside.others ++ p.history.past) v (all.edits v is)))
+        ∙ (there v path (all.base ∙ is) untold
+        ∙ ap (λ (t : Nodes). node_at t path) (trees_same p.history.begin p.history.past (beside.others ++ p.history.past) run.held.who.base held_edits))
 
   -- the tree that the base moved to is the one before with the edit, where that commit alone lies between
   made_alone : IsNextAlone at_end.call.who.base made_it.base r → made_it.tree ≡ applied (Some r) at_end.call.base a.edit.writes
@@ -284,73 +322,58 @@ module _ (law : JcrLaw) (p : Shown) (run : SessionRun) (r : Revision) (a : Pledg
       let known = draw_known (starts_of law) (says_of law) p.history.clusters p.history.sessions nodes p.history.begin p.session made_it.made p.history.past run_is made_it.draw in
       let is : draw_of p.history.past r ≡ Some made_it.made = subst (λ (q : Revision). draw_of p.history.past q ≡ Some made_it.made) made_it.revision known.1 in
       let from : IsNextAlone made_it.made.base made_it.base r = subst (λ (v : RevVec). IsNextAlone v made_it.base r) (sym (drew.0 ∙ ap (λ (w : Who). w.base) at_end.for.holds.who)) alone in
-      ap (λ (c : Call). c.base) (call_based law p.history.begin p.history.past p.session (call_moved at_end.call made_it.base made_it.tree) made_it.call)
+      moved_tree
       ∙ (tree_next (starts_of law) (says_of law) p.history.clusters p.history.sessions nodes p.history.begin p.history.past run_is made_it.base r made_it.made is from made_it.committed
       ∙ (ap (λ (t : Nodes). applied (Some r) t made_it.made.edit.writes) made_it.on
       ∙ ap (λ (e : Edit). applied (Some r) at_end.call.base e.writes) drew.1))
 
-  -- the base by the journal is where it moved
-  made_there : (v : RevVec) → base_of p.history.past p.session ≡ Some v → v ≡ made_it.base
-  made_there v is =
-      ap (λ (x : Option RevVec). elim x [ Some u ↦ u | None ↦ v ])
-      (sym is ∙ call_has_base law p.history.begin p.history.past p.session (call_moved at_end.call made_it.base made_it.tree) made_it.call)
-
-  -- the tree there, and the one at the base that is held, are those of the journal
-  tree_there : made_it.tree ≡ tree_at p.history.begin p.history.past made_it.base
-  tree_there = ap (λ (c : Call). c.base) (call_based law p.history.begin p.history.past p.session (call_moved at_end.call made_it.base made_it.tree) made_it.call)
-
-  tree_before : tree_at p.history.begin p.history.past run.held.who.base ≡ at_end.call.base
-  tree_before = ap (tree_at p.history.begin p.history.past) (sym (at_end.for.drew made_it.made made_it.draw).0) ∙ made_it.on
-
-  -- what is told of the journal is so of these trees
-  made_told : (o : Option (List Path)) → IfSome o (TellsChanges p.history p.session run.held.who.base) → IfSome o (λ paths. SameButAt paths at_end.call.base made_it.tree)
-  made_told None told = tt
-  made_told (Some paths) told = λ q other.
-      ap (λ (t : Nodes). node_at t q) tree_there
-      ∙ (told made_it.base q (call_has_base law p.history.begin p.history.past p.session (call_moved at_end.call made_it.base made_it.tree) made_it.call) other
-      ∙ ap (λ (t : Nodes). node_at t q) tree_before)
-
   -- what is held once it moved there
-  pub made_holds : (told : Option (List Path)) (v : RevVec) → base_of p.history.past p.session ≡ Some v → IfSome told (TellsChanges p.history p.session run.held.who.base) → (held : Held)
-      → ((c : Call) (t : Nodes) → Holds c run.held → run.held.is_kept ≡ false → SeesCommit c a.edit (record { vector = v; by = r; told = told }) t → Holds (call_moved c v t) held)
+  pub made_holds : (pin : Pin) → pin.base ≡ made_it.base → (held : Held) → (told : Option (List Path)) → IfSome told (λ paths. SameButAt paths at_end.call.base made_it.tree)
+      → ((c : Call) (t : Nodes) → Holds c run.held → run.held.is_kept ≡ false → SeesCommit c a.edit r pin.base t → IfSome told (λ paths. SameButAt paths c.base t) → Holds (call_moved c pin.base t) held)
       → Holds (call_moved at_end.call made_it.base made_it.tree) held
-  made_holds told v there tells held moves =
-      let is = made_there v there in
-      subst (λ (u : RevVec). Holds (call_moved at_end.call u made_it.tree) held) is
+  made_holds pin is held told same moves =
+      subst (λ (v : RevVec). Holds (call_moved at_end.call v made_it.tree) held) is
       (moves at_end.call made_it.tree at_end.for.holds at_end.for.settled
-      record { proper = at_end.for.proper; referring = at_end.for.referring; tree_is = made_it.tree_is; alone = subst (λ (u : RevVec). IsNextAlone at_end.call.who.base u r → made_it.tree ≡ applied (Some r) at_end.call.base a.edit.writes) (sym is) made_alone; told = made_told told tells })
+      (subst (λ (v : RevVec). SeesCommit at_end.call a.edit r v made_it.tree) (sym is) record { proper = at_end.for.proper; referring = at_end.for.referring; tree_is = made_it.tree_is; alone = made_alone }) same)
 
   pub made_next : (m : Command) × (slice_get run.commands run.index ≡ Some m) × (Rattle.jcr_view.specs.Outcomes.is_viewed m ≡ false)
   made_next = (at_end.for.command, at_end.for.next, unviewed_due run.attached at_end.for.command (ap (λ (d : _). Rattle.std.proofs.Common.nat_eq (due_number d) 6) (sym (due_at run at_end.for.command at_end.for.next) ∙ at_end.for.commits)))
 
+-- what is so of a value, if there is one, is so of it by another name
+if_some : {X : Type 0} (o : Option X) (P Q : X → Type 0) → ((x : X) → P x → Q x) → IfSome o P → IfSome o Q
+if_some None P Q f h = h
+if_some (Some x) P Q f h = f x h
+
+-- the pin was asked for, and what changed since the base that is held
+module _ (law next last : JcrLaw) (at_next : next ≡ law) (at_last : last ≡ next) (p q z : Shown) (run : SessionRun) (r : Revision) (a : Pledge) (stands : Stands law p (record run { phase = phase.Committed (commit.Committed r) a })) (first : OthersAlone (starts_of law) (says_of law) p q p.work p.room) (second : OthersAlone (starts_of next) (says_of next) q z q.work q.room) where
+  abbrev at_run : SessionRun
+  at_run = record run { phase = phase.Committed (commit.Committed r) a }
+
+  stands_next : Stands next q at_run
+  stands_next = stands_law law next at_next q at_run (stands_waits law p q at_run stands first)
+
+  told_same : (told : Option (List Path)) → IfSome told (TellsChanges z.history z.session run.held.who.base) → IfSome told (λ paths. SameButAt paths (at_end law p run r a stands).call.base (made_it law p run r a stands).tree)
+  told_same told = if_some told _ _ (λ paths tells. made_same law p run r a stands paths (told_before law p run r a stands q first paths (told_before next q run r a stands_next z second paths tells)))
+
+  -- what is held has moved to the pin, and is accepted
+  module _ (pin : Pin) (is : pin.base ≡ (made_it law p run r a stands).base) (told : Option (List Path)) (tells : IfSome told (TellsChanges z.history z.session run.held.who.base)) (held : Held) (moves : (c : Call) (t : Nodes) → Holds c run.held → run.held.is_kept ≡ false → SeesCommit c a.edit r pin.base t → IfSome told (λ paths. SameButAt paths c.base t) → Holds (call_moved c pin.base t) held) (now : SessionRun) (settles : Settles (record run { held = held }) now true true (Some a.accepted.tokens)) where
+    answers_first : MayAnswer law p now (accepted_text a.accepted r)
+    answers_first = made_answers law p run r a stands held (made_holds law p run r a stands pin is held told (told_same told tells) moves) now settles
+
+    answers_next : MayAnswer next q now (accepted_text a.accepted r)
+    answers_next = may_behind law next at_next p q now (accepted_text a.accepted r) answers_first p.room first
+
+    pub answers_last : MayAnswer last z now (accepted_text a.accepted r)
+    answers_last = may_behind next last at_last q z now (accepted_text a.accepted r) answers_next q.room second
+
+    pub turned_last : (new : Shown) (then : SessionRun) (t : Turn) → HasCounted last z new now then t → HasCounted law p new now then t
+    turned_last new then t turned =
+        turned_behind_place law next at_next p q now (accepted_text a.accepted r) answers_first p.room first new then t
+        (turned_behind_place next last at_last q z now (accepted_text a.accepted r) answers_next q.room second new then t turned)
+
 -- ---- what is held, behind a commit
 
-module _ (c : Call) (t : Nodes) (old held : Held) (edit : Edit) (moved : Moved) (holds : Holds c old) (settled : old.is_kept ≡ false) (sees : SeesCommit c edit moved t) where
-  pub follows_commit : IsNextAlone old.who.base moved.vector moved.by → ((d : Call) → Holds d old → old.is_kept ≡ false → IsProper d.base edit.writes → ReferencesOk (applied None d.base edit.writes) → Holds (call_moved d moved.vector (applied (Some moved.by) d.base edit.writes)) held) → Holds (call_moved c moved.vector t) held
+module _ (c : Call) (t : Nodes) (old held : Held) (edit : Edit) (r : Revision) (v : RevVec) (holds : Holds c old) (settled : old.is_kept ≡ false) (sees : SeesCommit c edit r v t) where
+  pub follows_commit : IsNextAlone old.who.base v r → ((d : Call) → Holds d old → old.is_kept ≡ false → IsProper d.base edit.writes → ReferencesOk (applied None d.base edit.writes) → Holds (call_moved d v (applied (Some r) d.base edit.writes)) held) → Holds (call_moved c v t) held
   follows_commit alone follows =
-      subst (λ (x : Nodes). Holds (call_moved c moved.vector x) held) (sym (sees.alone (subst (λ (w : Who). IsNextAlone w.base moved.vector moved.by) holds.who alone))) (follows c holds settled sees.proper sees.referring)
-
-  pub moves_along : ((d : Call) (x : Nodes) → Holds d old → old.is_kept ≡ false → IsTree x → IfSome moved.told (λ paths. SameButAt paths d.base x) → Holds (call_moved d moved.vector x) held) → Holds (call_moved c moved.vector t) held
-  moves_along moves = moves c t holds settled sees.tree_is sees.told
-
--- ---- behind a call of the port by which the session did nothing, once its commit was made
-
-module _ (law later : JcrLaw) (laws : later ≡ law) (old mid : Shown) (run : SessionRun) (r : Revision) (a : Pledge) (stands : Stands law old (record run { phase = phase.Committed (commit.Committed r) a })) (waits : OthersAlone (starts_of law) (says_of law) old mid old.work old.room) where
-  beside : IsBeside law old mid
-  beside = by_waits law old mid old.work old.room waits
-
-  pub made_stands : Stands later mid (record run { phase = phase.Committed (commit.Committed r) a })
-  made_stands = stands_law law later laws mid (record run { phase = phase.Committed (commit.Committed r) a }) (stands_waits law old mid (record run { phase = phase.Committed (commit.Committed r) a }) stands waits)
-
-  pub made_turned : (new : Shown) (now : SessionRun) (t : Turn) → HasCounted later mid new run now t → HasCounted law old new run now t
-  made_turned new now t turned =
-      has_turned_later law old mid new run now t stands.nodes (kept waits.work_is (waits.same_due refl)) beside
-      (never_ends law mid new run now (in_beside law old mid beside stands.nodes stands.at.0)) (turned_law law later laws mid new run now t turned)
-
-  pub made_base_still : (v : RevVec) → base_of old.history.past old.session ≡ Some v → base_of mid.history.past mid.session ≡ Some v
-  made_base_still v is = shown_beside law old mid beside (λ h n. base_of h.past n ≡ Some v) ((all_beside law old mid beside stands.nodes).base ∙ is)
-
--- what is known is told
-pub known_told : (P : List Path → Type 0) (told : Result (Option (List Path)) AllocError) → IfOk told (λ o. IfSome o P) → IfSome (known_of told) P
-known_told P (Ok o) told = told
-known_told P (Err refused) told = tt
+      subst (λ (x : Nodes). Holds (call_moved c v x) held) (sym (sees.alone (subst (λ (w : Who). IsNextAlone w.base v r) holds.who alone))) (follows c holds settled sees.proper sees.referring)

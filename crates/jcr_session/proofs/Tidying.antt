@@ -1,7 +1,7 @@
 -- A session splits or collects: what it begins, what its steps leave, and what it answers.
 use Rattle.std.proofs.Common.{◌≡◌, ◌⊎◌, inl, inr, ℕ, ◌+◌, ◌*◌, ◌-◌, ◌<◌, ◌≤◌, Bool, true, false, not, ◌||◌, ◌&&◌, None, Some, Option, List, [], ◌∷◌, ◌++◌, is_some}
 use Rattle.std.proofs.Common.{Result, Ok, Err, IfOk, length, refl, sym, ap, ◌∙◌, subst, arith}
-use Rattle.std.specs.Prelude.{◌==◌, Contains, cond, reverse, slice_get}
+use Rattle.std.specs.Prelude.{Contains, cond, reverse, slice_get}
 use Rattle.std.specs.List.{list_any}
 use Rattle.std.specs.Option.{option_map_or}
 use mathlib.Core.Bool.{false≢true}
@@ -34,9 +34,8 @@ use Rattle.jcr_trans.specs.declared.command.Command.TheVariants as command
 use Rattle.jcr_view.specs.Outcomes.{is_viewed}
 use Rattle.jcr_law.specs.declared.law.JcrLaw.{JcrLaw}
 use Rattle.jcr_law.specs.Built.{Allowed, is_built, is_forbidden}
-use Rattle.jcr_law.specs.Calls.{call_after}
 use Rattle.jcr_law.specs.Lasting.{says_of, starts_of}
-use Rattle.jcr_law.specs.Law.{MaySay, SaysBy, collected, no_text, split, unsplit}
+use Rattle.jcr_law.specs.Law.{MaySay, collected, no_text, split, unsplit}
 use Rattle.jcr_law.specs.Makes.{IsAskedAt, steps_of}
 use Rattle.jcr_law.specs.Since.{is_unmoved, is_unpinned}
 use Rattle.jcr_law.specs.State.{Call, accepted, call_of, command_at, is_ok_text}
@@ -53,7 +52,7 @@ use Rattle.jcr_steps.specs.declared.tidying.Tidied.TheVariants as tidied
 use Rattle.jcr_steps.specs.declared.tidying.TidyCame.{TidyCame}
 use Rattle.jcr_steps.specs.declared.tidying.TidyCame.TheVariants as came
 use Rattle.jcr_steps.specs.Tidied.{IsTidyAnswer, tidy_told}
-use Rattle.jcr_run.specs.Came.{going_turn, last_turn, phase_told, split_turn, turn_told}
+use Rattle.jcr_run.specs.Came.{going_turn, phase_told, split_turn, turn_told}
 use Rattle.jcr_run.specs.declared.next.Due.{Due}
 use Rattle.jcr_run.specs.declared.next.Due.TheVariants as due
 use Rattle.jcr_run.specs.declared.run.Phase.{Phase}
@@ -61,9 +60,9 @@ use Rattle.jcr_run.specs.declared.run.Phase.TheVariants as phase
 use Rattle.jcr_run.specs.declared.run.SessionRun.{SessionRun}
 use Rattle.jcr_run.specs.declared.turn.Turn.{Turn}
 use Rattle.jcr_run.specs.declared.turn.Turn.TheVariants as turn
-use Rattle.jcr_run.specs.Asked.{IsAsked, HasOnlyToTell, IsUnviewedNext, MayForgo, MaySettle, has_drawn, history_told}
+use Rattle.jcr_run.specs.Asked.{IsAsked, HasOnlyToTell, IsUnviewedNext, MayForgo, MaySettle}
 use Rattle.jcr_run.specs.Nearing.{BeginsNearer, EndsSooner, IsReply, ReadsOn, StepsOn, WorksSooner, stages_left, turns_left}
-use Rattle.jcr_run.specs.Standing.{AreInStageOrder, HasAwaited, HasCounted, HasReadOn, HasTurned, IsBeside, IsBetweenCommands, IsEndFor, IsFresh, IsIn}
+use Rattle.jcr_run.specs.Standing.{HasAwaited, HasCounted, HasReadOn, HasTurned, IsBeside, IsBetweenCommands, IsEndFor, IsFresh, IsIn}
 use Rattle.jcr_run.specs.Standing.{IsInTidying, IsOnCommand, IsOneStep, IsTidyTold, IsTidyWork, Stands, StandsAt, due_by, due_for, due_to, is_allowed}
 use Rattle.jcr_run.specs.Standing.{is_between, is_committing, is_revision_written, is_tidied, is_tidy, is_tidying, stage_at, stage_of}
 use Rattle.jcr_session.specs.Tidying.{IsSplitNext, IsSplitOf, IsTaskNext, IsTidyTask, MayBeginTidying, tidied_text}

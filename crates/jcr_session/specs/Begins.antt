@@ -1,14 +1,11 @@
 -- What a session begins for its next command, and what it finds once that has ended.
 use Rattle.std.specs.Prelude.{◌≡◌, ◌≢◌, ◌≤◌, ◌+◌, ℕ, false, true, [], length, slice_get}
-use Rattle.std.specs.Prelude.{List, Option, None, Some, IfSome, IsTrue, string_bytes}
-use Rattle.std.specs.Prelude.{Result, Err, Ok}
-use Rattle.std.specs.declared.alloc.AllocError.{AllocError}
+use Rattle.std.specs.Prelude.{None, Some, IsTrue, string_bytes}
+use Rattle.std.specs.Prelude.{Ok}
 use Rattle.jr_path.specs.declared.path.Item.{Item}
-use Rattle.jr_path.specs.declared.path.Path.{Path}
 use Rattle.jr_path.specs.Lists.{Text}
 use Rattle.jr_rev.specs.declared.revision.Revision.{Revision}
 use Rattle.jr_rev.specs.declared.vector.RevVec.{RevVec}
-use Rattle.jr_known.specs.Earlier.{SameButAt}
 use Rattle.jr_tree.specs.declared.edit.Edit.{Edit}
 use Rattle.jr_tree.specs.declared.shared.Refusal.{Refusal}
 use Rattle.jr_tree.specs.Edits.{IsProper, applied}
@@ -29,7 +26,6 @@ use Rattle.jcr_trans.specs.Texts.{answer_text}
 use Rattle.jcr_trans.specs.declared.command.Command.{Command}
 use Rattle.jcr_trans.specs.declared.command.Command.TheVariants as command
 use Rattle.jcr_observe.specs.declared.event.Filter.{Filter}
-use Rattle.jcr_session.specs.declared.ends.Moved.{Moved}
 use Rattle.jcr_law.specs.declared.law.JcrLaw.{JcrLaw}
 use Rattle.jcr_law.specs.Commits.{edit_due}
 use Rattle.jcr_law.specs.Law.{IsUnmoved, IsUnpinned, SaysBy, no_text}
@@ -107,21 +103,14 @@ pub record MayDrawFor (law : JcrLaw) (p : Shown) (run : SessionRun) (plan : Plan
   pub some : plan.edit.writes ≢ []
   pub ok : PlanOk call.types call.base call.state.tokens plan.edit.writes plan.marks
 
--- behind a commit of the edit on the base of c, with which each REFERENCE names a node, t is the
--- tree to which the base moved: the one before with the edit, where no other commit lies between,
--- and the one before but at the told paths, if any are
-pub record SeesCommit (c : Call) (edit : Edit) (moved : Moved) (t : Nodes) : Type 0 where
+-- behind a commit by r of the edit on the base of c, with which each REFERENCE names a node, t is
+-- the tree at v: that base with the edit, where no other commit lies between
+pub record SeesCommit (c : Call) (edit : Edit) (r : Revision) (v : RevVec) (t : Nodes)
+    : Type 0 where
   pub proper : IsProper c.base edit.writes
   pub referring : ReferencesOk (applied None c.base edit.writes)
   pub tree_is : IsTree t
-  pub alone : IsNextAlone c.who.base moved.vector moved.by
-      → t ≡ applied (Some moved.by) c.base edit.writes
-  pub told : IfSome moved.told (λ paths. SameButAt paths c.base t)
-
--- the paths that were told to have changed, where they are known and memory wasn't refused
-abbrev pub known_of : Result (Option (List Path)) AllocError → Option (List Path)
-known_of (Ok told) = told
-known_of (Err refused) = None
+  pub alone : IsNextAlone c.who.base v r → t ≡ applied (Some r) c.base edit.writes
 
 -- the commit for the next command was refused for a clash of the item with o
 pub record HasClashed (law : JcrLaw) (p : Shown) (run : SessionRun) (item : Item) (o : Revision)

@@ -1,18 +1,20 @@
 // What a session answers once its commit has ended.
-ghost use Rattle.std.specs.Prelude.{◌≡◌, IfOk, IfSome, IsFalse, Some, string_bytes};
+ghost use Rattle.std.specs.Prelude.{◌≡◌, IfOk, IfSome, IsFalse, string_bytes};
 ghost use Rattle.jr_tree.specs.Trees.{Nodes};
+ghost use Rattle.jr_known.specs.Earlier.{SameButAt};
 ghost use Rattle.jr_items.specs.Refusals.{clash_refusal};
 ghost use Rattle.oak_commit.specs.declared.outcome.CommitEnd.TheVariants as commit;
-ghost use Rattle.oak_machine.specs.Sessions.{base_of};
-ghost use Rattle.oak_port.specs.Ports.{HasRoom, TellsChanges};
+ghost use Rattle.oak_machine.specs.Runs.{IsRun};
+ghost use Rattle.oak_port.specs.Ports.{HasRoom, StaysSo, TellsChanges};
 ghost use Rattle.jcr_trans.specs.Answers.{ShowsRevision};
 ghost use Rattle.jcr_trans.specs.Texts.{answer_text};
+ghost use Rattle.jcr_law.specs.Lasting.{says_of, starts_of};
 ghost use Rattle.jcr_law.specs.Law.{no_text};
 ghost use Rattle.jcr_law.specs.State.{Call};
 ghost use Rattle.jcr_law.specs.Calls.{call_moved};
 ghost use Rattle.jcr_held.specs.Holds.{Holds};
 ghost use Rattle.jcr_run.specs.Asked.{MayAnswer};
-ghost use Rattle.jcr_session.specs.Begins.{HasClashed, SeesCommit, known_of};
+ghost use Rattle.jcr_session.specs.Begins.{HasClashed, SeesCommit};
 ghost use Rattle.jcr_run.specs.Nearing.{IsReply};
 ghost use Rattle.jcr_run.specs.Standing.{HasCommitEnded, HasCounted, IsGranted, Stands};
 ghost use Rattle.jcr_steps.specs.declared.limits.TheConstants.{COMMIT_REPLY_BYTES};
@@ -69,17 +71,7 @@ fn say_ended<P: Port<L = JcrLaw>>(
     }
 }
 
-// Where the base stands behind a commit: the vector there, the revision of the commit, and the
-// paths that changed since the base before, where they are told.
-#[derive(Drop)]
-pub(crate) struct Moved {
-    pub(crate) vector: RevVec,
-    pub(crate) by: Revision,
-    pub(crate) told: Option<List<Path>>,
-}
-
-// Answers a command whose commit was made. The base has moved to where it is seen. Where other
-// commits lie between, what changed is asked first.
+// Answers a command whose commit was made. The base has moved to where it is seen.
 fn say_committed<P: Port<L = JcrLaw>>(
     run: &mut SessionRun,
     port: &mut P,
@@ -97,91 +89,57 @@ fn say_committed<P: Port<L = JcrLaw>>(
     let Some(pin) = port.pin() else {
         unreachable!()
     };
-    let moved = Moved {
-        vector: pin.base,
-        by: r,
-        told: None,
-    };
-    if is_next_alone(&run.held.base(), &pin.base, r) {
-        return say_moved(run, port, moved, pledge);
-    }
-    say_beside(run, port, moved, pledge)
-}
-
-// Answers a command beside whose commit others were made. What changed since the base that is held
-// is asked first; where memory is refused for it, it isn't known.
-fn say_beside<P: Port<L = JcrLaw>>(
-    run: &mut SessionRun,
-    port: &mut P,
-    moved: Moved,
-    pledge: Pledge,
-) -> Turn
-    requires stands { Stands (P.law port.old) (P.shown port.old)
-        (record run.old { phase = phase.Committed (commit.Committed moved.by) pledge }) }
-    requires base { base_of (P.shown port.old).history.past (P.shown port.old).session
-        ≡ Some moved.vector }
-    ensures law { P.law port.new ≡ P.law port.old }
-    ensures turned { HasCounted (P.law port.old) (P.shown port.old) (P.shown port.new)
-        run.old run.new result }
-    ensures granted { IsGranted result }
-    ensures said { IsReply result }
-{
-    let told = known(port.changed(&run.held.base()));
-    let Moved { vector, by, .. } = moved;
-    say_moved(run, port, Moved { vector, by, told }, pledge)
-}
-
-// What is told to have changed, where that is known and memory wasn't refused for it.
-fn known(told: Result<Option<List<Path>>, AllocError>) -> Option<List<Path>>
-    ensures { result ≡ known_of told }
-{
-    match told {
-        Ok(told) => told,
-        Err(AllocError) => None,
-    }
-}
-
-// Answers a command whose commit was made, behind which the base has moved so.
-fn say_moved<P: Port<L = JcrLaw>>(
-    run: &mut SessionRun,
-    port: &mut P,
-    moved: Moved,
-    pledge: Pledge,
-) -> Turn
-    requires stands { Stands (P.law port.old) (P.shown port.old)
-        (record run.old { phase = phase.Committed (commit.Committed moved.by) pledge }) }
-    requires base { base_of (P.shown port.old).history.past (P.shown port.old).session
-        ≡ Some moved.vector }
-    requires told { IfSome moved.told (TellsChanges (P.shown port.old).history
-        (P.shown port.old).session run.old.held.who.base) }
-    ensures law { P.law port.new ≡ P.law port.old }
-    ensures turned { HasCounted (P.law port.old) (P.shown port.old) (P.shown port.new)
-        run.old run.new result }
-    ensures granted { IsGranted result }
-    ensures said { IsReply result }
-{
-    let by = moved.by;
+    let told = told_since(run, port, &pin.base, r);
     let Pledge { edit, accepted } = pledge;
-    move_behind(run, moved, &edit);
+    move_behind(run, pin.base, r, &edit, told);
     let Accepted { text, tokens } = accepted;
     run.accept(true, Some(tokens));
     match text {
         Some(text) => run.say_kept(port, text.as_str()),
-        None => say_revision(run, port, by),
+        None => say_revision(run, port, r),
     }
 }
 
-// The base has moved to where a commit of the edit is seen. Where that commit alone lies between,
-// what is held follows it, and nothing is read again; else it moves along with what changed.
-fn move_behind(run: &mut SessionRun, moved: Moved, edit: &Edit)
-    ensures same { run.new ≡ record run.old { held = run.new.held } }
-    ensures holds { (c : Call) (t : Nodes) → Holds c run.old.held
-        → IsFalse run.old.held.is_kept → SeesCommit c edit.now moved t
-        → Holds (call_moved c moved.vector t) run.new.held }
+// What changed between the base that is held and the session's own, where a commit doesn't alone
+// lie between; None where that isn't known, or memory was refused for it.
+fn told_since<P: Port<L = JcrLaw>>(
+    run: &SessionRun,
+    port: &mut P,
+    vector: &RevVec,
+    by: Revision,
+) -> Option<List<Path>>
+    requires run { IsRun (starts_of (P.law port.old)) (says_of (P.law port.old))
+        (P.shown port.old).history }
+    ensures law { P.law port.new ≡ P.law port.old }
+    ensures same { StaysSo (starts_of (P.law port.old)) (says_of (P.law port.old))
+        (P.shown port.old) (P.shown port.new) }
+    ensures told { IfSome result (TellsChanges (P.shown port.new).history
+        (P.shown port.new).session run.now.held.who.base) }
 {
     let before = run.held.base();
-    let Moved { vector, by, told } = moved;
-    if is_next_alone(&before, &vector, by) {
+    if is_next_alone(&before, vector, by) {
+        return None;
+    }
+    port.changed(&before).unwrap_or(None)
+}
+
+// The base has moved to where a commit of the edit is seen. Where that commit alone lies
+// between, what is held follows it, and nothing is read again; else nothing is known there yet, but
+// at which paths that tree isn't the one before, where these are told.
+fn move_behind(
+    run: &mut SessionRun,
+    vector: RevVec,
+    by: Revision,
+    edit: &Edit,
+    told: Option<List<Path>>,
+)
+    ensures same { run.new ≡ record run.old { held = run.new.held } }
+    ensures holds { (c : Call) (t : Nodes) → Holds c run.old.held
+        → IsFalse run.old.held.is_kept → SeesCommit c edit.now by vector t
+        → IfSome told (λ paths. SameButAt paths c.base t)
+        → Holds (call_moved c vector t) run.new.held }
+{
+    if is_next_alone(&run.held.base(), &vector, by) {
         run.held.follow(vector, by, edit);
         return;
     }

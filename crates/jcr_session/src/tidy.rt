@@ -8,11 +8,13 @@ ghost use Rattle.jcr_steps.specs.declared.limits.TheConstants.{COMMIT_REPLY_BYTE
 ghost use Rattle.jcr_run.specs.Asked.{MayForgo, MaySettle};
 ghost use Rattle.jcr_run.specs.Nearing.{BeginsNearer, EndsSooner, IsReply, ReadsOn, StepsOn};
 ghost use Rattle.jcr_run.specs.Nearing.{WorksSooner, turns_left};
-ghost use Rattle.jcr_run.specs.Standing.{HasCounted, HasTurned, IsGranted, IsPrepared, IsReadyFor, Stands};
+ghost use Rattle.jcr_run.specs.Standing.{HasCounted, HasTurned, IsGranted, IsPrepared, IsReadyFor};
+ghost use Rattle.jcr_run.specs.Standing.{Stands};
 ghost use Rattle.jcr_run.specs.Standing.{due_for, is_tidied, is_tidy, is_tidying};
 ghost use Rattle.jcr_run.specs.declared.next.Due.TheVariants as due;
 ghost use Rattle.jcr_run.specs.declared.run.Phase.TheVariants as phase;
-ghost use Rattle.jcr_session.specs.Tidying.{IsSplitNext, IsSplitOf, IsTaskNext, MayBeginTidying, tidied_text};
+ghost use Rattle.jcr_session.specs.Tidying.{IsSplitNext, IsSplitOf, IsTaskNext, MayBeginTidying};
+ghost use Rattle.jcr_session.specs.Tidying.{tidied_text};
 
 use jcr_call::{collected_reply, split_reply};
 use jcr_held::NextSplit;

@@ -4,7 +4,8 @@ ghost use Rattle.jcr_run.specs.Nearing.{BeginsNearer, ComesNearer, DrawsNoOther,
 ghost use Rattle.jcr_run.specs.Nearing.{IsReply, ReadsOn};
 ghost use Rattle.jcr_run.specs.Nearing.{StepsOn, WorksSooner, turns_left};
 ghost use Rattle.jcr_run.specs.Standing.{HasCounted, HasTurned, IsGranted, IsPrepared, Stands};
-ghost use Rattle.jcr_run.specs.Standing.{due_for, has_begun, base_has_moved, is_committing, is_saving};
+ghost use Rattle.jcr_run.specs.Standing.{due_for, has_begun, base_has_moved, is_committing};
+ghost use Rattle.jcr_run.specs.Standing.{is_saving};
 ghost use Rattle.jcr_run.specs.Standing.{is_tidying, may_read};
 ghost use Rattle.jcr_run.specs.declared.next.Due.TheVariants as due;
 ghost use Rattle.jcr_run.specs.declared.run.Phase.TheVariants as phase;
@@ -29,15 +30,16 @@ use std::alloc::AllocError;
 /// so, and draws no other: a commit that is made is answered. Nor does it end so once the base has
 /// moved for a refresh, an attach or a detach: a command that is answered by want of memory has
 /// left the base where it stood, but that a detach that is refused memory for its second step has
-/// moved it to the head. Nor does it end so once background work or a sweep has begun, or a checkpoint is
-/// being made or released (Oak, DocumentNodeStore: "Background operations", "Sweep revision",
-/// "Checkpoints"), or once the cursor has moved (JSR 283, 12 Observation): they need nothing of
-/// the tree, and what their replies need is made before their first step. Nor does it end so once a
-/// split or a collection has begun (Oak, DocumentNodeStore: "Previous documents", "Revision garbage
-/// collection"): the steps that were made stay, and where memory is refused for one more, or for
-/// the reply that shows how it ended, the command is answered so. The counted steps of a command
-/// are made in the order of its stages. A counted step and a reply bring the session nearer to its
-/// end, a reading step to what its next command asks for, or the task to its end.
+/// moved it to the head. Nor does it end so once background work or a sweep has begun, or a
+/// checkpoint is being made or released (Oak, DocumentNodeStore: "Background operations", "Sweep
+/// revision", "Checkpoints"), or once the cursor has moved (JSR 283, 12 Observation): they need
+/// nothing of the tree, and what their replies need is made before their first step. Nor does it
+/// end so once a split or a collection has begun (Oak, DocumentNodeStore: "Previous documents",
+/// "Revision garbage collection"): the steps that were made stay, and where memory is refused for
+/// one more, or for the reply that shows how it ended, the command is answered so. The counted
+/// steps of a command are made in the order of its stages. A counted step and a reply bring the
+/// session nearer to its end, a reading step to what its next command asks for, or the task to its
+/// end.
 pub fn turn<P: Port<L = JcrLaw>>(run: &mut SessionRun, port: &mut P) -> Turn
     requires stands { Stands (P.law port.old) (P.shown port.old) run.old }
     ensures law { P.law port.new ≡ P.law port.old }

@@ -1,6 +1,6 @@
 use Rattle.std.proofs.Common.{subst, sym}
 use Rattle.jcr_run.specs.declared.run.Phase.{Phase}
-use Rattle.jcr_run.specs.Standing.{HasCounted, Stands}
+use Rattle.jcr_run.specs.Standing.{Stands}
 use Rattle.jcr_session.proofs.tidy.say_tidied.Goals as goal
 
 pub show-requires : goal.show-requires

@@ -1,6 +1,5 @@
-use Rattle.std.proofs.Common.{None, Some, ap, false, length, subst}
+use Rattle.std.proofs.Common.{Some, ap, false, length}
 use Rattle.jcr_law.specs.Lasting.{says_of, starts_of}
-use Rattle.jcr_law.specs.State.{is_ok_text}
 use Rattle.jcr_run.proofs.Calling.{forgo_behind_place, forgone_behind_place, settle_behind_place}
 use Rattle.jcr_run.proofs.Lawful.{settle_answers}
 use Rattle.jcr_run.proofs.Saying.{replied_like, room_kept, room_stays}

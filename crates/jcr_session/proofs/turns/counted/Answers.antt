@@ -1,6 +1,6 @@
 use Rattle.std.proofs.Common.{subst, sym, ap}
 use Rattle.jcr_run.specs.declared.run.Phase.{Phase}
-use Rattle.jcr_run.specs.Standing.{HasCommitEnded, is_detaching, is_on_errand, is_tidied, is_tidying, is_told}
+use Rattle.jcr_run.specs.Standing.{HasCommitEnded, is_detaching, is_on_errand, is_tidied, is_told}
 use Rattle.jcr_run.proofs.Looking.{over_ends}
 use Rattle.jcr_session.proofs.Nearer.{begins_reads, reply_steps, steps_sooner}
 use Rattle.jcr_session.proofs.Undrawn.{reply_undrawn}
